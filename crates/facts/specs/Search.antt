@@ -1,0 +1,11 @@
+-- The lowest element that passes a test (document 01: "the lowest free row", "a search for an ID taking the lowest live row or used entry").
+use Prim.Native.Nat.{ℕ, suc}
+use mathlib.Core.List.{List, [], _∷_}
+use mathlib.Core.Bool.{Bool}
+use Rattle.facts.specs.Pick.{pick}
+use Rattle.facts.specs.declared.Found.{Found}
+
+-- the first element that passes, its place counted from i
+unfoldable pub first : {A : Type 0} → (A → Bool) → ℕ → List A → Found
+first p i [] = Found.Nothing
+first p i (x ∷ xs) = pick (p x) (Found.At i) (first p (suc i) xs)

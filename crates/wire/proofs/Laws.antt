@@ -1,0 +1,71 @@
+-- The shared law of little-endian reading, at every width, and what follows from it. No law asks that the bytes are there: a byte past
+-- the end counts as 0, on both sides.
+-- Assumes nothing.
+use mathlib.Core.Path.{_≡_, refl, sym, _∙_}
+use mathlib.Core.List.{List, [], _∷_, _++_}
+use Prim.Native.Nat.{ℕ, zero, suc, _+_, _*_, _^_, _≤_, _<_}
+use native.Mathlib.Nat.{pow-suc, pow-succ', pow-zero, zero-add, add-zero, suc-add, add-suc, mul-assoc}
+use native.Mathlib.Omega.{arith}
+use lib.ListN.{length, take, drop, getD, replicate, length-append, length-drop, length-replicate, drop-of-length-le}
+use lib.Seq.{take-nil, drop-nil, length-take-le, take-append-le, getD-take, getD-drop, ext-getD}
+use Rattle.wire.specs.Le.{le, field, padded, Bytes}
+
+-- the law: one more byte, at the front
+pub field-more : (b : List ℕ) (at w : ℕ) → field b at (suc w) ≡ getD b at 0 + 256 * field b (suc at) w
+unfolding field le
+field-more [] at w = rw (drop-nil at, take-nil w) refl
+field-more (x ∷ xs) zero w = refl
+field-more (x ∷ xs) (suc n) w = field-more xs n w
+
+pub field-none : (b : List ℕ) (at : ℕ) → field b at 0 ≡ 0
+unfolding field le
+field-none b at = refl
+
+-- a field in two parts, at any widths
+pub field-split : (b : List ℕ) (at v w : ℕ) → field b at (v + w) ≡ field b at v + 256 ^ v * field b (at + v) w
+field-split b at zero w = rw (zero-add, add-zero, field-none, pow-zero) (omega arith)
+field-split b at (suc v) w =
+    let ih = field-split b (suc at) v w in
+    rw (suc-add, field-more, field-more b at v, pow-succ', mul-assoc, add-suc, ← suc-add) (omega (arith, ih))
+
+pub field-one : (b : List ℕ) (at : ℕ) → field b at 1 ≡ getD b at 0
+field-one b at = rw (field-more, field-none) (omega arith)
+
+pub field-past : (b : List ℕ) (at w : ℕ) → length b ≤ at → field b at w ≡ 0
+unfolding field le
+field-past b at w h = rw (drop-of-length-le, take-nil) refl
+
+pub field-below : (b : List ℕ) → Bytes b → (at w : ℕ) → field b at w < 256 ^ w
+field-below b h at zero = rw field-none (omega arith)
+field-below b h at (suc w) = rw (field-more, pow-suc) (omega (arith, h at, field-below b h (suc at) w))
+
+zeros : (n k : ℕ) → _≡_ {A = ℕ} (getD (replicate n 0) k 0) 0
+zeros zero k = refl
+zeros (suc n) zero = refl
+zeros (suc n) (suc k) = zeros n k
+
+getD-zeros : (xs : List ℕ) (n k : ℕ) → getD (xs ++ replicate n 0) k 0 ≡ getD xs k 0
+getD-zeros [] n k = zeros n k
+getD-zeros (x ∷ xs) n zero = refl
+getD-zeros (x ∷ xs) n (suc k) = getD-zeros xs n k
+
+pub length-padded : (b : List ℕ) (at n : ℕ) → length (padded b at n) ≡ n
+unfolding padded
+length-padded b at n = length-take-le n (drop at b ++ replicate n 0) (rw (length-append, length-replicate) (omega arith))
+
+pub getD-padded : (b : List ℕ) (at n k : ℕ) → k < n → getD (padded b at n) k 0 ≡ getD b (at + k) 0
+unfolding padded
+getD-padded b at n k h = rw (getD-take, getD-zeros, getD-drop) refl
+
+-- where the bytes are there, they are the part of b
+pub padded-part : (b : List ℕ) (at n : ℕ) → at + n ≤ length b → padded b at n ≡ take n (drop at b)
+unfolding padded
+padded-part b at n h =
+    let l : n ≤ length (drop at b) = rw length-drop (omega arith) in
+    rw take-append-le refl
+
+-- a list that holds the right byte at each place is the padded part
+pub is-padded : (b : List ℕ) (at : ℕ) (l : List ℕ) → ((k : ℕ) → k < length l → getD l k 0 ≡ getD b (at + k) 0) → l ≡ padded b at (length l)
+is-padded b at l h =
+    ext-getD 0 l (padded b at (length l)) (sym (length-padded b at (length l)))
+    (λ k lt. h k lt ∙ sym (getD-padded b at (length l) k lt))

@@ -1,0 +1,54 @@
+-- Two halves are the field (field-split), and past the end a field is 0.
+-- Assumes nothing.
+use borrow.Author.Needs.{needs}
+use mathlib.Core.Path.{sym}
+use Prim.Native.Nat.{_+_}
+use native.Mathlib.Omega.{arith}
+use Rattle.wire.proofs.Laws.{field-split, field-past}
+use Rattle.wire.proofs.u32_at.Statement.{statement}
+use Rattle.wire.proofs.u32_at.Tie as tie
+
+u16-at-requires : tie.Need-u16-at-requires
+u16-at-requires c κs = search needs
+
+cast-result : tie.Need-cast-result
+cast-result c = search needs
+
+add-u16-at : tie.Need-add-u16-at
+add-u16-at c = search needs
+
+u16-at-requires-2 : tie.Need-u16-at-requires-2
+u16-at-requires-2 c κs = search needs
+
+cast-result-2 : tie.Need-cast-result-2
+cast-result-2 c = search needs
+
+mul-result : tie.Need-mul-result
+mul-result c = search needs
+
+add-result : tie.Need-add-result
+add-result c = search needs
+
+returns : tie.Need-returns
+returns c =
+    let a = c .before .before .before .before .args in
+    omega (arith, field-split (a .b .now) (a .at) 2 2)
+
+returns-2 : tie.Need-returns-2
+returns-2 c =
+    let a = c .before .before .args in
+    sym (field-past (a .b .now) (a .at) 4 (c .if1 .left))
+
+pub u32-at-spec : {M : Type 1} → statement M
+u32-at-spec =
+    tie.close
+    (tie.spec
+    u16-at-requires
+    cast-result
+    add-u16-at
+    u16-at-requires-2
+    cast-result-2
+    mul-result
+    add-result
+    returns
+    returns-2)
