@@ -35,3 +35,8 @@ pub either-true : {a b : Bool} → either a b ≡ true → (a ≡ true) ⊎ (b �
 unfolding either
 either-true {a = true} h = inl refl
 either-true {a = false} h = inr h
+
+pub either-none : (a : Bool) → either a false ≡ a
+unfolding either
+either-none true = refl
+either-none false = refl

@@ -1,0 +1,3 @@
+pub mod Ranges
+pub mod Faults
+pub mod Read

@@ -1,0 +1,36 @@
+-- The field ranges of document 01, "Message bodies": "Field ranges: ..".
+use Prim.Native.Nat.{ℕ}
+use mathlib.Core.Bool.{Bool, true, false}
+use mathlib.Core.List.{List, [], _∷_}
+use lib.Dec.{eqb, leb, ltb}
+use Rattle.facts.specs.Pick.{both, either}
+
+-- one of the listed bytes
+unfoldable pub oneOf : ℕ → List ℕ → Bool
+oneOf x [] = false
+oneOf x (y ∷ ys) = either (eqb x y) (oneOf x ys)
+
+-- "side `B` or `S`"
+unfoldable pub sideOk : ℕ → Bool
+sideOk x = oneOf x (66 ∷ 83 ∷ [])
+
+-- "price (millionths of a dollar) 1 to 1,000,000,000,000,000"
+unfoldable pub priceOk : ℕ → Bool
+priceOk n = both (leb 1 n) (leb n 1000000000000000)
+
+-- "sizes, the executed size included, 1 or more"
+unfoldable pub sizeOk : ℕ → Bool
+sizeOk n = leb 1 n
+
+-- "test indicator `Y` or `N`"
+unfoldable pub testOk : ℕ → Bool
+testOk x = oneOf x (89 ∷ 78 ∷ [])
+
+-- "market one of A B C H I J K L M N P Q U V W X Y Z"
+unfoldable pub marketOk : ℕ → Bool
+marketOk x =
+    oneOf x (65 ∷ 66 ∷ 67 ∷ 72 ∷ 73 ∷ 74 ∷ 75 ∷ 76 ∷ 77 ∷ 78 ∷ 80 ∷ 81 ∷ 85 ∷ 86 ∷ 87 ∷ 88 ∷ 89 ∷ 90 ∷ [])
+
+-- "in flags, bit 0 tells the position and bits 1 to 7 are zero"
+unfoldable pub flagsOk : ℕ → Bool
+flagsOk x = ltb x 2

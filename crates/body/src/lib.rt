@@ -1,0 +1,172 @@
+// Reads one message body: the table frames it, the ranges judge it, and then it is decoded.
+use fields::Body;
+use fields::Refusal;
+use kinds::Kind;
+ghost use mathlib.Core.Path.{_≡_};
+ghost use Rattle.body.specs.Ranges.{sideOk, priceOk, sizeOk, flagsOk, testOk, marketOk};
+ghost use Rattle.body.specs.Faults.{faultAt, firstOf, dealFault, faultOf};
+ghost use Rattle.body.specs.Read.{readBody};
+
+pub fn side_ok(x: u8) -> bool
+    ensures { λ r. ⌜ r ≡ sideOk x ⌝ }
+{
+    x == b'B' || x == b'S'
+}
+
+pub fn price_ok(n: u64) -> bool
+    ensures { λ r. ⌜ r ≡ priceOk n ⌝ }
+{
+    1 <= n && n <= 1000000000000000
+}
+
+pub fn size_ok(n: u32) -> bool
+    ensures { λ r. ⌜ r ≡ sizeOk n ⌝ }
+{
+    1 <= n
+}
+
+pub fn flags_ok(x: u8) -> bool
+    ensures { λ r. ⌜ r ≡ flagsOk x ⌝ }
+{
+    x < 2
+}
+
+pub fn test_ok(x: u8) -> bool
+    ensures { λ r. ⌜ r ≡ testOk x ⌝ }
+{
+    x == b'Y' || x == b'N'
+}
+
+// One of the eighteen market letters, one comparison after another.
+pub fn market_ok(x: u8) -> bool
+    ensures { λ r. ⌜ r ≡ marketOk x ⌝ }
+{
+    match x {
+        b'A' => true,
+        b'B' => true,
+        b'C' => true,
+        b'H' => true,
+        b'I' => true,
+        b'J' => true,
+        b'K' => true,
+        b'L' => true,
+        b'M' => true,
+        b'N' => true,
+        b'P' => true,
+        b'Q' => true,
+        b'U' => true,
+        b'V' => true,
+        b'W' => true,
+        b'X' => true,
+        b'Y' => true,
+        b'Z' => true,
+        _ => false,
+    }
+}
+
+// 0 where a test holds, else the place of its field.
+fn fault_at(ok: bool, at: usize) -> usize
+    ensures { λ r. ⌜ r ≡ faultAt ok at ⌝ }
+{
+    if ok { 0 } else { at }
+}
+
+// The first of two faults.
+fn first(a: usize, b: usize) -> usize
+    ensures { λ r. ⌜ r ≡ firstOf a b ⌝ }
+{
+    if a == 0 { b } else { a }
+}
+
+// Price and size, which stand side by side in every message that has them.
+fn deal_fault(b: &[u8], at: u8) -> usize
+    ensures { λ r. ⌜ r ≡ dealFault (now (b .entry)) at ⌝ }
+{
+    let i = at as usize;
+    let j = i + 8;
+    first(
+        fault_at(price_ok(wire::u64_at(b, i)), i),
+        fault_at(size_ok(wire::u32_at(b, j)), j),
+    )
+}
+
+fn symbol_fault(b: &[u8]) -> usize
+    ensures { λ r. ⌜ r ≡ faultOf Kind.SymbolUpdate (now (b .entry)) ⌝ }
+{
+    first(
+        fault_at(test_ok(wire::u8_at(b, 21)), 21),
+        fault_at(market_ok(wire::u8_at(b, 41)), 41),
+    )
+}
+
+fn add_fault(b: &[u8]) -> usize
+    ensures { λ r. ⌜ r ≡ faultOf Kind.Add (now (b .entry)) ⌝ }
+{
+    first(fault_at(side_ok(wire::u8_at(b, 17)), 17), deal_fault(b, 18))
+}
+
+fn modify_fault(b: &[u8]) -> usize
+    ensures { λ r. ⌜ r ≡ faultOf Kind.Modify (now (b .entry)) ⌝ }
+{
+    first(
+        deal_fault(b, 17),
+        fault_at(flags_ok(wire::u8_at(b, 29)), 29),
+    )
+}
+
+fn execution_fault(b: &[u8]) -> usize
+    ensures { λ r. ⌜ r ≡ faultOf Kind.Execution (now (b .entry)) ⌝ }
+{
+    deal_fault(b, 25)
+}
+
+fn trade_fault(b: &[u8]) -> usize
+    ensures { λ r. ⌜ r ≡ faultOf Kind.Trade (now (b .entry)) ⌝ }
+{
+    deal_fault(b, 18)
+}
+
+fn cancel_fault(b: &[u8]) -> usize
+    ensures { λ r. ⌜ r ≡ faultOf Kind.TradeCancel (now (b .entry)) ⌝ }
+{
+    deal_fault(b, 18)
+}
+
+// The first byte of the earliest field out of range, 0 for none.
+fn fault(k: Kind, b: &[u8]) -> usize
+    ensures { λ r. ⌜ r ≡ faultOf k (now (b .entry)) ⌝ }
+{
+    match k {
+        Kind::SystemTime => 0,
+        Kind::SymbolUpdate => symbol_fault(b),
+        Kind::SystemState => 0,
+        Kind::TradingStatus => 0,
+        Kind::SymbolClear => 0,
+        Kind::Add => add_fault(b),
+        Kind::Modify => modify_fault(b),
+        Kind::Delete => 0,
+        Kind::Execution => execution_fault(b),
+        Kind::Trade => trade_fault(b),
+        Kind::TradeCancel => cancel_fault(b),
+        Kind::Unknown => 0,
+    }
+}
+
+// The message that a body says, or 3, then 4.
+pub fn read_body(b: &[u8]) -> Body
+    ensures { λ r. ⌜ r ≡ readBody (now (b .entry)) ⌝ }
+{
+    if b.len() == 0 {
+        return Body::Refused(Refusal { number: 3 });
+    }
+    let t = b[0];
+    if b.len() != kinds::length_of(t) {
+        return Body::Refused(Refusal { number: 3 });
+    }
+    let k = kinds::kind_of(t);
+    if fault(k, b) == 0 {
+        fields::decode(k, b)
+    } else {
+        Body::Refused(Refusal { number: 4 })
+    }
+}

@@ -1,0 +1,93 @@
+-- The table's rule, from one test that the checker computes over its pairs, and what it says of every type byte.
+-- Assumes nothing.
+use mathlib.Core.Path.{_≡_, refl, sym, ap, _∙_}
+use mathlib.Core.List.{List, [], _∷_}
+use mathlib.Core.Bool.{Bool, true, false}
+use mathlib.Core.Logic.{_⊎_, inl, inr}
+use Prim.Native.Nat.{ℕ, zero, suc, _+_, _*_, _≤_, _<_}
+use native.Mathlib.Numerals.{add-one}
+use native.Mathlib.Omega.{arith}
+use lib.ListN.{length, getD, drop}
+use lib.Seq.{drop-cons}
+use lib.Dec.{eqb, leb}
+use borrow.Author.Tests.{eqb-true, leb-true}
+use Rattle.facts.specs.Pick.{pick, both}
+use Rattle.facts.proofs.Picks.{both-true}
+use Rattle.kinds.specs.Table.{table, lookup, lengthOf, kindOf, typeOf, kindLength, refusalOf}
+use Rattle.kinds.specs.declared.Kind.{Kind}
+
+-- one pair of a table: what the search for t finds from pair i on
+pub lookup-at : (t : ℕ) (l : List ℕ) (i : ℕ) → 2 * i + 1 < length l → lookup t (drop (2 * i) l) ≡ pick (eqb t (getD l (2 * i) 0)) (getD l (2 * i + 1) 0) (lookup t (drop (2 * (i + 1)) l))
+unfolding lookup
+lookup-at t l i h =
+    let a : 2 * i < length l = omega arith in
+    let b : suc (2 * i) < length l = omega arith in
+    let e : 2 * (i + 1) ≡ suc (suc (2 * i)) = omega arith in
+    rw (drop-cons l (2 * i) 0, drop-cons l (suc (2 * i)) 0, e, add-one) refl
+
+-- a test of every pair of a table
+unfoldable pub pairs : (ℕ → ℕ → Bool) → List ℕ → Bool
+pairs f [] = true
+pairs f (k ∷ []) = true
+pairs f (k ∷ n ∷ rest) = both (f k n) (pairs f rest)
+
+-- what the test finds of every pair holds of what a search finds
+pub lookup-rule : (f : ℕ → ℕ → Bool) (l : List ℕ) → pairs f l ≡ true → (t : ℕ) → (lookup t l ≡ 0) ⊎ (f t (lookup t l) ≡ true)
+unfolding pairs lookup pick
+lookup-rule f [] h t = inl refl
+lookup-rule f (k ∷ []) h t = inl refl
+lookup-rule f (k ∷ n ∷ rest) h t =
+    let s = both-true {a = f k n} {b = pairs f rest} h in
+    go (eqb t k) refl (s .0) (lookup-rule f rest (s .1) t)
+  where
+    go : (x : Bool) → eqb t k ≡ x → f k n ≡ true → (lookup t rest ≡ 0) ⊎ (f t (lookup t rest) ≡ true) → (pick x n (lookup t rest) ≡ 0) ⊎ (f t (pick x n (lookup t rest)) ≡ true)
+    go true e a b = inr (let q : t ≡ k = eqb-true t k e in rw q a)
+    go false e a b = b
+
+-- the rule: a message has 1 to 42 bytes, its length is that of the kind that its type decides, and its type is that kind's
+unfoldable rule : ℕ → ℕ → Bool
+rule t n = both (both (leb 1 n) (leb n 42)) (both (eqb n (kindLength (kindOf t))) (eqb t (typeOf (kindOf t))))
+
+table-rule : pairs rule table ≡ true
+unfolding pairs rule kindLength lengthOf lookup kindOf pick both
+table-rule = refl
+
+-- what the table says of a type that it has
+pub record Lengths (t : ℕ) : Type 0 where
+  pub some : 1 ≤ lengthOf t
+  pub most : lengthOf t ≤ 42
+  pub of-kind : lengthOf t ≡ kindLength (kindOf t)
+  pub of-type : t ≡ typeOf (kindOf t)
+
+ruled : (t n : ℕ) → rule t n ≡ true → (1 ≤ n) × (n ≤ 42) × (n ≡ kindLength (kindOf t)) × (t ≡ typeOf (kindOf t))
+unfolding rule
+ruled t n h =
+    let s = both-true {a = both (leb 1 n) (leb n 42)} {b = both (eqb n (kindLength (kindOf t))) (eqb t (typeOf (kindOf t)))} h in
+    let l = both-true {a = leb 1 n} {b = leb n 42} (s .0) in
+    let k = both-true {a = eqb n (kindLength (kindOf t))} {b = eqb t (typeOf (kindOf t))} (s .1) in
+    (leb-true 1 n (l .0), leb-true n 42 (l .1), eqb-true n (kindLength (kindOf t)) (k .0), eqb-true t (typeOf (kindOf t)) (k .1))
+
+-- no such type, or the rule
+pub lengths : (t : ℕ) → (lengthOf t ≡ 0) ⊎ Lengths t
+unfolding lengthOf
+lengths t = go (lookup-rule rule table table-rule t)
+  where
+    go : (lookup t table ≡ 0) ⊎ (rule t (lookup t table) ≡ true) → (lengthOf t ≡ 0) ⊎ Lengths t
+    go (inl e) = inl e
+    go (inr e) = let r = ruled t (lookup t table) e in inr (record { some = r .0; most = r .1; of-kind = r .2; of-type = r .3 })
+
+-- a kind's own type byte decides it
+pub type-kind : (k : Kind) → kindOf (typeOf k) ≡ k
+unfolding kindOf pick
+type-kind Kind.SystemTime = refl
+type-kind Kind.SymbolUpdate = refl
+type-kind Kind.SystemState = refl
+type-kind Kind.TradingStatus = refl
+type-kind Kind.SymbolClear = refl
+type-kind Kind.Add = refl
+type-kind Kind.Modify = refl
+type-kind Kind.Delete = refl
+type-kind Kind.Execution = refl
+type-kind Kind.Trade = refl
+type-kind Kind.TradeCancel = refl
+type-kind Kind.Unknown = refl
