@@ -170,12 +170,19 @@ told (Body.TradeCancel m) b s = inl refl
 told (Body.Refused r) b (inl e) = inr (inl (ap (λ x. x .number) e))
 told (Body.Refused r) b (inr e) = inr (inr (ap (λ x. x .number) e))
 
+pub numbers : (b : List ℕ) → (numberOf (readBody b) ≡ 0) ⊎ ((numberOf (readBody b) ≡ 3) ⊎ (numberOf (readBody b) ≡ 4))
+numbers b = told (readBody b) b (read-sound b)
+
+pub number-good : (b : List ℕ) → numberOf (readBody b) ≡ 0 → goodBody b ≡ true
+unfolding goodBody
+number-good b e = eq-eqb (numberOf (readBody b)) 0 e
+
 -- any bytes are a good body or refused by 3 or 4, and never both
 pub good-or-refused : (b : List ℕ) → ((goodBody b ≡ true) × (numberOf (readBody b) ≡ 0)) ⊎ ((goodBody b ≡ false) × ((numberOf (readBody b) ≡ 3) ⊎ (numberOf (readBody b) ≡ 4)))
 unfolding goodBody
-good-or-refused b = go (numberOf (readBody b)) (told (readBody b) b (read-sound b))
+good-or-refused b = go (numbers b)
   where
-    go : (n : ℕ) → (n ≡ 0) ⊎ ((n ≡ 3) ⊎ (n ≡ 4)) → ((eqb n 0 ≡ true) × (n ≡ 0)) ⊎ ((eqb n 0 ≡ false) × ((n ≡ 3) ⊎ (n ≡ 4)))
-    go n (inl e) = inl (eq-eqb n 0 e, e)
-    go n (inr (inl e)) = inr (rw e refl, inl e)
-    go n (inr (inr e)) = inr (rw e refl, inr e)
+    go : (numberOf (readBody b) ≡ 0) ⊎ ((numberOf (readBody b) ≡ 3) ⊎ (numberOf (readBody b) ≡ 4)) → ((goodBody b ≡ true) × (numberOf (readBody b) ≡ 0)) ⊎ ((goodBody b ≡ false) × ((numberOf (readBody b) ≡ 3) ⊎ (numberOf (readBody b) ≡ 4)))
+    go (inl e) = inl (number-good b e, e)
+    go (inr (inl e)) = inr (rw e refl, inl e)
+    go (inr (inr e)) = inr (rw e refl, inr e)

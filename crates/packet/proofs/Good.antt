@@ -1,0 +1,128 @@
+-- What those above know of a packet: its records one after the other, each good and within the packet, or one refusal of 1 to 5.
+-- Assumes nothing.
+use mathlib.Core.Path.{_≡_, refl, ap, sym, _∙_, subst}
+use mathlib.Core.List.{List, [], _∷_}
+use mathlib.Core.Bool.{true, false}
+use mathlib.Core.Logic.{_⊎_, inl, inr}
+use Prim.Native.Nat.{ℕ, zero, suc, _+_, _≤_, _<_}
+use native.Mathlib.Omega.{arith}
+use borrow.Author.Tests.{leb-true}
+use lib.ListN.{length, take, drop, length-drop}
+use lib.Seq.{drop-drop, length-take-le}
+use lib.Dec.{ltb, leb}
+use Rattle.facts.specs.Pick.{pick, both}
+use Rattle.facts.proofs.Picks.{pick-ind, pick-cases, both-true}
+use Rattle.fields.specs.Fields.{refusal}
+use Rattle.fields.specs.declared.Refusal.{Refusal}
+use Rattle.packet.specs.Record.{Rec, headOf, bodyOf, recOf, readRecord}
+use Rattle.packet.specs.Packet.{Framing, bad, records, before, behind, framesFrom, framing, told, readPacket}
+use Rattle.packet.specs.declared.Head.{Head}
+use Rattle.packet.specs.declared.Record.{Record}
+use Rattle.packet.specs.declared.Packet.{Packet}
+use Rattle.packet.proofs.Laws.{GoodRec, Held, record-held, frames-step, frames-end}
+
+-- every record of a list is good
+abbrev pub AllGood : List Rec → Type 0
+AllGood [] = Unit
+AllGood (c ∷ cs) = GoodRec c × AllGood cs
+
+-- what is known of any framing
+abbrev pub Fine : Framing → Type 0
+Fine (bad r) = (1 ≤ r .number) × (r .number ≤ 5)
+Fine (records cs) = AllGood cs
+
+before-fine : (c : Rec) (x : Framing) → GoodRec c → Fine x → Fine (before c x)
+unfolding before
+before-fine c (bad r) g f = f
+before-fine c (records cs) g f = (g, f)
+
+behind-fine : (rest : List ℕ → Framing) (t : List ℕ) (r : Record) → Held r t → ((s : List ℕ) → Fine (rest s)) → Fine (behind rest t r)
+unfolding behind
+behind-fine rest t (Record.Good h) g f = before-fine (recOf t) (rest (drop (10 + h .len) t)) (g .2) (f (drop (10 + h .len) t))
+behind-fine rest t (Record.Refused r) g f = (omega arith, g .1)
+
+frames-fine : (f : ℕ) (t : List ℕ) → Fine (framesFrom f t)
+unfolding framesFrom
+frames-fine zero t = tt
+frames-fine (suc f) t =
+    pick-ind Fine (ltb 0 (length t)) (behind (framesFrom f) t (readRecord t)) (records [])
+    (λ _. behind-fine (framesFrom f) t (readRecord t) (record-held t) (frames-fine f))
+    (λ _. tt)
+
+pub framing-fine : (p : List ℕ) → Fine (framing p)
+unfolding framing
+framing-fine p =
+    pick-ind Fine (both (leb 1 (length p)) (leb (length p) 1500)) (framesFrom (length p) p) (bad (refusal 1))
+    (λ _. frames-fine (length p) p)
+    (λ _. (omega arith, omega arith))
+
+-- the record at a place of a good packet, and what is left behind it
+pub record Step (p : List ℕ) (at : ℕ) (cs : List Rec) : Type 0 where
+  pub others : List Rec
+  pub first-is : cs ≡ recOf (drop at p) ∷ others
+  pub good : GoodRec (recOf (drop at p))
+  pub body-length : length (bodyOf (drop at p)) ≡ headOf (drop at p) .len
+  pub inside : at + (10 + headOf (drop at p) .len) ≤ length p
+  pub next : framesFrom (length p) (drop (at + (10 + headOf (drop at p) .len)) p) ≡ records others
+
+whole-body : (t : List ℕ) → 10 + headOf t .len ≤ length t → length (bodyOf t) ≡ headOf t .len
+unfolding bodyOf
+whole-body t w = length-take-le (headOf t .len) (drop 10 t) (rw length-drop (omega arith))
+
+pub step : (p : List ℕ) (at : ℕ) (cs : List Rec) → at < length p → framesFrom (length p) (drop at p) ≡ records cs → Step p at cs
+unfolding behind before
+step p at cs lt e =
+    by-record (readRecord t) (record-held t)
+    (sym (frames-step (length p) t (rw length-drop (omega arith)) (rw length-drop (omega arith))) ∙ e)
+  where
+    t : List ℕ
+    t = drop at p
+
+    by-rest : (h : Head) → h ≡ headOf (drop at p) → 10 + h .len ≤ length (drop at p) → GoodRec (recOf (drop at p)) → (x : Framing) → framesFrom (length p) (drop (10 + h .len) (drop at p)) ≡ x → before (recOf (drop at p)) x ≡ records cs → Step p at cs
+    by-rest h i w g (bad r) x q = let z : _≡_ {A = ℕ} 0 1 = cc in absurd (omega arith)
+    by-rest h i w g (records os) x q =
+        let l : h .len ≡ headOf (drop at p) .len = ap (λ k. k .len) i in
+        let w′ : 10 + headOf (drop at p) .len ≤ length (drop at p) = omega arith in
+        record {
+          others = os;
+          first-is = cc;
+          good = g;
+          body-length = whole-body (drop at p) w′;
+          inside = omega (arith, length-drop at p);
+          next = ap (framesFrom (length p)) (sym (drop-drop (10 + headOf (drop at p) .len) at p) ∙ ap (λ k. drop (10 + k) (drop at p)) (sym l)) ∙ x;
+        }
+
+    by-record : (r : Record) → Held r (drop at p) → behind (framesFrom (length p)) (drop at p) r ≡ records cs → Step p at cs
+    by-record (Record.Good h) g q = by-rest h (g .0) (g .1) (g .2) (framesFrom (length p) (drop (10 + h .len) (drop at p))) refl q
+    by-record (Record.Refused r) g q = let z : _≡_ {A = ℕ} 0 1 = cc in absurd (omega arith)
+
+-- behind the last record there is none
+pub step-end : (p : List ℕ) (at : ℕ) (cs : List Rec) → length p ≤ at → framesFrom (length p) (drop at p) ≡ records cs → cs ≡ []
+step-end p at cs h e = let q : records [] ≡ records cs = sym (frames-end (length p) p at h) ∙ e in cc
+
+-- any bytes are a good packet of one or more good records, or refused by one of 1 to 5, and never both
+pub data Outcome (p : List ℕ) : Type 0 where
+  good : (cs : List Rec) → framing p ≡ records cs → readPacket p ≡ Packet.Good (length cs) → 1 ≤ length cs → AllGood cs → Outcome p
+  refused : (r : Refusal) → framing p ≡ bad r → readPacket p ≡ Packet.Refused r → 1 ≤ r .number → r .number ≤ 5 → Outcome p
+
+-- a good packet's size
+pub framing-size : (p : List ℕ) (cs : List Rec) → framing p ≡ records cs → (1 ≤ length p) × (length p ≤ 1500) × (framesFrom (length p) p ≡ records cs)
+unfolding framing
+framing-size p cs e = elim (pick-cases e) [ inl h ↦ sized (h .0) (h .1) | inr h ↦ let z : _≡_ {A = ℕ} 0 1 = cc in absurd (omega arith) ]
+  where
+    sized : both (leb 1 (length p)) (leb (length p) 1500) ≡ true → framesFrom (length p) p ≡ records cs → (1 ≤ length p) × (length p ≤ 1500) × (framesFrom (length p) p ≡ records cs)
+    sized t f = let b = both-true {a = leb 1 (length p)} {b = leb (length p) 1500} t in (leb-true 1 (length p) (b .0), leb-true (length p) 1500 (b .1), f)
+
+some-records : (p : List ℕ) (cs : List Rec) → framing p ≡ records cs → 1 ≤ length cs
+some-records p cs e =
+    let s = framing-size p cs e in
+    let w = step p 0 cs (s .0) (s .2) in
+    rw (w .first-is) (omega arith)
+
+pub outcome : (p : List ℕ) → Outcome p
+unfolding readPacket told
+outcome p = go (framing p) refl (framing-fine p)
+  where
+    go : (x : Framing) → framing p ≡ x → Fine x → Outcome p
+    go (bad r) e f = refused r e (ap told e) (f .0) (f .1)
+    go (records cs) e f = good cs e (ap told e) (some-records p cs e) f

@@ -1,0 +1,112 @@
+// Reads a packet: records back to back, each judged by 2, 5, 3, 4 from the front, before anything is done with any of them.
+use fields::Refusal;
+ghost use mathlib.Core.Path.{_≡_};
+ghost use lib.ListN.{drop};
+ghost use Rattle.packet.specs.Record.{numberOk, headOf, bodyOf, readRecord};
+ghost use Rattle.packet.specs.Packet.{readPacket};
+
+// What the ten header bytes of a record say.
+pub struct Head {
+    pub number: u64,
+    pub len: usize,
+}
+
+// The first record of what is left of a packet.
+pub enum Record {
+    Good(Head),
+    Refused(Refusal),
+}
+
+// A whole packet: how many records it holds.
+pub enum Packet {
+    Good(usize),
+    Refused(Refusal),
+}
+
+fn number_ok(n: u64) -> bool
+    ensures { λ r. ⌜ r ≡ numberOk n ⌝ }
+{
+    1 <= n && n <= 1000000000000
+}
+
+// Number and length at a place of a packet, whatever stands there.
+pub fn head_at(p: &[u8], at: usize) -> Head
+    ensures { λ r. ⌜ r ≡ headOf (drop at (now (p .entry))) ⌝ }
+{
+    if p.len() <= at {
+        return Head { number: 0, len: 0 };
+    }
+    let t = &p[at..];
+    Head {
+        number: wire::u64_at(t, 0),
+        len: wire::u16_at(t, 8) as usize,
+    }
+}
+
+// The body of the record at a place of a packet: the part behind its ten header bytes.
+pub fn body_at(p: &[u8], at: usize) -> &[u8]
+    ensures { λ r. ⌜ now r ≡ bodyOf (drop at (now (p .entry))) ⌝ }
+{
+    let n = head_at(p, at).len;
+    if p.len() < 10 {
+        return &p[0..0];
+    }
+    if p.len() - 10 < at {
+        return &p[0..0];
+    }
+    let from = at + 10;
+    if p.len() - from < n {
+        return &p[from..];
+    }
+    &p[from..from + n]
+}
+
+// Judges the first record of what is left: 2, 5, then what the body reader says of its part.
+pub fn read_record(t: &[u8]) -> Record
+    ensures { λ r. ⌜ r ≡ readRecord (now (t .entry)) ⌝ }
+{
+    if t.len() < 10 {
+        return Record::Refused(Refusal { number: 2 });
+    }
+    let h = head_at(t, 0);
+    let n = h.len;
+    if t.len() - 10 < n {
+        return Record::Refused(Refusal { number: 2 });
+    }
+    if !number_ok(h.number) {
+        return Record::Refused(Refusal { number: 5 });
+    }
+    let k = fields::number_of(body::read_body(&t[10..10 + n]));
+    if k == 0 {
+        Record::Good(h)
+    } else {
+        Record::Refused(Refusal { number: k })
+    }
+}
+
+// Judges a whole packet: 1, then its records from the front.
+pub fn read_packet(p: &[u8]) -> Packet
+    ensures { λ r. ⌜ r ≡ readPacket (now (p .entry)) ⌝ }
+{
+    if p.len() < 1 {
+        return Packet::Refused(Refusal { number: 1 });
+    }
+    if 1500 < p.len() {
+        return Packet::Refused(Refusal { number: 1 });
+    }
+    let mut at: usize = 0;
+    let mut records: usize = 0;
+    while at < p.len() {
+        match read_record(&p[at..]) {
+            Record::Refused(r) => {
+                return Packet::Refused(r);
+            }
+            Record::Good(h) => {
+                let n = h.len;
+                at = at + (10 + n);
+                records = records + 1;
+            }
+        }
+    }
+    Packet::Good(records)
+}
