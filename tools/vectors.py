@@ -1,0 +1,799 @@
+"""Packets for the reader of tap packets (DoM 1.3.b), and what must be printed for them.
+
+    python3 tools/vectors.py stdin       all packets, each behind a 2-byte little-endian length
+    python3 tools/vectors.py stdout      the text that a right reader prints for them
+    python3 tools/vectors.py check FILE  compare FILE with that text, show the first difference
+    python3 tools/vectors.py counts      how many packets are good or refused (to standard error)
+
+The script rests on document 01 and on section 4 of document 003 alone. It shares nothing with
+the library, so that a slip in one shows against the other. Every run gives the same bytes.
+
+The text, packet by packet:
+
+    refused R        R is 1, 2, 3, 4 or 5 of document 01's refusal table; nothing else is printed
+    records K        else: the packet's number of records, then a line for each record:
+    N T F F F ..     sequence number, type byte, and the fields in the order of their offsets
+
+All is decimal, with one space between, and each line ends with one line feed. A field of more
+than one letter is printed byte by byte; the Attributable ID of an Add is one number. Reserved
+bytes are not printed, nor are the nanoseconds and the test byte of a Symbol Update.
+
+The script has three parts. The reader cuts fields out by the offsets of docs/MESSAGES.md. The
+composer puts bodies together field behind field, as the tables of 003 list them. The list of
+packets states by hand what most packets must give. Each run compares the three with each other
+and fails with a message if they disagree.
+"""
+
+import sys
+
+# ---------------------------------------------------------------------------------------------
+# The reader
+# ---------------------------------------------------------------------------------------------
+
+LARGEST_PACKET = 1500
+HEADER = 10  # sequence number in 8 bytes, body length in 2
+LARGEST_NUMBER = 10**12
+LARGEST_PRICE = 10**15
+MARKETS = b"ABCHIJKLMNPQUVWXYZ"
+
+NUMBER = "one number"
+BYTES = "byte by byte"
+HIDDEN = "not printed"
+
+# type: (message, length, fields as (name, first offset, last offset, how it is printed))
+MESSAGES = {
+    49: ("System Time", 5, [
+        ("seconds", 1, 4, NUMBER)]),
+    1: ("Symbol Update", 42, [
+        ("nanoseconds", 1, 4, HIDDEN),
+        ("symbol", 5, 8, NUMBER),
+        ("ticker", 9, 19, BYTES),
+        ("reserved20", 20, 20, HIDDEN),
+        ("test", 21, 21, HIDDEN),
+        ("reserved22", 22, 22, HIDDEN),
+        ("lot", 23, 24, NUMBER),
+        ("opening", 25, 32, BYTES),
+        ("closing", 33, 40, BYTES),
+        ("market", 41, 41, NUMBER)]),
+    83: ("System State", 15, [
+        ("nanoseconds", 1, 4, NUMBER),
+        ("version", 5, 12, BYTES),
+        ("session", 13, 13, NUMBER),
+        ("status", 14, 14, NUMBER)]),
+    4: ("Security Trading Status", 12, [
+        ("nanoseconds", 1, 4, NUMBER),
+        ("symbol", 5, 8, NUMBER),
+        ("trading", 9, 9, NUMBER),
+        ("state", 10, 10, NUMBER),
+        ("short", 11, 11, NUMBER)]),
+    5: ("Symbol Clear", 9, [
+        ("nanoseconds", 1, 4, NUMBER),
+        ("symbol", 5, 8, NUMBER)]),
+    20: ("Add Order", 34, [
+        ("nanoseconds", 1, 4, NUMBER),
+        ("symbol", 5, 8, NUMBER),
+        ("order", 9, 16, NUMBER),
+        ("side", 17, 17, NUMBER),
+        ("price", 18, 25, NUMBER),
+        ("size", 26, 29, NUMBER),
+        ("attributable", 30, 33, NUMBER)]),
+    21: ("Modify Order", 30, [
+        ("nanoseconds", 1, 4, NUMBER),
+        ("symbol", 5, 8, NUMBER),
+        ("order", 9, 16, NUMBER),
+        ("price", 17, 24, NUMBER),
+        ("size", 25, 28, NUMBER),
+        ("flags", 29, 29, NUMBER)]),
+    23: ("Delete Order", 17, [
+        ("nanoseconds", 1, 4, NUMBER),
+        ("symbol", 5, 8, NUMBER),
+        ("order", 9, 16, NUMBER)]),
+    24: ("Order Execution", 38, [
+        ("nanoseconds", 1, 4, NUMBER),
+        ("symbol", 5, 8, NUMBER),
+        ("order", 9, 16, NUMBER),
+        ("trade", 17, 24, NUMBER),
+        ("price", 25, 32, NUMBER),
+        ("size", 33, 36, NUMBER),
+        ("flags", 37, 37, NUMBER)]),
+    10: ("Trade", 31, [
+        ("nanoseconds", 1, 4, NUMBER),
+        ("symbol", 5, 8, NUMBER),
+        ("trade", 9, 16, NUMBER),
+        ("correction", 17, 17, NUMBER),
+        ("price", 18, 25, NUMBER),
+        ("size", 26, 29, NUMBER),
+        ("flags", 30, 30, NUMBER)]),
+    11: ("Trade Cancel", 30, [
+        ("nanoseconds", 1, 4, NUMBER),
+        ("symbol", 5, 8, NUMBER),
+        ("trade", 9, 16, NUMBER),
+        ("correction", 17, 17, NUMBER),
+        ("price", 18, 25, NUMBER),
+        ("size", 26, 29, NUMBER)]),
+}
+
+
+class Refused(Exception):
+    """A packet is refused; `number` is document 01's number."""
+
+    def __init__(self, number):
+        super().__init__(number)
+        self.number = number
+
+
+def little(part):
+    """The unsigned little-endian number in these bytes."""
+    return int.from_bytes(part, "little")
+
+
+def in_range(kind, field, value):
+    """Document 01's field ranges. A field that it does not name is always in range."""
+    if field == "price":
+        return 1 <= value <= LARGEST_PRICE
+    if field == "size":
+        return value >= 1
+    if field == "side":
+        return value in b"BS"
+    if field == "test":
+        return value in b"YN"
+    if field == "market":
+        return value in MARKETS
+    if field == "flags" and kind == 21:
+        return value <= 1
+    return True
+
+
+def read_body(body):
+    """The type and the fields (a dictionary) of a good body; else Refused 3 or 4."""
+    if len(body) == 0 or body[0] not in MESSAGES:
+        raise Refused(3)
+    kind = body[0]
+    _, length, fields = MESSAGES[kind]
+    if len(body) != length:
+        raise Refused(3)
+    values = {}
+    for field, first, last, printed in fields:
+        part = body[first:last + 1]
+        values[field] = part if printed == BYTES else little(part)
+    for field, value in values.items():
+        if not in_range(kind, field, value):
+            raise Refused(4)
+    return kind, values
+
+
+def read_packet(packet):
+    """The records of a good packet, each as (sequence number, type, fields); else Refused."""
+    if len(packet) == 0 or len(packet) > LARGEST_PACKET:
+        raise Refused(1)
+    records = []
+    at = 0
+    while at < len(packet):
+        left = len(packet) - at
+        if left < HEADER:
+            raise Refused(2)
+        number = little(packet[at:at + 8])
+        length = little(packet[at + 8:at + HEADER])
+        if length > left - HEADER:
+            raise Refused(2)
+        if number == 0 or number > LARGEST_NUMBER:
+            raise Refused(5)
+        kind, values = read_body(packet[at + HEADER:at + HEADER + length])
+        records.append((number, kind, values))
+        at += HEADER + length
+    return records
+
+
+def expected_lines(packet):
+    """The lines to be printed for one packet, without their line feeds."""
+    try:
+        records = read_packet(packet)
+    except Refused as refused:
+        return ["refused %d" % refused.number]
+    lines = ["records %d" % len(records)]
+    for number, kind, values in records:
+        words = [str(number), str(kind)]
+        for field, _, _, printed in MESSAGES[kind][2]:
+            if printed == NUMBER:
+                words.append(str(values[field]))
+            elif printed == BYTES:
+                words.extend(str(byte) for byte in values[field])
+        lines.append(" ".join(words))
+    return lines
+
+
+# ---------------------------------------------------------------------------------------------
+# The composer
+# ---------------------------------------------------------------------------------------------
+
+TIME, UPDATE, STATE, STATUS, CLEAR = 49, 1, 83, 4, 5
+ADD, MODIFY, DELETE, EXECUTION, TRADE, CANCEL = 20, 21, 23, 24, 10, 11
+
+# Each type's fields in the order of its table in 003, as (name, length, an ordinary value).
+LAYOUT = {
+    TIME: [("seconds", 4, 34200)],
+    UPDATE: [("nanoseconds", 4, 1001), ("symbol", 4, 7), ("ticker", 11, b"ABC        "),
+             ("reserved20", 1, 0), ("test", 1, ord("N")), ("reserved22", 1, 0), ("lot", 2, 100),
+             ("opening", 8, b"09:30:00"), ("closing", 8, b"16:00:00"), ("market", 1, ord("H"))],
+    STATE: [("nanoseconds", 4, 1002), ("version", 8, b"DoM1.3  "), ("session", 1, 1),
+            ("status", 1, ord("S"))],
+    STATUS: [("nanoseconds", 4, 1003), ("symbol", 4, 7), ("trading", 1, 2), ("state", 1, 3),
+             ("short", 1, ord("N"))],
+    CLEAR: [("nanoseconds", 4, 1004), ("symbol", 4, 7)],
+    ADD: [("nanoseconds", 4, 1005), ("symbol", 4, 7), ("order", 8, 500), ("side", 1, ord("B")),
+          ("price", 8, 10000000), ("size", 4, 100), ("attributable", 4, little(b"    "))],
+    MODIFY: [("nanoseconds", 4, 1006), ("symbol", 4, 7), ("order", 8, 500),
+             ("price", 8, 10010000), ("size", 4, 80), ("flags", 1, 1)],
+    DELETE: [("nanoseconds", 4, 1007), ("symbol", 4, 7), ("order", 8, 500)],
+    EXECUTION: [("nanoseconds", 4, 1008), ("symbol", 4, 7), ("order", 8, 500), ("trade", 8, 900),
+                ("price", 8, 10000000), ("size", 4, 40), ("flags", 1, 1)],
+    TRADE: [("nanoseconds", 4, 1009), ("symbol", 4, 7), ("trade", 8, 901), ("correction", 1, 0),
+            ("price", 8, 10005000), ("size", 4, 60), ("flags", 1, 3)],
+    CANCEL: [("nanoseconds", 4, 1010), ("symbol", 4, 7), ("trade", 8, 901), ("correction", 1, 0),
+             ("price", 8, 10005000), ("size", 4, 60)],
+}
+KINDS = list(LAYOUT)
+UNPRINTED = {(UPDATE, "nanoseconds"), (UPDATE, "reserved20"), (UPDATE, "test"),
+             (UPDATE, "reserved22")}
+JUDGED = {(UPDATE, "test"), (UPDATE, "market"), (ADD, "side"), (MODIFY, "flags")} | {
+    (kind, field) for kind in (ADD, MODIFY, EXECUTION, TRADE, CANCEL)
+    for field in ("price", "size")}
+
+
+def whole(kind, changes):
+    """The values of all fields of a message, the ordinary ones where `changes` has none."""
+    unknown = set(changes) - {field for field, _, _ in LAYOUT[kind]}
+    if unknown:
+        sys.exit("no such field in a message of type %d: %s" % (kind, unknown))
+    return [(field, width, changes.get(field, usual)) for field, width, usual in LAYOUT[kind]]
+
+
+def compose(kind, **changes):
+    """The body of a message, the fields one behind the other."""
+    body = bytes([kind])
+    for _, width, value in whole(kind, changes):
+        part = value if isinstance(value, bytes) else value.to_bytes(width, "little")
+        if len(part) != width:
+            sys.exit("a field of type %d has %d bytes, not %d" % (kind, len(part), width))
+        body += part
+    return body
+
+
+def stated_line(number, kind, **changes):
+    """The line that must be printed for a good record, from the values it was composed of."""
+    words = [number, kind]
+    for field, _, value in whole(kind, changes):
+        if (kind, field) not in UNPRINTED:
+            words.extend(value if isinstance(value, bytes) else [value])
+    return " ".join(str(word) for word in words)
+
+
+def record(number, body, length=None):
+    """A record; `length` is what its header claims, the body's own length if not given."""
+    claimed = len(body) if length is None else length
+    return number.to_bytes(8, "little") + claimed.to_bytes(2, "little") + body
+
+
+class Dice:
+    """Numbers that look random and are the same on every machine (splitmix64)."""
+
+    def __init__(self, seed):
+        self.state = seed
+
+    def bits(self):
+        mask = 2**64 - 1
+        self.state = (self.state + 0x9E3779B97F4A7C15) & mask
+        mixed = self.state
+        mixed = ((mixed ^ (mixed >> 30)) * 0xBF58476D1CE4E5B9) & mask
+        mixed = ((mixed ^ (mixed >> 27)) * 0x94D049BB133111EB) & mask
+        return mixed ^ (mixed >> 31)
+
+    def below(self, limit):
+        return self.bits() % limit
+
+    def between(self, first, last):
+        return first + self.below(last - first + 1)
+
+    def pick(self, choices):
+        return choices[self.below(len(choices))]
+
+    def spread(self, first, last):
+        """A number from first to last: an end, any, or one of any magnitude."""
+        way = self.below(8)
+        if way == 0:
+            return self.pick([first, last])
+        if way < 4:
+            return self.between(first, last)
+        magnitude = self.between(1, last.bit_length())
+        return max(first, min(last, self.below(2**magnitude)))
+
+    def text(self, width):
+        """Bytes of a letter field: mostly letters with spaces behind, sometimes anything."""
+        if self.below(4) == 0:
+            return bytes(self.below(256) for _ in range(width))
+        letters = bytes(self.between(65, 90) for _ in range(self.between(1, width)))
+        return letters.ljust(width)
+
+    def message(self):
+        """The type and the fields of a good message of any kind."""
+        kind = self.pick(KINDS)
+        changes = {}
+        for field, width, usual in LAYOUT[kind]:
+            if field == "price":
+                changes[field] = self.spread(1, LARGEST_PRICE)
+            elif field == "size":
+                changes[field] = self.spread(1, 2**32 - 1)
+            elif field == "side":
+                changes[field] = self.pick(b"BS")
+            elif field == "test":
+                changes[field] = self.pick(b"YN")
+            elif field == "market":
+                changes[field] = self.pick(b"ABCHIJKLMNPQUVWXYZ")
+            elif field == "flags" and kind == MODIFY:
+                changes[field] = self.below(2)
+            elif isinstance(usual, bytes):
+                changes[field] = self.text(width)
+            else:
+                changes[field] = self.spread(0, 256**width - 1)
+        return kind, changes
+
+
+# ---------------------------------------------------------------------------------------------
+# The packets
+# ---------------------------------------------------------------------------------------------
+
+
+class Vector:
+    """A packet, what it is for, and the lines stated for it by hand (None if none are)."""
+
+    def __init__(self, label, packet, stated):
+        self.label = label
+        self.packet = packet
+        self.stated = stated
+
+
+class Vectors:
+    """The list of packets in the order in which they are written."""
+
+    def __init__(self):
+        self.list = []
+
+    def good(self, label, *records):
+        """A good packet; each record is (number, type) or (number, type, {field: value})."""
+        packet = b""
+        lines = ["records %d" % len(records)]
+        for number, kind, *rest in records:
+            changes = rest[0] if rest else {}
+            packet += record(number, compose(kind, **changes))
+            lines.append(stated_line(number, kind, **changes))
+        self.list.append(Vector(label, packet, lines))
+        return packet
+
+    def bad(self, label, number, packet):
+        """A packet that must be refused with this number."""
+        self.list.append(Vector(label, packet, ["refused %d" % number]))
+
+    def judge(self, label, in_order, number, kind, changes):
+        """One record with a judged field: good if `in_order`, else refused with 4."""
+        if in_order:
+            self.good(label, (number, kind, changes))
+        else:
+            self.bad(label, 4, record(number, compose(kind, **changes)))
+
+    def unstated(self, label, packet):
+        """A packet of which only the reader says what it gives."""
+        self.list.append(Vector(label, packet, None))
+
+
+EXAMPLE = [
+    (1, TIME, {"seconds": 34200}),
+    (2, UPDATE, {"nanoseconds": 0}),
+    (3, ADD, {"nanoseconds": 0, "order": 500, "price": 10000000, "size": 100}),
+    (4, ADD, {"nanoseconds": 0, "order": 501, "side": ord("S"), "price": 10020000, "size": 200}),
+    (5, ADD, {"nanoseconds": 0, "order": 502, "price": 10000000, "size": 50}),
+]
+
+# The same five records, written out by hand.
+EXAMPLE_BYTES = [bytes.fromhex(text) for text in (
+    "01 00 00 00 00 00 00 00  05 00  31  98 85 00 00",
+    "02 00 00 00 00 00 00 00  2a 00  01  00 00 00 00  07 00 00 00"
+    " 41 42 43 20 20 20 20 20 20 20 20  00  4e  00  64 00"
+    " 30 39 3a 33 30 3a 30 30  31 36 3a 30 30 3a 30 30  48",
+    "03 00 00 00 00 00 00 00  22 00  14  00 00 00 00  07 00 00 00  f4 01 00 00 00 00 00 00"
+    " 42  80 96 98 00 00 00 00 00  64 00 00 00  20 20 20 20",
+    "04 00 00 00 00 00 00 00  22 00  14  00 00 00 00  07 00 00 00  f5 01 00 00 00 00 00 00"
+    " 53  a0 e4 98 00 00 00 00 00  c8 00 00 00  20 20 20 20",
+    "05 00 00 00 00 00 00 00  22 00  14  00 00 00 00  07 00 00 00  f6 01 00 00 00 00 00 00"
+    " 42  80 96 98 00 00 00 00 00  32 00 00 00  20 20 20 20",
+)]
+
+
+def add_exercises(vectors):
+    """Document 01's example, and its exercises P1 to P12 as far as they are packets to read."""
+    together = vectors.good("the example, numbers 1 to 5 in one packet", *EXAMPLE)
+    if together != b"".join(EXAMPLE_BYTES):
+        sys.exit("the composed example is not the one written out by hand")
+    for one in EXAMPLE:
+        vectors.good("the example, number %d alone" % one[0], one)
+    vectors.list.append(Vector(
+        "P1: price 10.000000 is bytes 80 96 98 00 00 00 00 00", EXAMPLE_BYTES[2],
+        ["records 1", "3 20 0 7 500 66 10000000 100 538976288"]))
+    vectors.good("P2: number 64", (64, TIME))
+    vectors.good("P2: number 65", (65, TIME))
+    vectors.good("P3: numbers 68, 69 and 4", (68, CLEAR), (69, CLEAR), (4, CLEAR))
+    vectors.good("P4: numbers 2, 3, 1 in one packet", EXAMPLE[1], EXAMPLE[2], EXAMPLE[0])
+    vectors.good("P5: Modify 500 with bit 0 set", (6, MODIFY, {"flags": 1}))
+    vectors.good("P6: Modify 500 with bit 0 clear", (6, MODIFY, {"flags": 0}))
+    vectors.good("P7: execution of 100, then 500 again",
+                 (6, EXECUTION, {"size": 100}), (7, ADD, {"order": 500}))
+    vectors.good("P8: execution of 101", (6, EXECUTION, {"size": 101}))
+    vectors.good("P9: bid 10.020000, offer 10.000000",
+                 (3, ADD, {"price": 10020000}),
+                 (4, ADD, {"order": 501, "side": ord("S"), "price": 10000000}))
+    vectors.good("P10: the same Add twice", (3, ADD), (4, ADD))
+    vectors.bad("P11: a 9-byte packet", 2, EXAMPLE_BYTES[0][:9])
+    vectors.bad("P12: a good record, then one with price 0", 4,
+                EXAMPLE_BYTES[0] + record(2, compose(ADD, price=0)))
+    vectors.bad("P12: a good record, then an unknown type", 3,
+                EXAMPLE_BYTES[0] + record(2, b"\x32\x98\x85\x00\x00"))
+
+
+def add_lengths_of_packets(vectors):
+    """Packets of every length that is special, and bodies that run past the end."""
+    time = record(1, compose(TIME))
+    vectors.bad("0 bytes", 1, b"")
+    for length in range(1, 10):
+        vectors.bad("%d bytes, the front of a good record" % length, 2, time[:length])
+        vectors.bad("a good record and %d stray zero bytes" % length, 2, time + bytes(length))
+        vectors.bad("a good record and %d bytes of the next" % length, 2, time + time[:length])
+    vectors.bad("10 bytes: good number, empty body", 3, record(1, b""))
+    vectors.bad("10 bytes: body of 1 past the end by 1", 2, record(1, b"", 1))
+    vectors.bad("10 bytes: body of 5 past the end by 5", 2, record(1, b"", 5))
+    vectors.bad("10 bytes: body past the end by 65,535", 2, record(1, b"", 65535))
+
+    for kind in KINDS:
+        body = compose(kind)
+        vectors.bad("type %d: body past the end by 1" % kind, 2, record(1, body)[:-1])
+        vectors.bad("type %d behind a good record: the header claims 1 byte more" % kind, 2,
+                    time + record(2, body, len(body) + 1))
+    vectors.bad("a second record past the end by 65,535", 2, time + record(2, b"", 65535))
+    vectors.bad("a body of 5 that claims 256 + 5", 2, record(1, compose(TIME), 256 + 5))
+    # In 16 bits, 25 and most of these lengths would add up to a place inside the packet.
+    for claimed in (65535, 65536 - 25, 65536 - 25 + 5, 65536 - 10, 32768, 32767):
+        vectors.bad("a second record that claims %d bytes" % claimed, 2,
+                    time + record(2, compose(TIME), claimed))
+
+    # A record of System Time has 15 bytes, Delete 27, Clear 19, Add 44, Trading Status 22, and
+    # one of each kind together 373. No good packet has more than 100 records.
+    longest = [
+        vectors.good("1,500 bytes: 100 System Times",
+                     *[(number, TIME, {"seconds": 34200 + number}) for number in range(1, 101)]),
+        vectors.good("1,500 bytes: 56 records of all kinds", *[
+            (number, kind)
+            for number, kind in enumerate(KINDS * 3 + [TIME] * 21 + [ADD, STATUS], 1)]),
+        time * 99 + record(100, compose(TIME), 6),
+    ]
+    if any(len(packet) != LARGEST_PACKET for packet in longest):
+        sys.exit("a packet of 1,500 bytes has another length")
+    vectors.bad("1,500 bytes: the last body past the end by 1", 2, longest[2])
+    vectors.bad("1,501 bytes: 97 System Times, a Delete and a Clear", 1,
+                time * 97 + record(98, compose(DELETE)) + record(99, compose(CLEAR)))
+    vectors.bad("65,535 bytes: 4,369 System Times", 1, time * 4369)
+    vectors.good("a good packet behind one of 65,535 bytes", (1, TIME))
+
+
+def add_types_and_lengths(vectors):
+    """Every type byte, and every known type with every wrong length up to 64."""
+    good_bodies = {5: compose(TIME), 30: compose(MODIFY)}
+    for kind in range(256):
+        if kind in LAYOUT:
+            vectors.good("type %d with its own length" % kind, (1, kind))
+        else:
+            length = (5, 30)[kind % 2]
+            vectors.bad("type %d with length %d" % (kind, length), 3,
+                        record(1, bytes([kind]) + good_bodies[length][1:]))
+    for length in (1, 9, 12, 15, 17, 31, 34, 38, 42):
+        vectors.bad("type 0 with length %d" % length, 3,
+                    record(1, (bytes(1) + compose(UPDATE)[1:])[:length]))
+    vectors.bad("an empty body before a good record", 3,
+                record(1, b"") + record(2, compose(TIME)))
+    for kind in KINDS:
+        body = compose(kind)
+        for length in range(1, 65):  # length 0 has no type byte and stands above
+            if length != len(body):
+                vectors.bad("type %d with wrong length %d" % (kind, length), 3,
+                            record(1, (body + bytes(64))[:length]))
+    for kind in (TIME, ADD, CANCEL):
+        body = compose(kind)
+        vectors.bad("type %d with 256 bytes too many" % kind, 3, record(1, body + bytes(256)))
+
+
+def add_judged_fields(vectors):
+    """Each judged field at the ends of its range and beyond, in every message that has it."""
+    prices = {0: False, 1: True, 2**32: True, 10**15: True, 10**15 + 1: False, 2**50: False,
+              2**56: False, 2**64 - 1: False}
+    sizes = {0: False, 1: True, 2**24: True, 2**32 - 1: True}
+    for kind in (ADD, MODIFY, EXECUTION, TRADE, CANCEL):
+        for price, in_order in prices.items():
+            vectors.judge("type %d, price %d" % (kind, price), in_order, 1, kind,
+                          {"price": price})
+        for size, in_order in sizes.items():
+            vectors.judge("type %d, size %d" % (kind, size), in_order, 1, kind, {"size": size})
+    good_letters = {
+        "side": "B S".split(),
+        "test": "Y N".split(),
+        "market": "A B C H I J K L M N P Q U V W X Y Z".split(),
+    }
+    for kind, field in ((ADD, "side"), (UPDATE, "test"), (UPDATE, "market")):
+        for byte in range(256):
+            vectors.judge("type %d, %s byte %d" % (kind, field, byte),
+                          chr(byte) in good_letters[field], 1, kind, {field: byte})
+    for byte in range(256):
+        vectors.judge("type 21, flags %d" % byte, byte in (0, 1), 1, MODIFY, {"flags": byte})
+
+
+def add_fields_not_judged(vectors):
+    """Every field without a range, at its smallest and its largest value."""
+    for kind in KINDS:
+        smallest, largest = {}, {}
+        for field, width, usual in LAYOUT[kind]:
+            if (kind, field) not in JUDGED:
+                letters = isinstance(usual, bytes)
+                smallest[field] = bytes(width) if letters else 0
+                largest[field] = bytes([255] * width) if letters else 256**width - 1
+        vectors.good("type %d, all that is not judged smallest" % kind, (1, kind, smallest))
+        vectors.good("type %d, all that is not judged largest" % kind, (1, kind, largest))
+    vectors.good("a whole second of nanoseconds", *[
+        (number, kind, {"nanoseconds": 10**9})
+        for number, kind in enumerate(KINDS, 1) if kind != TIME])
+    for byte in (2, 4, 8, 128):
+        vectors.good("flags %d in Execution and Trade" % byte,
+                     (1, EXECUTION, {"flags": byte}), (2, TRADE, {"flags": byte}))
+    vectors.good("byte 20 of a Symbol Update is no type here",
+                 *[(1, UPDATE, {"reserved20": byte}) for byte in b"EFG "])
+    vectors.good("tickers", *[(1, UPDATE, {"ticker": ticker}) for ticker in (
+        b"           ", b"A          ", b"ABCDEFGHIJK", b"\x00BC   \x7f\n   ")])
+    vectors.good("attributable IDs", *[(1, ADD, {"attributable": little(name)}) for name in (
+        b"RTAL", b"    ", b"ABCD", b"\x01\x02\x03\x04")])
+    vectors.good("an opening after the closing, and no times at all",
+                 (1, UPDATE, {"opening": b"16:00:00", "closing": b"09:30:00"}),
+                 (2, UPDATE, {"opening": b"99:99:99", "closing": b"        "}))
+
+
+def add_numbers(vectors):
+    """Sequence numbers at and beyond both ends."""
+    for number in (1, 2, 255, 256, 2**16, 2**31, 2**32 - 1, 2**32, 2**39, 10**12 - 1, 10**12):
+        vectors.good("number %d" % number, (number, TIME))
+    for number in (0, 10**12 + 1, 2**40, 2**40 + 1, 2**56, 2**63, 2**64 - 1):
+        vectors.bad("number %d" % number, 5, record(number, compose(TIME)))
+    vectors.good("numbers fall and repeat", (9, TIME), (3, CLEAR), (3, CLEAR), (10**12, TIME))
+
+
+def add_several_faults(vectors):
+    """More than one fault in a record or in a packet: the stated order decides."""
+    add = compose(ADD)
+    for number in (0, 10**12 + 1):
+        vectors.bad("2 with 5: bad number %d, body past the end" % number, 2,
+                    record(number, add)[:-1])
+        vectors.bad("5 with 3: bad number %d, empty body" % number, 5, record(number, b""))
+        vectors.bad("5 with 3: bad number %d, unknown type" % number, 5,
+                    record(number, b"\x02" + add[1:]))
+        vectors.bad("5 with 3: bad number %d, wrong length" % number, 5,
+                    record(number, add + b"\x00"))
+        vectors.bad("5 with 4: bad number %d, price 0" % number, 5,
+                    record(number, compose(ADD, price=0)))
+        vectors.bad("2 with 5 and 3: bad number %d, unknown type past the end" % number, 2,
+                    record(number, b"\x02" + add[1:])[:-1])
+        vectors.bad("5 with 3 and 4: bad number %d, wrong length, price 0" % number, 5,
+                    record(number, compose(ADD, price=0)[:-1]))
+    for length in (8, 9):
+        vectors.bad("2 with 5: number 0 and %d header bytes" % length, 2, bytes(length))
+    vectors.bad("2 with 5: the largest number and 9 header bytes", 2, b"\xff" * 9)
+    vectors.bad("2 with 5: all bytes 255", 2, b"\xff" * 40)
+    vectors.bad("2 with 3: unknown type, body past the end", 2, record(1, b"\x02", 5))
+    vectors.bad("2 with 3: a known type, a wrong length, past the end", 2, record(1, add, 35))
+    vectors.bad("2 with 3: a whole Add whose header claims 42 bytes", 2, record(1, add, 42))
+    vectors.bad("2 with 4: side X, body past the end", 2,
+                record(1, compose(ADD, side=ord("X")))[:-1])
+    vectors.bad("2 with 4: price 0, body past the end", 2, record(1, compose(ADD, price=0))[:-1])
+    vectors.bad("2 with 5 and 4: number 0, price 0, body past the end", 2,
+                record(0, compose(ADD, price=0))[:-1])
+    vectors.bad("3 with 4: price 0 and a byte too many", 3,
+                record(1, compose(ADD, price=0) + b"\x00"))
+    vectors.bad("3 with 4: price 0 and a byte too few", 3, record(1, compose(ADD, price=0)[:-1]))
+    vectors.bad("3 with 4: side X and half a body", 3,
+                record(1, compose(ADD, side=ord("X"))[:20]))
+    vectors.bad("3 with 4: an unknown type and price 0", 3,
+                record(1, b"\x16" + compose(ADD, price=0)[1:]))
+    vectors.bad("4 with 4: side X, price 0, size 0", 4,
+                record(1, compose(ADD, side=ord("X"), price=0, size=0)))
+    vectors.bad("4 with 4: bad test and bad market", 4,
+                record(1, compose(UPDATE, test=0, market=0)))
+    vectors.bad("4 with 4: price 0, size 0, flags 255 in a Modify", 4,
+                record(1, compose(MODIFY, price=0, size=0, flags=255)))
+    vectors.bad("4: price 0 in an Execution with flags 255", 4,
+                record(1, compose(EXECUTION, price=0, flags=255)))
+
+    good = record(1, compose(TIME))
+    # A fault, its refusal, and the bytes of a record that has it and nothing behind it.
+    faults = [
+        ("three stray bytes", 2, b"\x01\x00\x00"),
+        ("body past the end", 2, good[:-1]),
+        ("number 0", 5, record(0, compose(TIME))),
+        ("number 10^12 + 1", 5, record(10**12 + 1, compose(TIME))),
+        ("empty body", 3, record(2, b"")),
+        ("unknown type", 3, record(2, b"\x00" + compose(TIME)[1:])),
+        ("wrong length", 3, record(2, compose(TIME) + b"\x00")),
+        ("price 0", 4, record(2, compose(MODIFY, price=0))),
+    ]
+    for label, refusal, part in faults:
+        vectors.bad("good, then " + label, refusal, good + part)
+        vectors.bad("good, good, then " + label, refusal, good + record(2, compose(CLEAR)) + part)
+        if refusal == 2:
+            continue  # nothing can stand behind these
+        vectors.bad(label + ", then good", refusal, part + good)
+        vectors.bad("good, then " + label + ", then good", refusal, good + part + good)
+        for other, _, behind in faults:
+            vectors.bad(label + ", then " + other, refusal, part + behind)
+    vectors.bad("a record past the end takes a record of number 0 with it", 2,
+                record(1, add, 200) + record(0, add))
+    vectors.bad("a body of wrong length takes a good record with it", 3,
+                record(1, compose(TIME) + good))
+    vectors.bad("an Add whose header claims the 17 bytes of a Delete", 3, record(1, add, 17))
+    vectors.bad("4, then 3, then 5, then 2", 4, faults[7][2] + faults[5][2] + faults[2][2] + b"1")
+    vectors.bad("good, 3, 5, 4, 2", 3, good + faults[4][2] + faults[3][2] + faults[7][2] + b"1")
+    vectors.bad("good, 5, 4, 3, good", 5, good + faults[2][2] + faults[7][2] + faults[4][2] + good)
+
+
+def random_records(dice, count):
+    """Up to `count` good records that fit in a packet, numbered on or at random."""
+    records, room = [], LARGEST_PACKET
+    number = dice.spread(1, LARGEST_NUMBER - 100)
+    for _ in range(count):
+        kind, changes = dice.message()
+        room -= len(record(number, compose(kind, **changes)))
+        if room < 0:
+            break
+        records.append((number, kind, changes))
+        number = dice.spread(1, LARGEST_NUMBER - 100) if dice.below(4) == 0 else number + 1
+    return records
+
+
+def damage(dice, packet):
+    """A damaged copy: a byte changed, bytes cut off, taken out or put in, or bytes behind."""
+    starts = [0]
+    while starts[-1] < len(packet):
+        starts.append(starts[-1] + HEADER + little(packet[starts[-1] + 8:starts[-1] + HEADER]))
+    start = dice.pick(starts[:-1])
+    at = dice.below(len(packet))
+    way = dice.below(10)
+    if way < 2:  # any byte to any other
+        return packet[:at] + bytes([packet[at] ^ dice.between(1, 255)]) + packet[at + 1:]
+    if way < 5:  # a bit of a header or of a type byte
+        at = start + dice.below(HEADER + 1)
+        return packet[:at] + bytes([packet[at] ^ 1 << dice.below(8)]) + packet[at + 1:]
+    if way < 7:  # up to 8 bytes of a body to zero or to 255
+        at = start + HEADER + 1 + dice.below(len(packet) - start - HEADER - 1)
+        end = min(len(packet), at + dice.between(1, 8))
+        return packet[:at] + dice.pick([b"\x00", b"\xff"]) * (end - at) + packet[end:]
+    if way == 7:  # the end cut off
+        return packet[:-dice.pick([1, 1, 1, 5, 9, 10, 11])]
+    if way == 8:  # bytes behind
+        return packet + bytes(dice.below(256) for _ in range(dice.between(1, 20)))
+    if dice.below(2) == 0:  # a byte taken out
+        return packet[:at] + packet[at + 1:]
+    return packet[:at] + bytes([dice.below(256)]) + packet[at:]  # a byte put in
+
+
+def add_random(vectors):
+    """Random good packets, and damaged copies of such packets."""
+    dice = Dice(20230925)
+    sizes = [40, 25, 12, 8, 7, 6, 5, 4] + [1 + turn % 7 // 4 for turn in range(172)]
+    for turn, count in enumerate(sizes):
+        vectors.good("random good packet %d" % (turn + 1), *random_records(dice, count))
+    for turn in range(250):
+        packet = b"".join(record(number, compose(kind, **changes))
+                          for number, kind, changes in random_records(dice, 1 + turn % 2))
+        vectors.unstated("damaged packet %d" % (turn + 1), damage(dice, packet))
+
+
+def all_vectors():
+    """All packets, with the reader, the composer and the stated lines compared."""
+    for kind, (name, length, _) in MESSAGES.items():
+        if len(compose(kind)) != length:
+            sys.exit("%s: the composer and the reader disagree on its length" % name)
+    vectors = Vectors()
+    add_exercises(vectors)
+    add_lengths_of_packets(vectors)
+    add_types_and_lengths(vectors)
+    add_judged_fields(vectors)
+    add_fields_not_judged(vectors)
+    add_numbers(vectors)
+    add_several_faults(vectors)
+    add_random(vectors)
+    for place, vector in enumerate(vectors.list, 1):
+        lines = expected_lines(vector.packet)
+        if vector.stated is not None and lines != vector.stated:
+            sys.exit("packet %d (%s): the reader gives %s, stated is %s" % (
+                place, vector.label, lines, vector.stated))
+        if lines[0].startswith("records"):
+            again = b"".join(record(number, compose(kind, **values))
+                             for number, kind, values in read_packet(vector.packet))
+            if again != vector.packet:
+                sys.exit("packet %d (%s): what was read does not compose to the same bytes" % (
+                    place, vector.label))
+    return vectors.list
+
+
+# ---------------------------------------------------------------------------------------------
+# The outputs
+# ---------------------------------------------------------------------------------------------
+
+
+def recording(vectors):
+    """All packets, each behind its 2-byte length."""
+    return b"".join(len(v.packet).to_bytes(2, "little") + v.packet for v in vectors)
+
+
+def expected_text(vectors):
+    """All lines, each ended by a line feed."""
+    lines = [line for v in vectors for line in expected_lines(v.packet)]
+    return "".join(line + "\n" for line in lines).encode("ascii")
+
+
+def check(vectors, path):
+    """Compare a file with the expected text; 0 if they are equal, else 1."""
+    with open(path, "rb") as file:
+        given = file.readlines()
+    wanted = [(place, (line + "\n").encode("ascii"))
+              for place, v in enumerate(vectors, 1) for line in expected_lines(v.packet)]
+    for index in range(max(len(given), len(wanted))):
+        line = given[index] if index < len(given) else None
+        place, want = wanted[index] if index < len(wanted) else (None, None)
+        if line == want:
+            continue
+        print("line %d differs" % (index + 1))
+        print("expected: %s" % ("no more lines" if want is None else repr(want)))
+        print("found:    %s" % ("no more lines" if line is None else repr(line)))
+        if place is not None:
+            vector = vectors[place - 1]
+            shown = vector.packet[:LARGEST_PACKET + 1]
+            print("packet %d, %d bytes: %s" % (place, len(vector.packet), vector.label))
+            print(shown.hex(" ") + (" .." if len(shown) < len(vector.packet) else ""))
+        return 1
+    print("equal: %d packets, %d lines" % (len(vectors), len(wanted)))
+    return 0
+
+
+def print_counts(vectors):
+    """The number of packets by outcome, and the sizes of both outputs."""
+    outcomes = {}
+    for vector in vectors:
+        first = expected_lines(vector.packet)[0]
+        outcome = "good" if first.startswith("records") else first
+        outcomes[outcome] = outcomes.get(outcome, 0) + 1
+    for outcome in sorted(outcomes):
+        print("%s: %d" % (outcome, outcomes[outcome]), file=sys.stderr)
+    print("packets: %d" % len(vectors), file=sys.stderr)
+    print("not stated by hand: %d" % sum(v.stated is None for v in vectors), file=sys.stderr)
+    print("bytes of stdin: %d" % len(recording(vectors)), file=sys.stderr)
+    print("bytes of stdout: %d" % len(expected_text(vectors)), file=sys.stderr)
+
+
+def main(arguments):
+    if arguments == ["stdin"]:
+        sys.stdout.buffer.write(recording(all_vectors()))
+    elif arguments == ["stdout"]:
+        sys.stdout.buffer.write(expected_text(all_vectors()))
+    elif arguments == ["counts"]:
+        print_counts(all_vectors())
+    elif len(arguments) == 2 and arguments[0] == "check":
+        return check(all_vectors(), arguments[1])
+    else:
+        print(__doc__, file=sys.stderr)
+        return 2
+    return 0
+
+
+if __name__ == "__main__":
+    sys.exit(main(sys.argv[1:]))
