@@ -2,3 +2,4 @@ pub mod Picks
 pub mod Runs
 pub mod Lists
 pub mod Searches
+pub mod PieceLaws
