@@ -3,3 +3,4 @@ pub mod Runs
 pub mod Lists
 pub mod Searches
 pub mod PieceLaws
+pub mod SumLaws
