@@ -1,14 +1,14 @@
 -- Pieces of one width, by recursion on their number: `cut` takes one piece off the front, and so does each proof.
 -- Assumes nothing.
 use mathlib.Core.Path.{_≡_, refl, sym, ap, _∙_}
-use mathlib.Core.List.{List, [], _∷_, _++_}
+use mathlib.Core.List.{List, [], _∷_, _++_, map}
 use mathlib.Core.Bool.{Bool, true, false}
 use Prim.Native.Nat.{ℕ, zero, suc, _+_, _*_, _/_, _%_, _-_, _≤_, _<_}
 use native.Mathlib.Numerals.{add-one}
 use native.Mathlib.Nat.{mul-zero, mul-suc, zero-add, mul-div-right, mul-div-le, div-add-mod, mul-le-mul-left, le-of-suc-le-suc, not-suc-le-zero, le-trans}
 use native.Mathlib.Omega.{arith}
-use lib.ListN.{length, getD, set, take, drop, replicate, length-append, length-take, length-drop, length-replicate, replicate-append-replicate}
-use lib.Seq.{sets, take-all, take-at, drop-at, take-add, drop-drop, drop-cons, take-set-le, drop-set-add, getD-take, getD-drop, set-out, length-sets, sets-eq}
+use lib.ListN.{length, getD, set, take, drop, replicate, length-append, length-take, length-drop, length-replicate, getD-replicate, replicate-append-replicate}
+use lib.Seq.{sets, take-all, take-at, drop-at, take-add, drop-drop, drop-cons, take-set-le, drop-set-add, getD-take, getD-drop, set-out, length-sets, sets-eq, ext-getD}
 use lib.Dec.{ltb}
 use borrow.Author.Tests.{lt-ltb, le-ltb, ltb-true, ltb-false}
 use Rattle.facts.specs.Pick.{pick}
@@ -123,6 +123,17 @@ module _ {A : Type 0} where
   length-join w [] h = sym (mul-zero w)
   length-join w (x ∷ xs) h = rw (length-append, mul-suc, length-join w xs (h .1), h .0) (omega arith)
 
+  wide-cut : (w n : ℕ) (t : List A) → w * n ≤ length t → Wide w (cut w n t)
+  unfolding cut
+  wide-cut w zero t h = tt
+  wide-cut w (suc n) t h =
+      let m = mul-suc w n in
+      (rw length-take (omega arith), wide-cut w n (drop w t) (rw length-drop (omega arith)))
+
+  pub wide-pieces : (w : ℕ) (t : List A) → Wide w (pieces w t)
+  unfolding pieces
+  wide-pieces w t = wide-cut w (length t / w) t (mul-div-le (length t) w)
+
   cut-join : (w : ℕ) (xs : List (List A)) → Wide w xs → cut w (length xs) (join xs) ≡ xs
   unfolding cut join
   cut-join w [] h = refl
@@ -153,3 +164,38 @@ module _ {A : Type 0} where
   pub pieces-replicate : (w n : ℕ) (a : A) → pieces w (replicate n a) ≡ replicate (n / w) (replicate w a)
   unfolding pieces
   pieces-replicate w n a = rw length-replicate (cut-replicate w (n / w) n a (mul-div-le n w))
+
+  -- a list that holds it at each place
+  pub is-replicate : (a d : A) (l : List A) → ((k : ℕ) → k < length l → getD l k d ≡ a) → l ≡ replicate (length l) a
+  is-replicate a d l h =
+      ext-getD d l (replicate (length l) a) (sym (length-replicate (length l) a))
+      (λ k lt. h k lt ∙ sym (getD-replicate (length l) k a d lt))
+
+pub map-set : {A B : Type 0} (f : A → B) (l : List A) (i : ℕ) (x : A) → map f (set l i x) ≡ set (map f l) i (f x)
+map-set f [] i x = refl
+map-set f (y ∷ l) zero x = refl
+map-set f (y ∷ l) (suc i) x = rw (map-set f l i x)
+
+-- ---- pieces read as values, and values written as pieces
+module _ {A B : Type 0} (w : ℕ) (of : List A → B) (to : B → List A) where
+  pub values-put : ((b : B) → length (to b) ≡ w) → ((b : B) → of (to b) ≡ b)
+      → (t : List A) (i : ℕ) (b : B) → map of (pieces w (putPiece w t i (to b))) ≡ set (map of (pieces w t)) i b
+  values-put wide back t i b = rw (pieces-put w t i (to b) (wide b), map-set, back)
+
+  pub wide-map : ((b : B) → length (to b) ≡ w) → (bs : List B) → Wide w (map to bs)
+  wide-map wide [] = tt
+  wide-map wide (b ∷ bs) = (wide b, wide-map wide bs)
+
+  map-back : ((b : B) → of (to b) ≡ b) → (bs : List B) → map of (map to bs) ≡ bs
+  map-back back [] = refl
+  map-back back (b ∷ bs) = rw (back b, map-back back bs)
+
+  pub values-join : 0 < w → ((b : B) → length (to b) ≡ w) → ((b : B) → of (to b) ≡ b) → (bs : List B) → map of (pieces w (join (map to bs))) ≡ bs
+  values-join p wide back bs = rw (pieces-join w (map to bs) p (wide-map wide bs)) (map-back back bs)
+
+  map-forth : ((x : List A) → length x ≡ w → to (of x) ≡ x) → (xs : List (List A)) → Wide w xs → map to (map of xs) ≡ xs
+  map-forth forth [] h = refl
+  map-forth forth (x ∷ xs) h = rw (forth x (h .0), map-forth forth xs (h .1))
+
+  pub join-values : ((x : List A) → length x ≡ w → to (of x) ≡ x) → (t : List A) → length t % w ≡ 0 → join (map to (map of (pieces w t))) ≡ t
+  join-values forth t h = rw (map-forth forth (pieces w t) (wide-pieces w t)) (join-pieces w t h)
