@@ -1,3 +1,6 @@
 pub mod Picks
 pub mod Runs
 pub mod Lists
+pub mod Searches
+pub mod PieceLaws
+pub mod SumLaws

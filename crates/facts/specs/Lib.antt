@@ -1,2 +1,4 @@
 pub mod Pick
 pub mod Search
+pub mod Pieces
+pub mod Sums

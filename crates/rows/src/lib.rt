@@ -1,0 +1,214 @@
+// The order table: five numbers to a row. Each function answers for any table, any place and any row; only `row_in` and `put_row` know where a number lies.
+ghost use mathlib.Core.Path.{_≡_};
+ghost use Prim.Native.Nat.{_/_, _<_};
+ghost use lib.ListN.{length, getD, replicate};
+ghost use Rattle.rows.specs.Rows.{rows, putRow, zeroRow, free, live, goodRows};
+ghost use Rattle.rows.specs.Find.{isOrder, findOrder, findFree, ofSymbol, ofKey, countLive};
+use facts::Found;
+
+// The most rows of a table.
+const MAX_ROWS: usize = 1600;
+
+// key: the symbol ID times 2 plus the side, buy 0 and sell 1.
+pub struct Row {
+    pub order: u64,
+    pub key: u64,
+    pub price: u64,
+    pub size: u64,
+    pub rank: u64,
+}
+
+pub fn zero_row() -> Row
+    ensures { λ r. ⌜ r ≡ zeroRow ⌝ }
+{
+    Row {
+        order: 0,
+        key: 0,
+        price: 0,
+        size: 0,
+        rank: 0,
+    }
+}
+
+// A row that is there.
+fn row_in(t: &[u64], i: usize) -> Row
+    requires { ⌜ i < length (now t) / 5 ⌝ }
+    ensures { λ r. ⌜ r ≡ getD (rows (now (t .entry))) i zeroRow ⌝ }
+{
+    let b = 5 * i;
+    Row {
+        order: t[b],
+        key: t[b + 1],
+        price: t[b + 2],
+        size: t[b + 3],
+        rank: t[b + 4],
+    }
+}
+
+pub fn row_at(t: &[u64], i: usize) -> Row
+    ensures { λ r. ⌜ r ≡ getD (rows (now (t .entry))) i zeroRow ⌝ }
+{
+    if i < t.len() / 5 {
+        row_in(t, i)
+    } else {
+        zero_row()
+    }
+}
+
+pub fn put_row(t: &mut [u64], i: usize, r: Row)
+    ensures { λ _. ⌜ now (t .exit) ≡ putRow (now (t .entry)) i r ⌝ }
+{
+    if t.len() / 5 <= i {
+        return;
+    }
+    let b = 5 * i;
+    t[b] = r.order;
+    t[b + 1] = r.key;
+    t[b + 2] = r.price;
+    t[b + 3] = r.size;
+    t[b + 4] = r.rank;
+}
+
+pub fn is_free(r: Row) -> bool
+    ensures { λ b. ⌜ b ≡ free r ⌝ }
+{
+    if r.order != 0 {
+        return false;
+    }
+    if r.key != 0 {
+        return false;
+    }
+    if r.price != 0 {
+        return false;
+    }
+    if r.size != 0 {
+        return false;
+    }
+    if r.rank != 0 {
+        return false;
+    }
+    true
+}
+
+pub fn is_live(r: Row) -> bool
+    ensures { λ b. ⌜ b ≡ live r ⌝ }
+{
+    if r.rank < 1 {
+        return false;
+    }
+    if r.key / 2 > 4294967295 {
+        return false;
+    }
+    if r.price < 1 {
+        return false;
+    }
+    if r.price > 1000000000000000 {
+        return false;
+    }
+    if r.size < 1 {
+        return false;
+    }
+    if r.size > 4294967295 {
+        return false;
+    }
+    true
+}
+
+pub fn is_order(r: Row, id: u64) -> bool
+    ensures { λ b. ⌜ b ≡ isOrder id r ⌝ }
+{
+    if r.order != id {
+        return false;
+    }
+    is_live(r)
+}
+
+pub fn of_symbol(r: Row, symbol: u64) -> bool
+    ensures { λ b. ⌜ b ≡ ofSymbol symbol r ⌝ }
+{
+    if r.key / 2 != symbol {
+        return false;
+    }
+    is_live(r)
+}
+
+pub fn of_key(r: Row, key: u64) -> bool
+    ensures { λ b. ⌜ b ≡ ofKey key r ⌝ }
+{
+    if r.key != key {
+        return false;
+    }
+    is_live(r)
+}
+
+// A table of n numbers holds whole rows, and as many as it may.
+pub fn good_rows(n: usize) -> bool
+    ensures { λ b. ⌜ b ≡ goodRows n ⌝ }
+{
+    if n % 5 != 0 {
+        return false;
+    }
+    let k = n / 5;
+    if k < 1 {
+        return false;
+    }
+    if k > MAX_ROWS {
+        return false;
+    }
+    true
+}
+
+pub fn find_order(t: &[u64], id: u64) -> Found
+    ensures { λ r. ⌜ r ≡ findOrder id (rows (now (t .entry))) ⌝ }
+{
+    let end = t.len() / 5;
+    let mut i = 0;
+    while i < end {
+        if is_order(row_in(t, i), id) {
+            return Found::At(i);
+        }
+        i += 1;
+    }
+    Found::Nothing
+}
+
+pub fn find_free(t: &[u64]) -> Found
+    ensures { λ r. ⌜ r ≡ findFree (rows (now (t .entry))) ⌝ }
+{
+    let n = t.len() / 5;
+    let mut i = 0;
+    while i < n {
+        if is_free(row_in(t, i)) {
+            return Found::At(i);
+        }
+        i += 1;
+    }
+    Found::Nothing
+}
+
+// Every number of a table of any length.
+pub fn wipe_rows(t: &mut [u64])
+    ensures { λ _. ⌜ now (t .exit) ≡ replicate (length (now (t .entry))) 0 ⌝ }
+{
+    let n = t.len();
+    let mut i = 0;
+    while i < n {
+        t[i] = 0;
+        i += 1;
+    }
+}
+
+pub fn count_live(t: &[u64]) -> usize
+    ensures { λ r. ⌜ r ≡ countLive (rows (now (t .entry))) ⌝ }
+{
+    let n = t.len() / 5;
+    let mut count: usize = 0;
+    let mut i = 0;
+    while i < n {
+        if is_live(row_in(t, i)) {
+            count += 1;
+        }
+        i += 1;
+    }
+    count
+}
