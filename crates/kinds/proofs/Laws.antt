@@ -15,33 +15,28 @@ use Rattle.facts.specs.Pick.{pick, both}
 use Rattle.facts.proofs.Picks.{both-true}
 use Rattle.kinds.specs.Table.{table, lookup, lengthOf, kindOf, typeOf, kindLength, refusalOf}
 use Rattle.kinds.specs.declared.Kind.{Kind}
+use Rattle.kinds.specs.declared.Pair.{Pair}
 
 -- one pair of a table: what the search for t finds from pair i on
-pub lookup-at : (t : ℕ) (l : List ℕ) (i : ℕ) → 2 * i + 1 < length l → lookup t (drop (2 * i) l) ≡ pick (eqb t (getD l (2 * i) 0)) (getD l (2 * i + 1) 0) (lookup t (drop (2 * (i + 1)) l))
+pub lookup-at : (t : ℕ) (l : List Pair) (i : ℕ) (d : Pair) → i < length l → lookup t (drop i l) ≡ pick (eqb t (getD l i d .code)) (getD l i d .len) (lookup t (drop (i + 1) l))
 unfolding lookup
-lookup-at t l i h =
-    let a : 2 * i < length l = omega arith in
-    let b : suc (2 * i) < length l = omega arith in
-    let e : 2 * (i + 1) ≡ suc (suc (2 * i)) = omega arith in
-    rw (drop-cons l (2 * i) 0, drop-cons l (suc (2 * i)) 0, e, add-one) refl
+lookup-at t l i d h = rw (drop-cons l i d, add-one) refl
 
 -- a test of every pair of a table
-unfoldable pub pairs : (ℕ → ℕ → Bool) → List ℕ → Bool
+unfoldable pub pairs : (ℕ → ℕ → Bool) → List Pair → Bool
 pairs f [] = true
-pairs f (k ∷ []) = true
-pairs f (k ∷ n ∷ rest) = both (f k n) (pairs f rest)
+pairs f (m ∷ rest) = both (f (m .code) (m .len)) (pairs f rest)
 
 -- what the test finds of every pair holds of what a search finds
-pub lookup-rule : (f : ℕ → ℕ → Bool) (l : List ℕ) → pairs f l ≡ true → (t : ℕ) → (lookup t l ≡ 0) ⊎ (f t (lookup t l) ≡ true)
+pub lookup-rule : (f : ℕ → ℕ → Bool) (l : List Pair) → pairs f l ≡ true → (t : ℕ) → (lookup t l ≡ 0) ⊎ (f t (lookup t l) ≡ true)
 unfolding pairs lookup pick
 lookup-rule f [] h t = inl refl
-lookup-rule f (k ∷ []) h t = inl refl
-lookup-rule f (k ∷ n ∷ rest) h t =
-    let s = both-true {a = f k n} {b = pairs f rest} h in
-    go (eqb t k) refl (s .0) (lookup-rule f rest (s .1) t)
+lookup-rule f (m ∷ rest) h t =
+    let s = both-true {a = f (m .code) (m .len)} {b = pairs f rest} h in
+    go (eqb t (m .code)) refl (s .0) (lookup-rule f rest (s .1) t)
   where
-    go : (x : Bool) → eqb t k ≡ x → f k n ≡ true → (lookup t rest ≡ 0) ⊎ (f t (lookup t rest) ≡ true) → (pick x n (lookup t rest) ≡ 0) ⊎ (f t (pick x n (lookup t rest)) ≡ true)
-    go true e a b = inr (let q : t ≡ k = eqb-true t k e in rw q a)
+    go : (x : Bool) → eqb t (m .code) ≡ x → f (m .code) (m .len) ≡ true → (lookup t rest ≡ 0) ⊎ (f t (lookup t rest) ≡ true) → (pick x (m .len) (lookup t rest) ≡ 0) ⊎ (f t (pick x (m .len) (lookup t rest)) ≡ true)
+    go true e a b = inr (let q : t ≡ m .code = eqb-true t (m .code) e in rw q a)
     go false e a b = b
 
 -- the rule: a message has 1 to 42 bytes, its length is that of the kind that its type decides, and its type is that kind's
@@ -49,7 +44,7 @@ unfoldable rule : ℕ → ℕ → Bool
 rule t n = both (both (leb 1 n) (leb n 42)) (both (eqb n (kindLength (kindOf t))) (eqb t (typeOf (kindOf t))))
 
 table-rule : pairs rule table ≡ true
-unfolding pairs rule kindLength lengthOf lookup kindOf pick both
+unfolding table pairs rule kindLength lengthOf lookup kindOf pick both
 table-rule = refl
 
 -- what the table says of a type that it has

@@ -4,17 +4,20 @@ use mathlib.Core.List.{List, [], _∷_}
 use lib.Dec.{eqb}
 use Rattle.facts.specs.Pick.{pick}
 use Rattle.kinds.specs.declared.Kind.{Kind}
+use Rattle.kinds.specs.declared.Pair.{Pair}
 
--- type, length; type, length; ..: 4.1, 4.2, 4.3, 4.4, 4.5, 4.6, 4.7, 4.8, 4.9, 4.10, 4.11
-abbrev pub table : List ℕ
+abbrev pub pair : ℕ → ℕ → Pair
+pair t n = record { code = t; len = n }
+
+-- type and length, message by message: 4.1 to 4.11
+unfoldable pub table : List Pair
 table =
-    49 ∷ 5 ∷ 1 ∷ 42 ∷ 83 ∷ 15 ∷ 4 ∷ 12 ∷ 5 ∷ 9 ∷ 20 ∷ 34 ∷ 21 ∷ 30 ∷ 23 ∷ 17 ∷ 24 ∷ 38 ∷ 10 ∷ 31 ∷ 11 ∷ 30 ∷ []
+    pair 49 5 ∷ pair 1 42 ∷ pair 83 15 ∷ pair 4 12 ∷ pair 5 9 ∷ pair 20 34 ∷ pair 21 30 ∷ pair 23 17 ∷ pair 24 38 ∷ pair 10 31 ∷ pair 11 30 ∷ []
 
--- the length that a table of pairs gives a type, 0 where it has no such type
-unfoldable pub lookup : ℕ → List ℕ → ℕ
+-- the length that a table gives a type, 0 where it has no such type
+unfoldable pub lookup : ℕ → List Pair → ℕ
 lookup t [] = 0
-lookup t (k ∷ []) = 0
-lookup t (k ∷ n ∷ rest) = pick (eqb t k) n (lookup t rest)
+lookup t (m ∷ rest) = pick (eqb t (m .code)) (m .len) (lookup t rest)
 
 unfoldable pub lengthOf : ℕ → ℕ
 lengthOf t = lookup t table

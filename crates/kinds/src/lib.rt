@@ -18,30 +18,24 @@ pub enum Kind {
     Unknown,
 }
 
-// Type and length of each message, pair by pair: the one table that framing and writing read.
-const TABLE: [u8; 22] = [
-    49,
-    5,
-    1,
-    42,
-    83,
-    15,
-    4,
-    12,
-    5,
-    9,
-    20,
-    34,
-    21,
-    30,
-    23,
-    17,
-    24,
-    38,
-    10,
-    31,
-    11,
-    30,
+pub struct Pair {
+    pub code: u8,
+    pub len: u8,
+}
+
+// Type and length of each message, in the order of document 003's sections: the one table that framing and writing read.
+const TABLE: [Pair; 11] = [
+    Pair { code: 49, len: 5 },
+    Pair { code: 1, len: 42 },
+    Pair { code: 83, len: 15 },
+    Pair { code: 4, len: 12 },
+    Pair { code: 5, len: 9 },
+    Pair { code: 20, len: 34 },
+    Pair { code: 21, len: 30 },
+    Pair { code: 23, len: 17 },
+    Pair { code: 24, len: 38 },
+    Pair { code: 10, len: 31 },
+    Pair { code: 11, len: 30 },
 ];
 
 // The type byte decides the message.
@@ -70,8 +64,9 @@ pub fn length_of(t: u8) -> usize
 {
     let mut i: usize = 0;
     while i < 11 {
-        if TABLE[2 * i] == t {
-            return TABLE[2 * i + 1] as usize;
+        let m = TABLE[i];
+        if m.code == t {
+            return m.len as usize;
         }
         i = i + 1;
     }

@@ -1,20 +1,20 @@
 -- The loop keeps: the search of the whole table gives what the search of the pairs from i on gives (lookup-at is one pair).
 -- Assumes nothing.
-use mathlib.Core.Path.{_≡_, refl, sym, _∙_}
-use Prim.Native.Nat.{ℕ, _+_, _-_, _*_, _≤_}
-use native.Mathlib.Omega.{arith}
-use borrow.Author.Tests.{eq-eqb, ne-eqb, ltb-true}
-use lib.ListN.{getD, drop}
-use lib.Dec.{ltb}
-use Rattle.kinds.specs.Table.{lengthOf, lookup, table}
+use borrow.Author.Needs.{needs}
+use borrow.Author.Tests.{eq-eqb, ne-eqb}
+use Rattle.facts.specs.Pick.{pick}
+use Rattle.kinds.specs.Table.{pair}
 use Rattle.kinds.proofs.Laws.{lookup-at}
-use Rattle.facts.specs.Pick.{pick, both}
-use Rattle.facts.proofs.Runs.{run, in-run}
+use mathlib.Core.Path.{_≡_, refl, sym, _∙_}
+use Prim.Native.Nat.{ℕ, _+_, _-_, _≤_}
+use native.Mathlib.Omega.{arith}
+use lib.ListN.{getD, drop}
+use Rattle.kinds.specs.Table.{lengthOf, lookup, table}
 use Rattle.kinds.proofs.length_of.Statement.{statement}
 use Rattle.kinds.proofs.length_of.Tie as tie
 
 abbrev Inv-loop : tie.InvT-loop
-Inv-loop t i₀ i = (i ≤ 11) × (lengthOf t ≡ lookup t (drop (2 * i) table))
+Inv-loop t i₀ i = (i ≤ 11) × (lengthOf t ≡ lookup t (drop i table))
 
 abbrev μ-loop : tie.MeasureT-loop
 μ-loop t i₀ i = 11 - i
@@ -23,51 +23,39 @@ loop-holds : tie.Need-loop-holds Inv-loop μ-loop
 unfolding lengthOf
 loop-holds c = (omega arith, refl)
 
-mul-if1 : tie.Need-mul-if1 Inv-loop μ-loop
-mul-if1 c = omega arith
+mul-m : tie.Need-mul-m Inv-loop μ-loop
+mul-m c = search needs
 
-array-read-if1 : tie.Need-array-read-if1 Inv-loop μ-loop
-array-read-if1 c = omega arith
-
-mul-result : tie.Need-mul-result Inv-loop μ-loop
-mul-result c = omega arith
-
-add-result : tie.Need-add-result Inv-loop μ-loop
-add-result c = omega arith
-
-array-read-result : tie.Need-array-read-result Inv-loop μ-loop
-array-read-result c = omega arith
+array-copy-out-m : tie.Need-array-copy-out-m Inv-loop μ-loop
+array-copy-out-m c = search needs
 
 cast-result : tie.Need-cast-result Inv-loop μ-loop
-unfolding run both
-cast-result c =
-    let i = c .before .before .loop .i in
-    omega (arith, ltb-true (getD table (2 * i + 1) 0) 256 (in-run (λ k. ltb (getD table k 0) 256) 0 22 refl (2 * i + 1) (omega arith) (omega arith)))
+cast-result c = search needs
 
 returns : tie.Need-returns Inv-loop μ-loop
-unfolding pick
+unfolding table pick
 returns c =
-    let l = c .before .before .loop in
-    let t = c .before .before .before .args .t in
-    sym (l .inv .1 ∙ lookup-at t table (l .i) (omega arith) ∙ simp (eq-eqb t (getD table (2 * l .i) 0) (sym (c .if1 .taken))))
+    let t = c .before .before .before .before .before .before .args .t in
+    let i = c .before .before .before .before .before .loop .i in
+    sym (c .before .before .before .before .before .loop .inv .1 ∙ lookup-at t table i (pair 0 0) (omega arith) ∙ simp (eq-eqb t (getD table i (pair 0 0) .code) (sym (c .before .if1 .taken))))
 
 add-i : tie.Need-add-i Inv-loop μ-loop
-add-i c = omega arith
+add-i c = search needs
 
 loop-less : tie.Need-loop-less Inv-loop μ-loop
-loop-less c = omega arith
+loop-less c = search needs
 
 loop-again : tie.Need-loop-again Inv-loop μ-loop
-unfolding pick
+unfolding table pick
 loop-again c =
-    let l = c .before .before .loop in
-    let t = c .before .before .before .args .t in (
+    let t = c .before .before .before .before .before .args .t in
+    let i = c .before .before .before .before .loop .i in (
       omega arith,
-      l .inv .1 ∙ lookup-at t table (l .i) (omega arith) ∙ simp (ne-eqb t (getD table (2 * l .i) 0) (λ e. c .if1 .left (sym e))),
+      c .before .before .before .before .loop .inv .1 ∙ lookup-at t table i (pair 0 0) (omega arith) ∙ simp (ne-eqb t (getD table i (pair 0 0) .code) (λ e. c .if1 .left (sym e))),
     )
 
 returns-2 : tie.Need-returns-2 Inv-loop μ-loop
-unfolding lookup
+unfolding lookup table
 returns-2 c =
     let e : c .before .loop .i ≡ 11 = omega arith in
     sym (rw e at (c .before .loop .inv .1))
@@ -79,11 +67,8 @@ length-of-spec =
     Inv-loop
     μ-loop
     loop-holds
-    mul-if1
-    array-read-if1
-    mul-result
-    add-result
-    array-read-result
+    mul-m
+    array-copy-out-m
     cast-result
     returns
     add-i
