@@ -6,9 +6,9 @@ use mathlib.Core.Bool.{Bool, true, false}
 use Prim.Native.Nat.{ℕ, suc, _+_, _*_, _/_, _%_, _≤_, _<_}
 use native.Mathlib.Nat.{add-zero, sub-zero}
 use native.Mathlib.Omega.{arith}
-use lib.ListN.{length, getD, set, drop, length-map, List·getD-map, List·getD-eq-default}
-use lib.Dec.{eqb}
-use borrow.Author.Tests.{le-leb, lt-ltb, eq-eqb, ne-eqb, leb-true, ltb-true, eqb-true}
+use lib.ListN.{length, getD, set, take, drop, replicate, length-map, List·getD-map, List·getD-eq-default}
+use lib.Dec.{ltb, eqb}
+use borrow.Author.Tests.{le-leb, lt-ltb, eq-eqb, ne-eqb, leb-true, ltb-true, ltb-false, eqb-true}
 use Rattle.facts.specs.Pick.{both, either}
 use Rattle.facts.specs.Pieces.{pieces}
 use Rattle.facts.specs.Search.{first}
@@ -17,7 +17,7 @@ use Rattle.facts.specs.declared.Found.the-variants.{At, Nothing}
 use Rattle.facts.proofs.Picks.{both-true}
 use Rattle.facts.proofs.Searches.{first-hit, first-miss, first-end, first-at}
 use Rattle.facts.proofs.SumLaws.{sum-step, sum-end, only-yes, only-no}
-use Rattle.facts.proofs.PieceLaws.{length-pieces, getD-pieces, getD-piece, put-in, put-out, length-put, length-join, wide-map, values-put, values-join, join-values}
+use Rattle.facts.proofs.PieceLaws.{length-pieces, getD-pieces, getD-piece, put-in, put-out, length-put, put-self, pieces-replicate, map-replicate, length-piece, length-join, wide-map, values-put, values-join, join-values}
 use Rattle.rows.specs.declared.Row.{Row}
 use Rattle.rows.specs.Rows.{rowOf, numbersOf, rows, flat, putRow, zeroRow, symbolOf, free, live, spoiled, maxRows, goodRows}
 use Rattle.rows.specs.Find.{isOrder, findOrder, findFree, ofSymbol, ofKey}
@@ -72,6 +72,10 @@ rows-put t i r = values-put 5 rowOf numbersOf length-numbers row-numbers t i r
 pub put-flat : (t : List ℕ) (i : ℕ) (r : Row) → length t % 5 ≡ 0 → putRow t i r ≡ flat (set (rows t) i r)
 put-flat t i r h = sym (flat-rows (putRow t i r) (rw length-put-row h)) ∙ ap flat (rows-put t i r)
 
+pub rows-zero : (n : ℕ) → rows (replicate n 0) ≡ replicate (n / 5) zeroRow
+unfolding rows rowOf zeroRow
+rows-zero n = rw (pieces-replicate {A = ℕ} 5 n 0) (map-replicate rowOf (n / 5) (replicate 5 0))
+
 -- ---- where the numbers lie
 pub getD-rows : (t : List ℕ) (i : ℕ) → getD (rows t) i zeroRow ≡ rowOf (getD (pieces 5 t) i [])
 unfolding rows rowOf zeroRow
@@ -106,6 +110,17 @@ row-written t i r h =
 pub put-past : (t : List ℕ) (i : ℕ) (r : Row) → length t / 5 ≤ i → putRow t i r ≡ t
 unfolding putRow
 put-past t i r h = put-out 5 t i (numbersOf r) h
+
+-- a row put where it lies already
+pub put-row-self : (t : List ℕ) (i : ℕ) → putRow t i (getD (rows t) i zeroRow) ≡ t
+unfolding putRow
+put-row-self t i = go (ltb i (length t / 5)) refl
+  where
+    go : (b : Bool) → ltb i (length t / 5) ≡ b → putRow t i (getD (rows t) i zeroRow) ≡ t
+    go true e =
+        let h : i < length t / 5 = ltb-true i (length t / 5) e in
+        rw (getD-rows t i, getD-pieces 5 t i [] h, numbers-row (take 5 (drop (5 * i) t)) (length-piece 5 t i h)) (put-self 5 t i)
+    go false e = put-past t i (getD (rows t) i zeroRow) (ltb-false i (length t / 5) e)
 
 -- ---- free
 -- a test that cannot hold
