@@ -55,3 +55,14 @@ module _ {A : Type 0} where
   pub only-no : (p : A → Bool) (f : A → ℕ) (x : A) → p x ≡ false → onlyIf p f x ≡ 0
   unfolding onlyIf pick
   only-no p f x e = rw e
+
+  -- ---- sums of sums
+  pub sum-zero : (xs : List A) → sumBy (λ (x : A). 0) xs ≡ 0
+  unfolding sumBy
+  sum-zero [] = refl
+  sum-zero (x ∷ xs) = omega (arith, sum-zero xs)
+
+  pub sum-add : (f g : A → ℕ) (xs : List A) → sumBy (λ x. f x + g x) xs ≡ sumBy f xs + sumBy g xs
+  unfolding sumBy
+  sum-add f g [] = refl
+  sum-add f g (x ∷ xs) = omega (arith, sum-add f g xs)
