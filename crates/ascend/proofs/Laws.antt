@@ -9,6 +9,7 @@ use lib.ListN.{length}
 use lib.Dec.{ltb, leb, eqb}
 use borrow.Author.Tests.{le-leb, lt-leb, ltb-true, ltb-false, leb-true, leb-false, eqb-true, eqb-false, ne-eqb}
 use Rattle.facts.specs.Pick.{pick, either}
+use Rattle.facts.proofs.Picks.{pick-ind}
 use Rattle.ascend.specs.Ascend.{ins, leastFrom, fromOn, has}
 
 -- ascending from b on; E holds of what follows the last
@@ -33,15 +34,15 @@ rising-down T b c (x ∷ xs) h r = (omega arith, r .1)
 
 -- ---- an insertion
 ins-run : (E : ℕ → Type 0) (d b : ℕ) (xs : List ℕ) → E (suc d) → b ≤ d → Run E b xs → Run E b (ins d xs)
-unfolding ins pick
+unfolding ins
 ins-run E d b [] t h r = (h, t)
-ins-run E d b (x ∷ xs) t h r = go (λ k. ins-run E d (suc x) xs t k (r .1)) (ltb d x) refl (eqb d x) refl
-  where
-    go : (suc x ≤ d → Run E (suc x) (ins d xs)) → (p : Bool) → ltb d x ≡ p → (q : Bool) → eqb d x ≡ q
-        → Run E b (pick p (d ∷ x ∷ xs) (pick q (x ∷ xs) (x ∷ ins d xs)))
-    go rec true e q f = (h, (ltb-true d x e, r .1))
-    go rec false e true f = r
-    go rec false e false f = (r .0, rec (omega (arith, ltb-false d x e, eqb-false d x f)))
+ins-run E d b (x ∷ xs) t h r =
+    pick-ind (Run E b) (ltb d x) _ _
+    (λ e. (h, (ltb-true d x e, r .1)))
+    (λ e.
+    pick-ind (Run E b) (eqb d x) _ _
+    (λ f. r)
+    (λ f. (r .0, ins-run E d (suc x) xs t (omega (arith, ltb-false d x e, eqb-false d x f)) (r .1))))
 
 pub ins-ascends : (d b : ℕ) (xs : List ℕ) → b ≤ d → Ascends b xs → Ascends b (ins d xs)
 ins-ascends d b xs h r = ins-run (λ e. Unit {0}) d b xs tt h r
@@ -50,24 +51,18 @@ pub ins-rising : (T d b : ℕ) (xs : List ℕ) → d < T → b ≤ d → Rising 
 ins-rising T d b xs t h r = ins-run (λ e. e ≤ T) d b xs t h r
 
 pub ins-length : (d : ℕ) (xs : List ℕ) → length (ins d xs) ≤ suc (length xs)
-unfolding ins pick
+unfolding ins
 ins-length d [] = omega arith
-ins-length d (x ∷ xs) = go (ins-length d xs) (ltb d x) (eqb d x)
-  where
-    go : length (ins d xs) ≤ suc (length xs) → (p q : Bool) → length (pick p (d ∷ x ∷ xs) (pick q (x ∷ xs) (x ∷ ins d xs))) ≤ suc (length (x ∷ xs))
-    go rec true q = omega arith
-    go rec false true = omega arith
-    go rec false false = omega arith
+ins-length d (x ∷ xs) =
+    pick-ind (λ (l : List ℕ). length l ≤ suc (suc (length xs))) (ltb d x) _ _
+    (λ e. omega arith)
+    (λ e. pick-ind (λ (l : List ℕ). length l ≤ suc (suc (length xs))) (eqb d x) _ _ (λ f. omega arith) (λ f. omega (arith, ins-length d xs)))
 
 -- ---- the least from d on, and the list from d on
 pub least-bound : (T d b : ℕ) (xs : List ℕ) → Rising T b xs → b ≤ leastFrom T d xs
-unfolding leastFrom pick
+unfolding leastFrom
 least-bound T d b [] r = r
-least-bound T d b (x ∷ xs) r = go (least-bound T d (suc x) xs (r .1)) (leb d x)
-  where
-    go : suc x ≤ leastFrom T d xs → (p : Bool) → b ≤ pick p x (leastFrom T d xs)
-    go rec true = r .0
-    go rec false = omega (arith, r .0)
+least-bound T d b (x ∷ xs) r = pick-ind (λ n. b ≤ n) (leb d x) _ _ (λ e. r .0) (λ e. omega (arith, r .0, least-bound T d (suc x) xs (r .1)))
 
 lt-case : (u : Bool) (x w : ℕ) → x ≤ w → pick u x w ≡ pick u (min x w) w
 unfolding pick
@@ -100,13 +95,11 @@ ins-least T d x b (y ∷ ys) t r = go (ins-least T d x (suc y) ys t (r .1)) (ltb
     go rec false e false f = rw rec (gt-case d x y (leastFrom T d ys) (omega (arith, ltb-false x y e, eqb-false x y f)) (leb d y) (leb d x) refl refl)
 
 pub least-top : (T d b : ℕ) (xs : List ℕ) → Rising T b xs → leastFrom T d xs ≤ T
-unfolding leastFrom pick
+unfolding leastFrom
 least-top T d b [] r = omega arith
-least-top T d b (x ∷ xs) r = go (least-top T d (suc x) xs (r .1)) (leb d x)
-  where
-    go : leastFrom T d xs ≤ T → (u : Bool) → pick u x (leastFrom T d xs) ≤ T
-    go rec true = omega (arith, rec, least-bound T d (suc x) xs (r .1))
-    go rec false = rec
+least-top T d b (x ∷ xs) r =
+    let rec = least-top T d (suc x) xs (r .1) in
+    pick-ind (λ n. n ≤ T) (leb d x) _ _ (λ e. omega (arith, rec, least-bound T d (suc x) xs (r .1))) (λ e. rec)
 
 pub from-all : (T d b : ℕ) (xs : List ℕ) → Rising T b xs → d ≤ b → fromOn d xs ≡ xs
 unfolding fromOn pick

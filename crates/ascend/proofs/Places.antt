@@ -10,6 +10,7 @@ use lib.Dec.{eqb}
 use borrow.Author.Tests.{eq-eqb, ne-eqb, eqb-true, eqb-false}
 use Rattle.facts.specs.Pick.{pick, both, either}
 use Rattle.facts.specs.Sums.{sumBy, onlyIf}
+use Rattle.facts.proofs.Picks.{pick-ind}
 use Rattle.facts.proofs.SumLaws.{sum-zero, sum-add}
 use Rattle.ascend.specs.Ascend.{ins, has, anyBy, places, inPlace}
 use Rattle.ascend.proofs.Laws.{Ascends, Rising, ins-ascends, ins-rising, ins-has, ins-length, below-has}
@@ -62,22 +63,18 @@ module _ {A : Type 0} (mine : A → Bool) (place : A → ℕ) where
 
   -- ---- the places themselves
   pub places-ascend : (xs : List A) → Ascends 0 (places mine place xs)
-  unfolding places pick
+  unfolding places
   places-ascend [] = tt
-  places-ascend (x ∷ xs) = go (mine x) (places-ascend xs)
-    where
-      go : (m : Bool) → Ascends 0 (places mine place xs) → Ascends 0 (pick m (ins (place x) (places mine place xs)) (places mine place xs))
-      go true r = ins-ascends (place x) 0 (places mine place xs) (omega arith) r
-      go false r = r
+  places-ascend (x ∷ xs) =
+      let r = places-ascend xs in
+      pick-ind (Ascends 0) (mine x) _ _ (λ e. ins-ascends (place x) 0 (places mine place xs) (omega arith) r) (λ e. r)
 
   pub places-rising : (T : ℕ) (xs : List A) → All (λ x. mine x ≡ true → place x < T) xs → Rising T 0 (places mine place xs)
-  unfolding places pick
+  unfolding places
   places-rising T [] h = omega arith
-  places-rising T (x ∷ xs) h = go (mine x) refl (places-rising T xs (h .1))
-    where
-      go : (m : Bool) → mine x ≡ m → Rising T 0 (places mine place xs) → Rising T 0 (pick m (ins (place x) (places mine place xs)) (places mine place xs))
-      go true e r = ins-rising T (place x) 0 (places mine place xs) (h .0 e) (omega arith) r
-      go false e r = r
+  places-rising T (x ∷ xs) h =
+      let r = places-rising T xs (h .1) in
+      pick-ind (Rising T 0) (mine x) _ _ (λ e. ins-rising T (place x) 0 (places mine place xs) (h .0 e) (omega arith) r) (λ e. r)
 
   -- d is a place exactly if something of mine lies there
   pub places-has : (d : ℕ) (xs : List A) → has d (places mine place xs) ≡ anyBy (inPlace mine place d) xs
@@ -91,13 +88,11 @@ module _ {A : Type 0} (mine : A → Bool) (place : A → ℕ) where
       go false e = e
 
   pub places-length : (xs : List A) → length (places mine place xs) ≤ length xs
-  unfolding places pick
+  unfolding places
   places-length [] = omega arith
-  places-length (x ∷ xs) = go (mine x) (places-length xs)
-    where
-      go : (m : Bool) → length (places mine place xs) ≤ length xs → length (pick m (ins (place x) (places mine place xs)) (places mine place xs)) ≤ suc (length xs)
-      go true h = omega (arith, ins-length (place x) (places mine place xs))
-      go false h = omega arith
+  places-length (x ∷ xs) =
+      let r = places-length xs in
+      pick-ind (λ (l : List ℕ). length l ≤ suc (length xs)) (mine x) _ _ (λ e. omega (arith, ins-length (place x) (places mine place xs))) (λ e. omega arith)
 
   covered-ins : (d : ℕ) (ds : List ℕ) (xs : List A) → Covered ds xs → Covered (ins d ds) xs
   unfolding either
@@ -109,15 +104,13 @@ module _ {A : Type 0} (mine : A → Bool) (place : A → ℕ) where
       either-last false = refl
 
   pub places-covered : (xs : List A) → Covered (places mine place xs) xs
-  unfolding places either pick
+  unfolding places either
   places-covered [] = tt
-  places-covered (x ∷ xs) = go (mine x) refl (places-covered xs)
-    where
-      go : (m : Bool) → mine x ≡ m → Covered (places mine place xs) xs
-          → (m ≡ true → has (place x) (pick m (ins (place x) (places mine place xs)) (places mine place xs)) ≡ true)
-          × Covered (pick m (ins (place x) (places mine place xs)) (places mine place xs)) xs
-      go true e h = (λ k. ins-has (place x) (place x) (places mine place xs) ∙ rw (eq-eqb (place x) (place x) refl), covered-ins (place x) (places mine place xs) xs h)
-      go false e h = (λ k. (cc), h)
+  places-covered (x ∷ xs) =
+      let r = places-covered xs in
+      pick-ind (λ ds. Covered ds (x ∷ xs)) (mine x) _ _
+      (λ e. (λ m. ins-has (place x) (place x) (places mine place xs) ∙ rw (eq-eqb (place x) (place x) refl), covered-ins (place x) (places mine place xs) xs r))
+      (λ e. (λ m. (cc), r))
 
   -- what lies in each place, added up over the places, is all that is mine
   pub sum-places : (f : A → ℕ) (xs : List A)
