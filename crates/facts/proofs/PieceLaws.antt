@@ -2,16 +2,16 @@
 -- Assumes nothing.
 use mathlib.Core.Path.{_≡_, refl, sym, ap, _∙_}
 use mathlib.Core.List.{List, [], _∷_, _++_, map}
-use mathlib.Core.Bool.{Bool, true, false}
 use Prim.Native.Nat.{ℕ, zero, suc, _+_, _*_, _/_, _%_, _-_, _≤_, _<_}
 use native.Mathlib.Numerals.{add-one}
 use native.Mathlib.Nat.{mul-zero, mul-suc, zero-add, mul-div-right, mul-div-le, div-add-mod, mul-le-mul-left, le-of-suc-le-suc, not-suc-le-zero, le-trans}
 use native.Mathlib.Omega.{arith}
-use lib.ListN.{length, getD, set, take, drop, replicate, length-append, length-take, length-drop, length-replicate, getD-replicate, replicate-append-replicate}
+use lib.ListN.{length, getD, set, take, drop, replicate, length-append, length-take, length-drop, length-replicate, take-append-drop, getD-replicate, replicate-append-replicate}
 use lib.Seq.{sets, take-all, take-at, drop-at, take-add, drop-drop, drop-cons, take-set-le, drop-set-add, getD-take, getD-drop, set-out, length-sets, sets-eq, ext-getD}
 use lib.Dec.{ltb}
 use borrow.Author.Tests.{lt-ltb, le-ltb, ltb-true, ltb-false}
 use Rattle.facts.specs.Pick.{pick}
+use Rattle.facts.proofs.Picks.{pick-ind}
 use Rattle.facts.specs.Pieces.{cut, pieces, join, putPiece}
 
 module _ {A : Type 0} where
@@ -93,20 +93,26 @@ module _ {A : Type 0} where
   put-out w t i s h = rw (le-ltb i (length t / w) h)
 
   pub length-put : (w : ℕ) (t : List A) (i : ℕ) (s : List A) → length (putPiece w t i s) ≡ length t
-  unfolding putPiece pick
-  length-put w t i s = go (ltb i (length t / w))
-    where
-      go : (b : Bool) → length (pick b (sets t (w * i) s) t) ≡ length t
-      go true = length-sets t (w * i) s
-      go false = refl
+  unfolding putPiece
+  length-put w t i s = pick-ind (λ (l : List A). length l ≡ length t) (ltb i (length t / w)) _ _ (λ e. length-sets t (w * i) s) (λ e. refl)
 
   pub pieces-put : (w : ℕ) (t : List A) (i : ℕ) (s : List A) → length s ≡ w → pieces w (putPiece w t i s) ≡ set (pieces w t) i s
-  unfolding putPiece pick pieces
-  pieces-put w t i s l = go (ltb i (length t / w)) refl
-    where
-      go : (b : Bool) → ltb i (length t / w) ≡ b → pieces w (pick b (sets t (w * i) s) t) ≡ set (pieces w t) i s
-      go true e = rw length-sets (cut-sets w (length t / w) t i s l (mul-div-le (length t) w) (ltb-true i (length t / w) e))
-      go false e = sym (set-out (pieces w t) i s (rw length-pieces (ltb-false i (length t / w) e)))
+  unfolding putPiece pieces
+  pieces-put w t i s l =
+      pick-ind (λ u. pieces w u ≡ set (pieces w t) i s) (ltb i (length t / w)) _ _
+      (λ e. rw length-sets (cut-sets w (length t / w) t i s l (mul-div-le (length t) w) (ltb-true i (length t / w) e)))
+      (λ e. sym (set-out (pieces w t) i s (rw length-pieces (ltb-false i (length t / w) e))))
+
+  -- a piece put where it lies already
+  pub put-self : (w : ℕ) (t : List A) (i : ℕ) → putPiece w t i (take w (drop (w * i) t)) ≡ t
+  unfolding putPiece
+  put-self w t i =
+      pick-ind (λ u. u ≡ t) (ltb i (length t / w)) _ _
+      (λ e.
+      let h : i < length t / w = ltb-true i (length t / w) e in
+      let l : length (take w (drop (w * i) t)) ≡ w = length-piece w t i h in
+      sets-eq (take w (drop (w * i) t)) t (w * i) (rw l (piece-fits w t i h)) ∙ rw (l, ← take-add (w * i) w t) (take-append-drop (w * i + w) t))
+      (λ e. refl)
 
   -- ---- back to back
   pub join-pieces : (w : ℕ) (t : List A) → length t % w ≡ 0 → join (pieces w t) ≡ t
@@ -175,6 +181,10 @@ pub map-set : {A B : Type 0} (f : A → B) (l : List A) (i : ℕ) (x : A) → ma
 map-set f [] i x = refl
 map-set f (y ∷ l) zero x = refl
 map-set f (y ∷ l) (suc i) x = rw (map-set f l i x)
+
+pub map-replicate : {A B : Type 0} (f : A → B) (n : ℕ) (x : A) → map f (replicate n x) ≡ replicate n (f x)
+map-replicate f zero x = refl
+map-replicate f (suc n) x = rw (map-replicate f n x)
 
 -- ---- pieces read as values, and values written as pieces
 module _ {A B : Type 0} (w : ℕ) (of : List A → B) (to : B → List A) where

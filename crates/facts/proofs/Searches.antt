@@ -1,8 +1,9 @@
 -- Searches, each by the list's own recursion: how a walk from the front finds the lowest element, where it lies, and what a store changes.
 -- Assumes nothing.
-use mathlib.Core.Path.{_≡_, refl, ap, _∙_}
+use mathlib.Core.Path.{_≡_, refl, sym, ap}
 use mathlib.Core.List.{List, [], _∷_}
 use mathlib.Core.Bool.{Bool, true, false}
+use mathlib.Core.Logic.{⊎-elim}
 use Prim.Native.Nat.{ℕ, zero, suc, _+_, _-_, _≤_, _<_}
 use native.Mathlib.Numerals.{add-one}
 use native.Mathlib.Nat.{le-of-suc-le-suc, not-suc-le-zero}
@@ -11,6 +12,7 @@ use lib.ListN.{length, getD, set, drop, drop-of-length-le}
 use lib.Seq.{drop-cons}
 use Rattle.facts.specs.Pick.{pick}
 use Rattle.facts.specs.Search.{first}
+use Rattle.facts.proofs.Picks.{pick-cases}
 use Rattle.facts.specs.declared.Found.the-variants.{At, Nothing}
 
 -- ---- a walk: the search from i on, at the element i
@@ -28,45 +30,38 @@ module _ {A : Type 0} (p : A → Bool) (xs : List A) (i : ℕ) where
   first-end h = rw (drop-of-length-le xs h)
 
 -- ---- where a search ends
+never : {B : Type 0} {i : ℕ} → At i ≡ Nothing → B
+never e = let z : _≡_ {A = ℕ} 0 1 = cc in absurd (omega arith)
+
 pub first-at : {A : Type 0} (p : A → Bool) (k : ℕ) (xs : List A) (i : ℕ) (d : A) → first p k xs ≡ At i → (k ≤ i) × (i < k + length xs) × (p (getD xs (i - k) d) ≡ true)
-unfolding first pick
-first-at p k [] i d e = let z : _≡_ {A = ℕ} 0 1 = cc in absurd (omega arith)
-first-at p k (x ∷ xs) i d e = go (λ a. first-at p (suc k) xs i d a) (p x) refl e
-  where
-    go : (first p (suc k) xs ≡ At i → (suc k ≤ i) × (i < suc k + length xs) × (p (getD xs (i - suc k) d) ≡ true))
-        → (b : Bool) → p x ≡ b → pick b (At k) (first p (suc k) xs) ≡ At i → (k ≤ i) × (i < k + length (x ∷ xs)) × (p (getD (x ∷ xs) (i - k) d) ≡ true)
-    go rec true q a =
-        let ki : k ≡ i = cc in
-        let z : i - k ≡ 0 = omega arith in
-        (omega arith, omega arith, rw z q)
-    go rec false q a =
-        let ih = rec a in
-        let z : i - k ≡ suc (i - suc k) = omega (arith, ih .0) in
-        (omega (arith, ih .0), omega (arith, ih .1), rw z (ih .2))
+unfolding first
+first-at p k [] i d e = never (sym e)
+first-at p k (x ∷ xs) i d e =
+    ⊎-elim
+    (λ w.
+    let ki : k ≡ i = cc (w .1) in
+    let z : i - k ≡ 0 = omega arith in
+    (omega arith, omega arith, rw z (w .0)))
+    (λ w.
+    let ih = first-at p (suc k) xs i d (w .1) in
+    let z : i - k ≡ suc (i - suc k) = omega (arith, ih .0) in
+    (omega (arith, ih .0), omega (arith, ih .1), rw z (ih .2)))
+    (pick-cases e)
 
 -- every element before it fails
 pub first-lowest : {A : Type 0} (p : A → Bool) (k : ℕ) (xs : List A) (i j : ℕ) (d : A) → first p k xs ≡ At i → k + j < i → p (getD xs j d) ≡ false
-unfolding first pick
-first-lowest p k [] i j d e h = let z : _≡_ {A = ℕ} 0 1 = cc in absurd (omega arith)
-first-lowest p k (x ∷ xs) i j d e h = go j h (λ n l a. first-lowest p (suc k) xs i n d a l) (p x) refl e
-  where
-    go : (j : ℕ) → k + j < i → ((n : ℕ) → suc k + n < i → first p (suc k) xs ≡ At i → p (getD xs n d) ≡ false)
-        → (b : Bool) → p x ≡ b → pick b (At k) (first p (suc k) xs) ≡ At i → p (getD (x ∷ xs) j d) ≡ false
-    go j l rec true q a = let ki : k ≡ i = cc in absurd (omega arith)
-    go zero l rec false q a = q
-    go (suc n) l rec false q a = rec n (omega arith) a
+unfolding first
+first-lowest p k [] i j d e h = never (sym e)
+first-lowest p k (x ∷ xs) i zero d e h = ⊎-elim (λ w. let ki : k ≡ i = cc (w .1) in absurd (omega arith)) (λ w. w .0) (pick-cases e)
+first-lowest p k (x ∷ xs) i (suc j) d e h =
+    ⊎-elim (λ w. let ki : k ≡ i = cc (w .1) in absurd (omega arith)) (λ w. first-lowest p (suc k) xs i j d (w .1) (omega arith)) (pick-cases e)
 
 -- a search that found nothing: every element fails
 pub first-none : {A : Type 0} (p : A → Bool) (k : ℕ) (xs : List A) → first p k xs ≡ Nothing → (j : ℕ) (d : A) → j < length xs → p (getD xs j d) ≡ false
-unfolding first pick
+unfolding first
 first-none p k [] e j d h = absurd (not-suc-le-zero h)
-first-none p k (x ∷ xs) e j d h = go j h (λ n l a. first-none p (suc k) xs a n d l) (p x) refl e
-  where
-    go : (j : ℕ) → j < length (x ∷ xs) → ((n : ℕ) → n < length xs → first p (suc k) xs ≡ Nothing → p (getD xs n d) ≡ false)
-        → (b : Bool) → p x ≡ b → pick b (At k) (first p (suc k) xs) ≡ Nothing → p (getD (x ∷ xs) j d) ≡ false
-    go j l rec true q a = let z : _≡_ {A = ℕ} 0 1 = cc in absurd (omega arith)
-    go zero l rec false q a = q
-    go (suc n) l rec false q a = rec n (le-of-suc-le-suc l) a
+first-none p k (x ∷ xs) e zero d h = ⊎-elim (λ w. never (w .1)) (λ w. w .0) (pick-cases e)
+first-none p k (x ∷ xs) e (suc j) d h = ⊎-elim (λ w. never (w .1)) (λ w. first-none p (suc k) xs (w .1) j d (le-of-suc-le-suc h)) (pick-cases e)
 
 -- and the other way round
 pub none-first : {A : Type 0} (p : A → Bool) (k : ℕ) (xs : List A) (d : A) → ((j : ℕ) → j < length xs → p (getD xs j d) ≡ false) → first p k xs ≡ Nothing
@@ -86,12 +81,11 @@ pub first-set-new : {A : Type 0} (p : A → Bool) (k : ℕ) (xs : List A) (i : �
 unfolding first pick
 first-set-new p k [] i x h n e = absurd (not-suc-le-zero h)
 first-set-new p k (y ∷ xs) zero x h n e = rw e (ap At (omega arith))
-first-set-new p k (y ∷ xs) (suc i) x h n e = go (λ m. first-set-new p (suc k) xs i x (le-of-suc-le-suc h) m e) (p y) n
-  where
-    go : (first p (suc k) xs ≡ Nothing → first p (suc k) (set xs i x) ≡ At (suc k + i))
-        → (b : Bool) → pick b (At k) (first p (suc k) xs) ≡ Nothing → pick b (At k) (first p (suc k) (set xs i x)) ≡ At (k + suc i)
-    go rec true a = let z : _≡_ {A = ℕ} 0 1 = cc in absurd (omega arith)
-    go rec false a = rec a ∙ ap At (omega arith)
+first-set-new p k (y ∷ xs) (suc i) x h n e =
+    ⊎-elim
+    (λ w. never (w .1))
+    (λ w. rw (w .0, first-set-new p (suc k) xs i x (le-of-suc-le-suc h) (w .1) e) (ap At (omega arith)))
+    (pick-cases {t = p y} {x = At k} {y = first p (suc k) xs} n)
 
 -- where the element i alone could pass, and the new one does not
 pub first-set-gone : {A : Type 0} (p : A → Bool) (k : ℕ) (xs : List A) (i : ℕ) (x d : A) → ((j : ℕ) → j < length xs → p (getD xs j d) ≡ true → j ≡ i) → p x ≡ false → first p k (set xs i x) ≡ Nothing

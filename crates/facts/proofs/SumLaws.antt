@@ -10,6 +10,7 @@ use native.Mathlib.Omega.{arith}
 use lib.ListN.{length, getD, set, drop, drop-of-length-le}
 use lib.Seq.{drop-cons}
 use Rattle.facts.specs.Pick.{pick}
+use Rattle.facts.proofs.Picks.{pick-ind}
 use Rattle.facts.specs.Sums.{sumBy, onlyIf, countBy}
 
 module _ {A : Type 0} where
@@ -36,12 +37,8 @@ module _ {A : Type 0} where
   sum-bound f b h (x ∷ xs) = omega (arith, h x, sum-bound f b h xs, mul-suc b (length xs))
 
   pub only-bound : (p : A → Bool) (f : A → ℕ) (b : ℕ) → ((x : A) → p x ≡ true → f x ≤ b) → (x : A) → onlyIf p f x ≤ b
-  unfolding onlyIf pick
-  only-bound p f b h x = go (p x) refl
-    where
-      go : (t : Bool) → p x ≡ t → pick t (f x) 0 ≤ b
-      go true e = h x e
-      go false e = omega arith
+  unfolding onlyIf
+  only-bound p f b h x = pick-ind (λ n. n ≤ b) (p x) (f x) 0 (h x) (λ e. omega arith)
 
   pub count-bound : (p : A → Bool) (xs : List A) → countBy p xs ≤ length xs
   unfolding countBy
@@ -55,3 +52,14 @@ module _ {A : Type 0} where
   pub only-no : (p : A → Bool) (f : A → ℕ) (x : A) → p x ≡ false → onlyIf p f x ≡ 0
   unfolding onlyIf pick
   only-no p f x e = rw e
+
+  -- ---- sums of sums
+  pub sum-zero : (xs : List A) → sumBy (λ (x : A). 0) xs ≡ 0
+  unfolding sumBy
+  sum-zero [] = refl
+  sum-zero (x ∷ xs) = omega (arith, sum-zero xs)
+
+  pub sum-add : (f g : A → ℕ) (xs : List A) → sumBy (λ x. f x + g x) xs ≡ sumBy f xs + sumBy g xs
+  unfolding sumBy
+  sum-add f g [] = refl
+  sum-add f g (x ∷ xs) = omega (arith, sum-add f g xs)

@@ -10,7 +10,7 @@ use borrow.Author.Needs.{needs}
 use Rattle.facts.specs.Sums.{countBy}
 use Rattle.rows.specs.Rows.{rows, zeroRow, live}
 use Rattle.rows.specs.Find.{countLive}
-use Rattle.rows.proofs.Laws.{count-yes, count-no, count-end}
+use Rattle.rows.proofs.Walks.{count-yes, count-no, count-past}
 use Rattle.rows.proofs.count_live.Statement.{statement}
 use Rattle.rows.proofs.count_live.Tie as tie
 
@@ -58,7 +58,7 @@ returns : tie.Need-returns Inv-loop μ-loop
 returns c =
     let a = c .before .before .before .args in
     let l = c .before .loop in
-    omega (arith, count-end live (a .t .now) (l .i) (omega arith))
+    omega (arith, count-past live (a .t .now) (l .i) (omega arith))
 
 pub count-live-spec : {M : Type 1} → statement M
 count-live-spec =

@@ -9,7 +9,7 @@ use borrow.Author.Needs.{needs}
 use Rattle.facts.specs.Search.{first}
 use Rattle.rows.specs.Rows.{rows, zeroRow, free}
 use Rattle.rows.specs.Find.{findFree}
-use Rattle.rows.proofs.Laws.{row-hit, row-miss, row-end}
+use Rattle.rows.proofs.Walks.{row-hit, row-miss, row-end}
 use Rattle.rows.proofs.find_free.Statement.{statement}
 use Rattle.rows.proofs.find_free.Tie as tie
 

@@ -3,7 +3,7 @@
 use mathlib.Core.Path.{sym}
 use native.Mathlib.Omega.{arith}
 use Rattle.rows.specs.Rows.{maxRows}
-use Rattle.rows.proofs.Laws.{not-good, rows-good}
+use Rattle.rows.proofs.Judged.{not-good, rows-good}
 use Rattle.rows.proofs.good_rows.Statement.{statement}
 use Rattle.rows.proofs.good_rows.Tie as tie
 

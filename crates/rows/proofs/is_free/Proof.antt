@@ -2,7 +2,7 @@
 -- Assumes nothing.
 use mathlib.Core.Path.{sym}
 use native.Mathlib.Omega.{arith}
-use Rattle.rows.proofs.Laws.{not-free, zeros-free}
+use Rattle.rows.proofs.Judged.{not-free, zeros-free}
 use Rattle.rows.proofs.is_free.Statement.{statement}
 use Rattle.rows.proofs.is_free.Tie as tie
 

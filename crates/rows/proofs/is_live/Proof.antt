@@ -2,7 +2,7 @@
 -- Assumes nothing.
 use mathlib.Core.Path.{sym}
 use native.Mathlib.Omega.{arith}
-use Rattle.rows.proofs.Laws.{not-live, ranges-live}
+use Rattle.rows.proofs.Judged.{not-live, ranges-live}
 use Rattle.rows.proofs.is_live.Statement.{statement}
 use Rattle.rows.proofs.is_live.Tie as tie
 

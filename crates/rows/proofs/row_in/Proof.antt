@@ -2,7 +2,7 @@
 -- Assumes nothing.
 use native.Mathlib.Omega.{arith}
 use borrow.Author.Needs.{needs}
-use Rattle.rows.proofs.Laws.{row-read}
+use Rattle.rows.proofs.Tables.{row-read}
 use Rattle.rows.proofs.row_in.Statement.{statement}
 use Rattle.rows.proofs.row_in.Tie as tie
 

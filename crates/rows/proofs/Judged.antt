@@ -1,0 +1,152 @@
+-- Free, live and good are tests of numbers, so each is the facts that its tests name.
+-- Assumes nothing.
+use mathlib.Core.Path.{_≡_, refl, sym}
+use mathlib.Core.Bool.{Bool, true, false}
+use Prim.Native.Nat.{ℕ, _/_, _%_, _≤_, _<_}
+use native.Mathlib.Omega.{arith}
+use lib.Dec.{eqb}
+use borrow.Author.Tests.{le-leb, lt-ltb, eq-eqb, ne-eqb, leb-true, ltb-true, eqb-true}
+use Rattle.facts.specs.Pick.{both, either}
+use Rattle.facts.proofs.Picks.{both-true}
+use Rattle.rows.specs.declared.Row.{Row}
+use Rattle.rows.specs.Rows.{zeroRow, symbolOf, free, live, spoiled, maxRows, goodRows}
+use Rattle.rows.specs.Find.{isOrder, ofSymbol, ofKey}
+use Rattle.rows.proofs.Tables.{row-eq}
+
+-- ---- free
+-- a test that cannot hold
+refuted : (b : Bool) → (b ≡ true → ⊥) → false ≡ b
+refuted true h = absurd (h refl)
+refuted false h = refl
+
+pub record Zeros (r : Row) : Type 0 where
+  pub order : r .order ≡ 0
+  pub key : r .key ≡ 0
+  pub price : r .price ≡ 0
+  pub size : r .size ≡ 0
+  pub rank : r .rank ≡ 0
+
+pub free-zeros : (r : Row) → free r ≡ true → Zeros r
+unfolding free
+free-zeros r e =
+    let a = both-true e in
+    let b = both-true (a .1) in
+    let c = both-true (b .1) in
+    let d = both-true (c .1) in
+    record { order = eqb-true _ _ (a .0); key = eqb-true _ _ (b .0); price = eqb-true _ _ (c .0); size = eqb-true _ _ (d .0); rank = eqb-true _ _ (d .1) }
+
+pub zeros-free : (r : Row) → Zeros r → free r ≡ true
+unfolding free both
+zeros-free r z = simp (z .order, z .key, z .price, z .size, z .rank)
+
+pub not-free : (r : Row) → (Zeros r → ⊥) → false ≡ free r
+not-free r h = refuted (free r) (λ e. h (free-zeros r e))
+
+pub free-is-zero : (r : Row) → free r ≡ true → r ≡ zeroRow
+unfolding zeroRow
+free-is-zero r e = let z = free-zeros r e in row-eq _ _ (z .order) (z .key) (z .price) (z .size) (z .rank)
+
+pub zero-free : free zeroRow ≡ true
+unfolding free zeroRow both
+zero-free = refl
+
+-- ---- live
+pub record Ranges (r : Row) : Type 0 where
+  pub ranked : 1 ≤ r .rank
+  pub symbol : symbolOf r < 4294967296
+  pub priced : 1 ≤ r .price
+  pub price-top : r .price ≤ 1000000000000000
+  pub sized : 1 ≤ r .size
+  pub size-top : r .size ≤ 4294967295
+
+pub live-ranges : (r : Row) → live r ≡ true → Ranges r
+unfolding live
+live-ranges r e =
+    let a = both-true e in
+    let b = both-true (a .1) in
+    let c = both-true (b .1) in
+    let d = both-true (c .1) in
+    let f = both-true (d .1) in
+    record {
+      ranked = leb-true _ _ (a .0);
+      symbol = ltb-true _ _ (b .0);
+      priced = leb-true _ _ (c .0);
+      price-top = leb-true _ _ (d .0);
+      sized = leb-true _ _ (f .0);
+      size-top = leb-true _ _ (f .1);
+    }
+
+pub ranges-live : (r : Row) → Ranges r → live r ≡ true
+unfolding live both
+ranges-live r h = simp (le-leb _ _ (h .ranked), lt-ltb _ _ (h .symbol), le-leb _ _ (h .priced), le-leb _ _ (h .price-top), le-leb _ _ (h .sized), le-leb _ _ (h .size-top))
+
+pub not-live : (r : Row) → (Ranges r → ⊥) → false ≡ live r
+not-live r h = refuted (live r) (λ e. h (live-ranges r e))
+
+-- ---- exactly one of free, live and spoiled
+pub live-not-free : (r : Row) → live r ≡ true → free r ≡ false
+live-not-free r l = sym (not-free r (λ z. omega (arith, live-ranges r l .ranked, z .rank)))
+
+pub free-not-live : (r : Row) → free r ≡ true → live r ≡ false
+free-not-live r f = sym (not-live r (λ w. omega (arith, w .ranked, free-zeros r f .rank)))
+
+pub data Kind (r : Row) : Type 0 where
+  is-free : free r ≡ true → live r ≡ false → spoiled r ≡ false → Kind r
+  is-live : free r ≡ false → live r ≡ true → spoiled r ≡ false → Kind r
+  is-spoiled : free r ≡ false → live r ≡ false → spoiled r ≡ true → Kind r
+
+pub one-kind : (r : Row) → Kind r
+unfolding spoiled either
+one-kind r = go (free r) refl (live r) refl
+  where
+    go : (f : Bool) → free r ≡ f → (l : Bool) → live r ≡ l → Kind r
+    go true p l q = is-free p (free-not-live r p) (rw p)
+    go false p true q = is-live p q (rw (p, q))
+    go false p false q = is-spoiled p q (rw (p, q))
+
+-- ---- sizes of tables
+abbrev pub Good : ℕ → Type 0
+Good n = (1 ≤ n / 5) × (n / 5 ≤ maxRows) × (n % 5 ≡ 0)
+
+pub good-rows : (n : ℕ) → goodRows n ≡ true → Good n
+unfolding goodRows
+good-rows n e =
+    let a = both-true e in
+    let b = both-true (a .1) in
+    (leb-true _ _ (b .0), leb-true _ _ (b .1), eqb-true _ _ (a .0))
+
+pub rows-good : (n : ℕ) → Good n → goodRows n ≡ true
+unfolding goodRows both
+rows-good n h = simp (eq-eqb _ _ (h .2), le-leb _ _ (h .0), le-leb _ _ (h .1))
+
+pub not-good : (n : ℕ) → (Good n → ⊥) → false ≡ goodRows n
+not-good n h = refuted (goodRows n) (λ e. h (good-rows n e))
+
+-- the most rows there may be, for bounds of sums and places
+pub rows-fit : maxRows ≤ 16384
+unfolding maxRows
+rows-fit = omega arith
+
+-- ---- a number that decides before the row is judged
+pub other-number : (a b : ℕ) (l : Bool) → (a ≡ b → ⊥) → false ≡ both (eqb a b) l
+unfolding both
+other-number a b l n = rw (ne-eqb a b n)
+
+pub same-number : (a b : ℕ) (l : Bool) → a ≡ b → l ≡ both (eqb a b) l
+unfolding both
+same-number a b l e = rw (eq-eqb a b e)
+
+both-is : {a b : ℕ} {l : Bool} → both (eqb a b) l ≡ true → (a ≡ b) × (l ≡ true)
+both-is e = let w = both-true e in (eqb-true _ _ (w .0), w .1)
+
+pub order-is : (id : ℕ) (r : Row) → isOrder id r ≡ true → (r .order ≡ id) × (live r ≡ true)
+unfolding isOrder
+order-is id r e = both-is e
+
+pub symbol-is : (s : ℕ) (r : Row) → ofSymbol s r ≡ true → (symbolOf r ≡ s) × (live r ≡ true)
+unfolding ofSymbol
+symbol-is s r e = both-is e
+
+pub key-is : (k : ℕ) (r : Row) → ofKey k r ≡ true → (r .key ≡ k) × (live r ≡ true)
+unfolding ofKey
+key-is k r e = both-is e
