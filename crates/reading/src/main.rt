@@ -36,14 +36,25 @@ fn read_one(held: &mut [u8]) -> bool {
         return false;
     }
     let n = wire::u16_at(&length, 0) as usize;
+    if !fill(held, n) {
+        return false;
+    }
+    show_first(held, n);
+    true
+}
+
+fn fill(held: &mut [u8], n: usize) -> bool {
     if held.len() < n {
         return false;
     }
-    if io::read_full(STDIN_FILENO, &mut held[..n]) < n {
-        return false;
+    io::read_full(STDIN_FILENO, &mut held[..n]) == n
+}
+
+fn show_first(held: &[u8], n: usize) {
+    if held.len() < n {
+        return;
     }
     show_packet(&held[..n]);
-    true
 }
 
 fn show_packet(p: &[u8]) {

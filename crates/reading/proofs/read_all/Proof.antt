@@ -1,50 +1,43 @@
+-- Each turn keeps the buffer's length and uses up one of the turns.
+-- Assumes nothing.
+use mathlib.Core.Path.{_≡_}
+use borrow.Author.Needs.{needs}
+use lib.ListN.{length}
 use Rattle.reading.proofs.read_all.Statement.{statement}
 use Rattle.reading.proofs.read_all.Tie as tie
-use Rattle.reading.proofs.read_all.Reads as reads
-use Rattle.reading.proofs.read_all.Lts as lts
-use Rattle.reading.proofs.read_one.Reads as read-one-reads
 
 abbrev Inv-loop : tie.InvT-loop
-Inv-loop held₀ turns₀ held turns = ?
+Inv-loop held₀ turns₀ held turns = length held ≡ length held₀
 
 abbrev μ-loop : tie.MeasureT-loop
-μ-loop held₀ turns₀ held turns = ?
+μ-loop held₀ turns₀ held turns = turns
 
--- src/main.rt:24:5
 loop-holds : tie.Need-loop-holds Inv-loop μ-loop
-loop-holds c = ?
+loop-holds c = search needs
 
--- src/main.rt:25:13
 read-one-requires : tie.Need-read-one-requires Inv-loop μ-loop
-read-one-requires c κs = ?
+read-one-requires c κs = search needs
 
--- src/main.rt:26:13
 same-length : tie.Need-same-length Inv-loop μ-loop
-same-length c = ?
+same-length c = search needs
 
--- src/main.rt:26:13
 returns : tie.Need-returns Inv-loop μ-loop
-returns c = ?
+returns c = search needs
 
--- src/main.rt:28:17
 sub-turns : tie.Need-sub-turns Inv-loop μ-loop
-sub-turns c = ?
+sub-turns c = search needs
 
--- src/main.rt:24:5
 loop-less : tie.Need-loop-less Inv-loop μ-loop
-loop-less c = ?
+loop-less c = search needs
 
--- src/main.rt:24:5
 loop-again : tie.Need-loop-again Inv-loop μ-loop
-loop-again c = ?
+loop-again c = search needs
 
--- src/main.rt:22:1
 same-length-2 : tie.Need-same-length-2 Inv-loop μ-loop
-same-length-2 c = ?
+same-length-2 c = search needs
 
--- src/main.rt:22:1
 returns-2 : tie.Need-returns-2 Inv-loop μ-loop
-returns-2 c = ?
+returns-2 c = search needs
 
 pub read-all-spec : {M : Type 1} → statement M
 read-all-spec =
