@@ -57,24 +57,24 @@ pub fn fill_of(t: &[u64], order: u64, symbol: u64, size: u64) -> Target
 }
 
 // Whoever moves to the back takes the sequence number as rank.
-fn remake(r: Row, price: u64, size: u64, moved: bool, number: u64) -> Row
-    ensures { λ x. ⌜ x ≡ remade price size moved number r ⌝ }
+fn remake(old: Row, price: u64, size: u64, moved: bool, number: u64) -> Row
+    ensures { λ x. ⌜ x ≡ remade price size moved number old ⌝ }
 {
     if moved {
         return Row {
-            order: r.order,
-            key: r.key,
+            order: old.order,
+            key: old.key,
             price,
             size,
             rank: number,
         };
     }
     Row {
-        order: r.order,
-        key: r.key,
+        order: old.order,
+        key: old.key,
         price,
         size,
-        rank: r.rank,
+        rank: old.rank,
     }
 }
 
