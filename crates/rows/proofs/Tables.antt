@@ -6,8 +6,8 @@ use mathlib.Core.Bool.{Bool, true, false}
 use Prim.Native.Nat.{ℕ, suc, _+_, _*_, _/_, _%_, _≤_, _<_}
 use native.Mathlib.Nat.{add-zero, mod-lt, mod-def}
 use native.Mathlib.Omega.{arith}
-use lib.ListN.{length, getD, set, take, drop, replicate, length-append, length-drop, length-set, length-map, List·getD-map, List·getD-eq-default}
-use lib.Seq.{getD-set-same, getD-set-other}
+use lib.ListN.{length, getD, set, take, drop, replicate, length-drop, length-map, List·getD-map, List·getD-eq-default}
+use lib.Seq.{drop-at, getD-set-same, getD-set-other}
 use lib.Dec.{ltb}
 use borrow.Author.Tests.{ltb-true, ltb-false}
 use Rattle.facts.specs.Pieces.{pieces}
@@ -81,6 +81,12 @@ flat-rest t = values-rest 5 rowOf numbersOf numbers-row t
 pub rows-rest : (rs : List Row) (x : List ℕ) → length x < 5 → rows (flat rs ++ x) ≡ rs
 unfolding rows flat
 rows-rest rs x h = rest-values 5 rowOf numbersOf length-numbers row-numbers rs x h
+
+pub rest-rest : (rs : List Row) (x : List ℕ) → length x < 5 → rest (flat rs ++ x) ≡ x
+unfolding rest
+rest-rest rs x h =
+    let n : length (flat rs ++ x) / 5 ≡ length rs = sym (length-rows (flat rs ++ x)) ∙ ap length (rows-rest rs x h) in
+    rw n (drop-at (flat rs) x (5 * length rs) (length-flat rs))
 
 pub rest-put-row : (t : List ℕ) (i : ℕ) (r : Row) → rest (putRow t i r) ≡ rest t
 unfolding rest putRow
