@@ -13,7 +13,7 @@ use Rattle.rows.specs.Rows.{rows, putRow, zeroRow, symbolOf}
 use Rattle.rows.specs.Find.{findOrder, findFree, ofSymbol}
 use Rattle.orders.specs.declared.Target.{Target}
 use Rattle.orders.specs.declared.Target.the-variants.{Place, Rule}
-use Rattle.orders.specs.Rules.{Change, change, roomIn, roomFor, targetIn, target, fillIn, fillOf, reduced, wiped, upon}
+use Rattle.orders.specs.Rules.{change, roomIn, roomFor, targetIn, target, fillIn, fillOf, less, reduced, wiped, upon}
 
 -- ---- an Add
 module _ (order : ℕ) (rs : List Row) where
@@ -62,8 +62,7 @@ module _ (n : ℕ) (r : Row) where
   unfolding reduced pick
   reduced-none e = rw (eq-eqb (r .size - n) 0 e)
 
-  pub reduced-some : (r .size - n ≡ 0 → ⊥)
-      → reduced n r ≡ record { order = r .order; key = r .key; price = r .price; size = r .size - n; rank = r .rank }
+  pub reduced-some : (r .size - n ≡ 0 → ⊥) → reduced n r ≡ less n r
   unfolding reduced pick
   reduced-some e = rw (ne-eqb (r .size - n) 0 e)
 
