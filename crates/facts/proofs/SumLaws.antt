@@ -1,7 +1,7 @@
 -- Sums by the list's own recursion: a walk from the front, one store, and a bound.
 -- Assumes nothing.
 use mathlib.Core.Path.{_≡_, refl}
-use mathlib.Core.List.{List, [], _∷_}
+use mathlib.Core.List.{List, [], _∷_, map}
 use mathlib.Core.Bool.{Bool, true, false}
 use Prim.Native.Nat.{ℕ, zero, suc, _+_, _*_, _≤_, _<_}
 use native.Mathlib.Numerals.{add-one}
@@ -63,3 +63,9 @@ module _ {A : Type 0} where
   unfolding sumBy
   sum-add f g [] = refl
   sum-add f g (x ∷ xs) = omega (arith, sum-add f g xs)
+
+-- ---- a list mapped: what each element counts afterwards
+pub sum-map : {A B : Type 0} (f : B → ℕ) (g : A → B) (h : A → ℕ) → ((x : A) → f (g x) ≡ h x) → (xs : List A) → sumBy f (map g xs) ≡ sumBy h xs
+unfolding sumBy
+sum-map f g h e [] = refl
+sum-map f g h e (x ∷ xs) = rw (e x, sum-map f g h e xs)

@@ -1,7 +1,7 @@
 -- Free, live and good are tests of numbers, so each is the facts that its tests name.
 -- Assumes nothing.
-use mathlib.Core.Path.{_≡_, refl, sym}
-use mathlib.Core.Bool.{Bool, true, false}
+use mathlib.Core.Path.{_≡_, refl, sym, _∙_}
+use mathlib.Core.Bool.{Bool, true, false, true≢false}
 use Prim.Native.Nat.{ℕ, _/_, _%_, _≤_, _<_}
 use native.Mathlib.Omega.{arith}
 use lib.Dec.{eqb}
@@ -104,6 +104,17 @@ one-kind r = go (free r) refl (live r) refl
     go false p true q = is-live p q (rw (p, q))
     go false p false q = is-spoiled p q (rw (p, q))
 
+pub zero-not-live : live zeroRow ≡ false
+zero-not-live = free-not-live zeroRow zero-free
+
+pub spoiled-not-live : (r : Row) → spoiled r ≡ true → live r ≡ false
+spoiled-not-live r e = go (one-kind r)
+  where
+    go : Kind r → live r ≡ false
+    go (is-free p q s) = q
+    go (is-live p q s) = absurd (true≢false (sym e ∙ s))
+    go (is-spoiled p q s) = q
+
 -- ---- sizes of tables
 abbrev pub Good : ℕ → Type 0
 Good n = (1 ≤ n / 5) × (n / 5 ≤ maxRows) × (n % 5 ≡ 0)
@@ -150,3 +161,27 @@ symbol-is s r e = both-is e
 pub key-is : (k : ℕ) (r : Row) → ofKey k r ≡ true → (r .key ≡ k) × (live r ≡ true)
 unfolding ofKey
 key-is k r e = both-is e
+
+-- ---- and the other way round: what the row is decides the test
+pub is-this : (id : ℕ) (r : Row) → r .order ≡ id → live r ≡ true → isOrder id r ≡ true
+unfolding isOrder
+is-this id r e l = sym (same-number (r .order) id (live r) e) ∙ l
+
+pub other-symbol : (s : ℕ) (r : Row) → (symbolOf r ≡ s → ⊥) → ofSymbol s r ≡ false
+unfolding ofSymbol
+other-symbol s r n = sym (other-number (symbolOf r) s (live r) n)
+
+pub dead-symbol : (s : ℕ) (r : Row) → live r ≡ false → ofSymbol s r ≡ false
+dead-symbol s r l = sym (refuted (ofSymbol s r) (λ e. true≢false (sym (symbol-is s r e .1) ∙ l)))
+
+pub dead-order : (id : ℕ) (r : Row) → live r ≡ false → isOrder id r ≡ false
+dead-order id r l = sym (refuted (isOrder id r) (λ e. true≢false (sym (order-is id r e .1) ∙ l)))
+
+both-yes : (b : Bool) → both b true ≡ b
+unfolding both
+both-yes true = refl
+both-yes false = refl
+
+pub live-symbol : (s : ℕ) (r : Row) → live r ≡ true → ofSymbol s r ≡ eqb (symbolOf r) s
+unfolding ofSymbol
+live-symbol s r l = rw l (both-yes (eqb (symbolOf r) s))
