@@ -1,0 +1,4 @@
+pub mod Slots
+pub mod Engine
+pub mod Receive
+pub mod Demand3
