@@ -10,8 +10,7 @@ use lib.Dec.{eqb}
 use native.Mathlib.Nat.{zero-add}
 use native.Mathlib.Omega.{arith}
 use native.Mathlib.Decide.{decLt}
-use borrow.Author.Tests.{le-leb}
-use Rattle.facts.specs.Pick.{pick, both}
+use Rattle.facts.specs.Pick.{pick}
 use Rattle.facts.specs.Sums.{sumBy, onlyIf, countBy}
 use Rattle.packet.specs.Record.{Rec}
 use Rattle.arbitration.specs.Slots.{Slot, slotBody}
@@ -19,7 +18,7 @@ use Rattle.arbitration.specs.Engine.{Applied, ok, broke, Engine, Store}
 use Rattle.arbitration.specs.Receive.{Answer, taken, old, tooFar, repeated, differing, codeOf, count, ofApplied, goodSlot, State, slotOf, try, judged, after, run, said}
 use Rattle.arbitration.specs.Demand3.{Every, msg, WellFormed, here, later, Started, Answered, Made, Named}
 use Rattle.arbitration.proofs.Window.{slot-lt}
-use Rattle.arbitration.proofs.Turns.{try-good, try-goes, stop-stuck}
+use Rattle.arbitration.proofs.Turns.{short-good, try-good, try-goes, stop-stuck}
 use Rattle.arbitration.proofs.Answers.{run-keeps}
 use Rattle.arbitration.proofs.Invariant.{Copy, Inv, Follows, Mine, mine, msg-good, msg-short, copy-fits, made-suc, after-inv, never-differing, start-follows}
 use Rattle.arbitration.proofs.Settled.{Settled, Held, Kept, after-settled, after-kept, here-kept}
@@ -80,7 +79,7 @@ module _ (S : Store) (E : Engine) (ms : List (List ℕ)) (wf : WellFormed (E .go
 
   -- a settled receiver whose slot for next holds next names the rule that the list itself breaks there
   pub names : (r : State S E) → Ready S E ms s0 b0 r → slotOf S E r (r .next) .number ≡ r .next → Named S E ms s0 b0 r
-  unfolding Follows Settled goodSlot both
+  unfolding Follows Settled
   names r y e = go (y .follows) (E .apply (r .next) (slotBody (slotOf S E r (r .next))) (r .book)) refl
     where
       go : (k : ℕ) × Inv S E ms s0 b0 k r → (a : Applied (E .Book)) → E .apply (r .next) (slotBody (slotOf S E r (r .next))) (r .book) ≡ a → Named S E ms s0 b0 r
@@ -99,7 +98,7 @@ module _ (S : Store) (E : Engine) (ms : List (List ℕ)) (wf : WellFormed (E .go
           is-good =
               let n : slotOf S E r (r .next) .len ≡ length (msg ms (s0 + suc k)) = ap (λ (x : Slot). x .len) (me .slot-is) in
               let l : slotOf S E r (r .next) .len ≤ 64 = omega (arith, msg-short S E ms wf (s0 + suc k) (omega arith) (me .in-list)) in
-              rw (le-leb _ _ l) (ap (E .good) (me .body-is) ∙ msg-good S E ms wf (s0 + suc k) (omega arith) (me .in-list))
+              short-good E (slotOf S E r (r .next)) l ∙ (ap (E .good) (me .body-is) ∙ msg-good S E ms wf (s0 + suc k) (omega arith) (me .in-list))
 
           full : try S E r ≡ ofApplied (E .apply (r .next) (slotBody (slotOf S E r (r .next))) (r .book))
           full = try-good S E r not-0 e is-good

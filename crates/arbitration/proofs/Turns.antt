@@ -5,8 +5,8 @@ use mathlib.Core.Path.{_≡_, refl, sym, ap, _∙_}
 use mathlib.Core.Logic.{_≢_, inl, inr}
 use mathlib.Core.Bool.{Bool, true, false, false≢true}
 use native.Mathlib.Omega.{arith}
-use borrow.Author.Tests.{eq-eqb, ne-eqb, eqb-true, eqb-false}
-use Rattle.facts.specs.Pick.{pick}
+use borrow.Author.Tests.{le-leb, lt-leb, eq-eqb, ne-eqb, eqb-true, eqb-false}
+use Rattle.facts.specs.Pick.{pick, both}
 use Rattle.facts.proofs.Picks.{pick-cases}
 use Rattle.arbitration.specs.Slots.{Slot, slotBody}
 use Rattle.arbitration.specs.Engine.{Applied, ok, broke, Engine, Store}
@@ -21,6 +21,15 @@ stuck≢goes e = let z : _≡_ {A = ℕ} 0 1 = cc in omega arith
 applied-goes : {B : Type 0} (a : Applied B) {b : B} → ofApplied a ≡ goes b → a ≡ ok b
 applied-goes (ok x) e = cc
 applied-goes (broke q) e = absurd (stuck≢goes e)
+
+-- ---- a slot's body by its tests: its length first
+pub long-bad : (E : Engine) (s : Slot) → 64 < s .len → goodSlot E s ≡ false
+unfolding goodSlot both
+long-bad E s h = rw (lt-leb _ _ h)
+
+pub short-good : (E : Engine) (s : Slot) → s .len ≤ 64 → goodSlot E s ≡ E .good (slotBody s)
+unfolding goodSlot both
+short-good E s h = rw (le-leb _ _ h)
 
 module _ (S : Store) (E : Engine) where
   -- where one turn leads, and whether it applied a message: what code that makes one turn answers
