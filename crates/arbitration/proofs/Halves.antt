@@ -16,11 +16,11 @@ use Rattle.packet.specs.Record.{Rec}
 use Rattle.arbitration.specs.Slots.{Slot, slotBody}
 use Rattle.arbitration.specs.Engine.{Applied, ok, broke, Engine, Store}
 use Rattle.arbitration.specs.Receive.{Answer, taken, old, tooFar, repeated, differing, codeOf, count, ofApplied, goodSlot, State, slotOf, try, judged, after, run, said}
-use Rattle.arbitration.specs.Demand3.{Every, msg, WellFormed, here, later, Started, Answered, Made, Named}
+use Rattle.arbitration.specs.Demand3.{Every, Copy, msg, WellFormed, here, later, Started, Answered, Made, Named}
 use Rattle.arbitration.proofs.Window.{slot-lt}
 use Rattle.arbitration.proofs.Turns.{short-good, try-good, try-goes, stop-stuck}
 use Rattle.arbitration.proofs.Answers.{run-keeps}
-use Rattle.arbitration.proofs.Invariant.{Copy, Inv, Follows, Mine, mine, msg-good, msg-short, copy-fits, made-suc, after-inv, never-differing, start-follows}
+use Rattle.arbitration.proofs.Invariant.{Inv, Follows, Mine, mine, msg-good, msg-short, copy-fits, made-suc, after-inv, never-differing, start-follows}
 use Rattle.arbitration.proofs.Settled.{Settled, Held, Kept, after-settled, after-kept, here-kept}
 
 -- two receivers on one list, with equal k

@@ -12,15 +12,11 @@ use Rattle.packet.specs.Record.{Rec}
 use Rattle.arbitration.specs.Slots.{Slot, emptySlot, slotFor, slotBody, sameSlot, Fits}
 use Rattle.arbitration.specs.Engine.{ok, Engine, Store}
 use Rattle.arbitration.specs.Receive.{taken, differing, State, slotOf, turned, drain, shelved, judged, after, run}
-use Rattle.arbitration.specs.Demand3.{Every, msg, WellFormed, TrueCopy, Copies, Numbered, made, Started}
+use Rattle.arbitration.specs.Demand3.{Every, msg, WellFormed, Copies, Numbered, Copy, made, Started}
 use Rattle.arbitration.proofs.Window.{same-slot, slot-lt}
 use Rattle.arbitration.proofs.SlotLaws.{empty-fits, slotFor-fits, body-back, same-refl, put-at}
 use Rattle.arbitration.proofs.Turns.{Went, drain-keeps}
 use Rattle.arbitration.proofs.Answers.{Shows, shows, after-cases, run-keeps}
-
--- a true copy that came in an accepted packet
-abbrev pub Copy : List (List ℕ) → Rec → Type 0
-Copy ms c = Numbered c × TrueCopy ms c
 
 pub every-copy : (ms : List (List ℕ)) (cs : List Rec) → Every Numbered cs → Copies ms cs → Every (Copy ms) cs
 every-copy ms [] n h = tt

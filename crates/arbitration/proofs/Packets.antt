@@ -10,9 +10,9 @@ use Rattle.packet.proofs.Laws.{GoodRec}
 use Rattle.packet.proofs.Good.{AllGood, Fine, framing-fine}
 use Rattle.arbitration.specs.Engine.{Engine, Store}
 use Rattle.arbitration.specs.Receive.{refused, recordsOf, accepted, State, run, reply, worked, receives}
-use Rattle.arbitration.specs.Demand3.{Every, Numbered, Run, FirstHalf, SecondHalf, Agreement, Demand3}
+use Rattle.arbitration.specs.Demand3.{Every, Numbered, Copy, Run, FirstHalf, SecondHalf, Agreement, Halves, Demand3}
 use Rattle.arbitration.proofs.Answers.{run-append}
-use Rattle.arbitration.proofs.Invariant.{Copy, every-copy}
+use Rattle.arbitration.proofs.Invariant.{every-copy}
 use Rattle.arbitration.proofs.Halves.{agree, start-ready, first-half, second-half}
 
 pub every-append : {A : Type 0} (P : A → Type 0) (a b : List A) → Every P a → Every P b → Every P (a ++ b)
@@ -84,3 +84,6 @@ module _ (S : Store) (E : Engine) where
 
     pub demand-3 : Demand3 S E frame b0
     demand-3 = record { first-half = demand-3-first; second-half = demand-3-second; agreement = demand-3-agree }
+
+    pub halves : (r0 : State S E) (ps : List (List ℕ)) (r : State S E) → r ≡ receives S E frame ps r0 → Halves S E frame b0 r0 ps r
+    halves r0 ps r e = record { first = λ ms u. rw e (demand-3-first ms r0 ps u); second = λ ms j u all. rw e (demand-3-second ms r0 ps j u all) }

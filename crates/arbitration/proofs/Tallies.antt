@@ -9,7 +9,8 @@ use Rattle.facts.specs.Pick.{pick}
 use Rattle.facts.specs.Sums.{sumBy, onlyIf, countBy}
 use Rattle.packet.specs.Record.{Rec}
 use Rattle.arbitration.specs.Engine.{Engine, Store}
-use Rattle.arbitration.specs.Receive.{Answer, taken, old, tooFar, repeated, differing, Said, count, Counts, countsOf, State, judged, after, run, said, told}
+use Rattle.arbitration.specs.Receive.{Answer, taken, old, tooFar, repeated, differing, Said, count, Counts, countsOf, State, judged, acted, after, run, said, told}
+use Rattle.arbitration.proofs.Answers.{after-of}
 
 -- the five counts with one answer more
 abbrev pub counted : Answer → Counts → Counts
@@ -67,6 +68,18 @@ module _ (S : Store) (E : Engine) where
   unfoldable pub work : List Rec → Working → Working
   work [] w = w
   work (c ∷ cs) w = work cs (working c w)
+
+  -- the loop's laws: one record more, by its answer, and none left
+  pub working-of : (c : Rec) (w : Working) (a : Answer) → judged S E c (w .rx) ≡ a → working c w ≡ record { rx = acted S E a c (w .rx); counts = counted a (w .counts) }
+  working-of c w a e = λ i. record { rx = after-of S E c (w .rx) a e i; counts = counted (e i) (w .counts) }
+
+  pub work-step : (c : Rec) (cs : List Rec) (w w′ end : Working) → work (c ∷ cs) w ≡ end → w′ ≡ working c w → work cs w′ ≡ end
+  unfolding work
+  work-step c cs w w′ end v e = ap (work cs) e ∙ v
+
+  pub work-end : (w end : Working) → work [] w ≡ end → w ≡ end
+  unfolding work
+  work-end w end v = v
 
   abbrev done : List Rec → Working → Working
   done cs w = record { rx = run S E cs (w .rx); counts = plus (w .counts) (countsOf (said S E cs (w .rx))) }

@@ -37,6 +37,10 @@ pub record Numbered (c : Rec) : Type 0 where
   pub number-from : 1 ≤ c .number
   pub number-to : c .number ≤ 1000000000000
 
+-- a true copy that came in an accepted packet
+abbrev pub Copy : List (List ℕ) → Rec → Type 0
+Copy ms c = Numbered c × TrueCopy ms c
+
 -- "answered as taken, repeated or old"
 pub data Arrived : Answer → Type 0 where
   by-taken : Arrived taken
@@ -106,6 +110,11 @@ module _ (S : Store) (E : Engine) where
         (ms : List (List ℕ)) (r r′ : State S E) (ps ps′ : List (List ℕ)) → Run ms r ps → Run ms r′ ps′
         → receives S E frame ps r .next ≡ receives S E frame ps′ r′ .next
         → receives S E frame ps r .book ≡ receives S E frame ps′ r′ .book
+
+    -- both halves of one run, said of the state r that it ended in: what a function that receives packets can ensure
+    pub record Halves (r0 : State S E) (ps : List (List ℕ)) (r : State S E) : Type 0 where
+      pub first : (ms : List (List ℕ)) → Run ms r0 ps → Made ms 0 b0 r
+      pub second : (ms : List (List ℕ)) (j : ℕ) → Run ms r0 ps → ((n : ℕ) → 1 ≤ n → n ≤ j → Answered n (accepted frame ps) r0) → (j < r .next) ⊎ Named ms 0 b0 r
 
     pub record Demand3 : Type 0 where
       pub first-half : FirstHalf
