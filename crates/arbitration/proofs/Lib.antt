@@ -8,3 +8,4 @@ pub mod Settled
 pub mod Halves
 pub mod Packets
 pub mod Range
+pub mod RefreshLaws

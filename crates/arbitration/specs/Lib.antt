@@ -2,3 +2,4 @@ pub mod Slots
 pub mod Engine
 pub mod Receive
 pub mod Demand3
+pub mod Refresh
