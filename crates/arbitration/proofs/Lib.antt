@@ -9,3 +9,4 @@ pub mod Halves
 pub mod Packets
 pub mod Range
 pub mod RefreshLaws
+pub mod SameLaws

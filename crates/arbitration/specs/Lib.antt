@@ -3,3 +3,4 @@ pub mod Engine
 pub mod Receive
 pub mod Demand3
 pub mod Refresh
+pub mod Same
