@@ -10,3 +10,4 @@ pub mod Packets
 pub mod Range
 pub mod RefreshLaws
 pub mod SameLaws
+pub mod StreamLaws

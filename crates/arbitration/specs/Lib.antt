@@ -4,3 +4,4 @@ pub mod Receive
 pub mod Demand3
 pub mod Refresh
 pub mod Same
+pub mod Stream
