@@ -48,7 +48,7 @@ abbrev pub ofApplied : {Book : Type 0} → Applied Book → Try Book
 ofApplied (ok b) = goes b
 ofApplied (broke q) = stuck q
 
--- a slot that holds a good body; a length above 64 is none, "judged before the body is cut out"
+-- a slot that holds a good body; one of a length above 64 holds none, which is judged before the body is cut out
 unfoldable pub goodSlot : Engine → Slot → Bool
 goodSlot E s = both (leb (s .len) 64) (E .good (slotBody s))
 
