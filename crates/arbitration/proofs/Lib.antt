@@ -1,0 +1,13 @@
+pub mod Window
+pub mod SlotLaws
+pub mod Turns
+pub mod Answers
+pub mod Tallies
+pub mod Invariant
+pub mod Settled
+pub mod Halves
+pub mod Packets
+pub mod Range
+pub mod RefreshLaws
+pub mod SameLaws
+pub mod StreamLaws

@@ -1,0 +1,68 @@
+-- Slots and their bodies, by the laws of padding; comparing bytes, by the list's own recursion; and one law for a slot after a put.
+-- Assumes nothing.
+use Prim.Native.Nat.{ℕ, zero, suc, _^_, _≤_, _<_}
+use mathlib.Core.Path.{_≡_, refl, sym, ap, subst, _∙_}
+use mathlib.Core.Logic.{_≢_}
+use mathlib.Core.Bool.{Bool, true, false}
+use mathlib.Core.List.{List, [], _∷_, _++_}
+use lib.ListN.{length, getD, replicate}
+use lib.Seq.{take-take, take-append-seam}
+use lib.Dec.{eqb}
+use native.Mathlib.Nat.{le-of-suc-le-suc, not-suc-le-zero}
+use native.Mathlib.Omega.{arith}
+use native.Mathlib.Decide.{ℕ-discrete}
+use borrow.Author.Tests.{eqb-true, eq-eqb, ne-eqb}
+use Rattle.facts.specs.Pick.{both}
+use Rattle.facts.proofs.Picks.{both-true}
+use Rattle.wire.specs.Le.{padded}
+use Rattle.wire.proofs.Laws.{length-padded}
+use Rattle.arbitration.specs.Slots.{Slot, emptySlot, slotFor, slotBody, sameBytes, sameSlot, Fits}
+use Rattle.arbitration.specs.Engine.{Store}
+
+pub empty-fits : Fits emptySlot
+empty-fits = record { number-fits = omega arith; len-fits = omega arith; bytes-64 = refl }
+
+pub slotFor-fits : (n : ℕ) (b : List ℕ) → n < 2 ^ 64 → length b ≤ 64 → Fits (slotFor n b)
+slotFor-fits n b h l = record { number-fits = h; len-fits = omega arith; bytes-64 = length-padded b 0 64 }
+
+-- the body comes back
+pub body-back : (n : ℕ) (b : List ℕ) → length b ≤ 64 → slotBody (slotFor n b) ≡ b
+unfolding padded
+body-back n b h = take-take (length b) 64 (b ++ replicate 64 0) h ∙ take-append-seam b (replicate 64 0)
+
+-- ---- comparing
+pub same-bytes-refl : (l : List ℕ) → sameBytes l l ≡ true
+unfolding sameBytes both
+same-bytes-refl [] = refl
+same-bytes-refl (x ∷ xs) = rw (eq-eqb x x refl) (same-bytes-refl xs)
+
+both-none : (b : Bool) → both b false ≡ false
+unfolding both
+both-none true = refl
+both-none false = refl
+
+-- one place that differs
+pub bytes-differ : (xs ys : List ℕ) (k : ℕ) → k < length xs → k < length ys → getD xs k 0 ≢ getD ys k 0 → sameBytes xs ys ≡ false
+unfolding sameBytes both
+bytes-differ [] ys k h l n = absurd (not-suc-le-zero h)
+bytes-differ (x ∷ xs) [] k h l n = absurd (not-suc-le-zero l)
+bytes-differ (x ∷ xs) (y ∷ ys) zero h l n = rw (ne-eqb x y n)
+bytes-differ (x ∷ xs) (y ∷ ys) (suc k) h l n = rw (bytes-differ xs ys k (le-of-suc-le-suc h) (le-of-suc-le-suc l) n) (both-none (eqb x y))
+
+pub same-number : (s t : Slot) → sameSlot s t ≡ true → s .number ≡ t .number
+unfolding sameSlot
+same-number s t e = eqb-true _ _ (both-true e .0)
+
+pub same-refl : (s : Slot) → sameSlot s s ≡ true
+unfolding sameSlot both
+same-refl s = rw (eq-eqb (s .number) (s .number) refl, eq-eqb (s .len) (s .len) refl) (same-bytes-refl (s .bytes))
+
+-- ---- slot j after a put into slot i: the new slot, or the old one
+module _ (S : Store) where
+  pub put-at : (s : S .Shelf) (i : ℕ) (x : Slot) → S .Ok s → i < 64 → Fits x
+      → (P : Slot → Type 0) (j : ℕ) → j < 64 → (j ≡ i → P x) → (j ≢ i → P (S .get s j)) → P (S .get (S .put s i x) j)
+  put-at s i x o h f P j l same other = go (ℕ-discrete j i)
+    where
+      go : Dec (j ≡ i) → P (S .get (S .put s i x) j)
+      go (yes e) = subst P (sym (ap (S .get (S .put s i x)) e ∙ S .get-same s i x o h f)) (same e)
+      go (no n) = subst P (sym (S .get-other s i j x o h l n f)) (other n)

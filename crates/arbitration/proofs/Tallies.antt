@@ -1,0 +1,107 @@
+-- The packet's five counts, kept as records come: each answer adds one to its own count, so the counts are those of the answers and make up all records.
+-- Assumes nothing.
+use Prim.Native.Nat.{ℕ, suc, _+_}
+use mathlib.Core.Path.{_≡_, refl, ap, _∙_}
+use mathlib.Core.List.{List, [], _∷_}
+use lib.ListN.{length}
+use native.Mathlib.Omega.{arith}
+use Rattle.facts.specs.Pick.{pick}
+use Rattle.facts.specs.Sums.{sumBy, onlyIf, countBy}
+use Rattle.packet.specs.Record.{Rec}
+use Rattle.arbitration.specs.Engine.{Engine, Store}
+use Rattle.arbitration.specs.Receive.{Answer, taken, old, tooFar, repeated, differing, Said, count, Counts, countsOf, State, judged, acted, after, run, said, told}
+use Rattle.arbitration.proofs.Answers.{after-of}
+
+-- the five counts with one answer more
+abbrev pub counted : Answer → Counts → Counts
+counted taken t = record { c10 = t .c10 + 1; c11 = t .c11; c12 = t .c12; c13 = t .c13; c14 = t .c14 }
+counted old t = record { c10 = t .c10; c11 = t .c11 + 1; c12 = t .c12; c13 = t .c13; c14 = t .c14 }
+counted tooFar t = record { c10 = t .c10; c11 = t .c11; c12 = t .c12 + 1; c13 = t .c13; c14 = t .c14 }
+counted repeated t = record { c10 = t .c10; c11 = t .c11; c12 = t .c12; c13 = t .c13 + 1; c14 = t .c14 }
+counted differing t = record { c10 = t .c10; c11 = t .c11; c12 = t .c12; c13 = t .c13; c14 = t .c14 + 1 }
+
+abbrev pub noCounts : Counts
+noCounts = record { c10 = 0; c11 = 0; c12 = 0; c13 = 0; c14 = 0 }
+
+abbrev plus : Counts → Counts → Counts
+plus a b = record { c10 = a .c10 + b .c10; c11 = a .c11 + b .c11; c12 = a .c12 + b .c12; c13 = a .c13 + b .c13; c14 = a .c14 + b .c14 }
+
+abbrev pub total : Counts → ℕ
+total t = t .c10 + t .c11 + t .c12 + t .c13 + t .c14
+
+counts-eq : (a b : Counts) → a .c10 ≡ b .c10 → a .c11 ≡ b .c11 → a .c12 ≡ b .c12 → a .c13 ≡ b .c13 → a .c14 ≡ b .c14 → a ≡ b
+counts-eq a b p q r s u = λ i. record { c10 = p i; c11 = q i; c12 = r i; c13 = s i; c14 = u i }
+
+-- one answer more
+counts-more : (a : Answer) (n : ℕ) (t : Counts) (l : List Said) → plus (counted a t) (countsOf l) ≡ plus t (countsOf (record { number = n; answer = a } ∷ l))
+unfolding countsOf count countBy sumBy onlyIf pick
+counts-more taken n t l = counts-eq _ _ (omega arith) (omega arith) (omega arith) (omega arith) (omega arith)
+counts-more old n t l = counts-eq _ _ (omega arith) (omega arith) (omega arith) (omega arith) (omega arith)
+counts-more tooFar n t l = counts-eq _ _ (omega arith) (omega arith) (omega arith) (omega arith) (omega arith)
+counts-more repeated n t l = counts-eq _ _ (omega arith) (omega arith) (omega arith) (omega arith) (omega arith)
+counts-more differing n t l = counts-eq _ _ (omega arith) (omega arith) (omega arith) (omega arith) (omega arith)
+
+total-more : (a : Answer) (n : ℕ) (l : List Said) → total (countsOf (record { number = n; answer = a } ∷ l)) ≡ suc (total (countsOf l))
+unfolding countsOf count countBy sumBy onlyIf pick
+total-more taken n l = omega arith
+total-more old n l = omega arith
+total-more tooFar n l = omega arith
+total-more repeated n l = omega arith
+total-more differing n l = omega arith
+
+none-plus : (t : Counts) → plus noCounts t ≡ t
+none-plus t = counts-eq _ _ (omega arith) (omega arith) (omega arith) (omega arith) (omega arith)
+
+plus-none : (t : Counts) → t ≡ plus t (countsOf [])
+unfolding countsOf count countBy sumBy
+plus-none t = counts-eq _ _ (omega arith) (omega arith) (omega arith) (omega arith) (omega arith)
+
+module _ (S : Store) (E : Engine) where
+  -- the state and the counts in one value, so that a loop over records has one equation: `work (what is left) now ≡ end`
+  pub record Working : Type 0 where
+    pub rx : State S E
+    pub counts : Counts
+
+  abbrev pub working : Rec → Working → Working
+  working c w = record { rx = after S E c (w .rx); counts = counted (judged S E c (w .rx)) (w .counts) }
+
+  unfoldable pub work : List Rec → Working → Working
+  work [] w = w
+  work (c ∷ cs) w = work cs (working c w)
+
+  -- the loop's laws: one record more, by its answer, and none left
+  pub working-of : (c : Rec) (w : Working) (a : Answer) → judged S E c (w .rx) ≡ a → working c w ≡ record { rx = acted S E a c (w .rx); counts = counted a (w .counts) }
+  working-of c w a e = λ i. record { rx = after-of S E c (w .rx) a e i; counts = counted (e i) (w .counts) }
+
+  pub work-step : (c : Rec) (cs : List Rec) (w w′ end : Working) → work (c ∷ cs) w ≡ end → w′ ≡ working c w → work cs w′ ≡ end
+  unfolding work
+  work-step c cs w w′ end v e = ap (work cs) e ∙ v
+
+  pub work-end : (w end : Working) → work [] w ≡ end → w ≡ end
+  unfolding work
+  work-end w end v = v
+
+  abbrev done : List Rec → Working → Working
+  done cs w = record { rx = run S E cs (w .rx); counts = plus (w .counts) (countsOf (said S E cs (w .rx))) }
+
+  work-done : (cs : List Rec) (w : Working) → work cs w ≡ done cs w
+  unfolding work run said
+  work-done [] w = λ i. record { rx = w .rx; counts = plus-none (w .counts) i }
+  work-done (c ∷ cs) w =
+      work-done cs (working c w)
+      ∙ (λ i. record { rx = run S E cs (after S E c (w .rx)); counts = counts-more (judged S E c (w .rx)) (c .number) (w .counts) (said S E cs (after S E c (w .rx))) i })
+
+  -- from no counts: the run and the counts that the packet's answer tells
+  pub work-told : (cs : List Rec) (r : State S E) → work cs (record { rx = r; counts = noCounts }) ≡ record { rx = run S E cs r; counts = told S E cs r .counts }
+  unfolding told
+  work-told cs r = work-done cs (record { rx = r; counts = noCounts }) ∙ (λ i. record { rx = run S E cs r; counts = none-plus (countsOf (said S E cs r)) i })
+
+  total-said : (cs : List Rec) (r : State S E) → total (countsOf (said S E cs r)) ≡ length cs
+  unfolding said countsOf count countBy sumBy
+  total-said [] r = refl
+  total-said (c ∷ cs) r = total-more (judged S E c r) (c .number) (said S E cs (after S E c r)) ∙ ap suc (total-said cs (after S E c r))
+
+  -- every record is counted once
+  pub every-record-counted : (cs : List Rec) (r : State S E) → total (told S E cs r .counts) ≡ length cs
+  unfolding told
+  every-record-counted cs r = total-said cs r

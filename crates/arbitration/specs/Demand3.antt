@@ -1,0 +1,122 @@
+-- Demand 3 of document 00, over any book, any shelf and any framing of packets.
+use Prim.Native.Nat.{ℕ, zero, suc, _+_, _-_, _≤_, _<_}
+use mathlib.Core.Path.{_≡_}
+use mathlib.Core.Logic.{_⊎_}
+use mathlib.Core.Bool.{Bool, true}
+use mathlib.Core.List.{List, [], _∷_}
+use lib.ListN.{length, getD}
+use Rattle.packet.specs.Record.{Rec}
+use Rattle.packet.specs.Packet.{Framing}
+use Rattle.arbitration.specs.Engine.{Applied, ok, broke, Engine, Store}
+use Rattle.arbitration.specs.Receive.{Answer, taken, old, repeated, Said, accepted, State, stop, said, receives}
+
+-- every element of a list
+abbrev pub Every : {A : Type 0} → (A → Type 0) → List A → Type 0
+Every P [] = Unit {0}
+Every P (x ∷ xs) = P x × Every P xs
+
+-- message n of a list, "numbered from 1"
+abbrev pub msg : List (List ℕ) → ℕ → List ℕ
+msg ms n = getD ms (n - 1) []
+
+-- "any list of well-formed messages"
+abbrev pub WellFormed : (List ℕ → Bool) → List (List ℕ) → Type 0
+WellFormed good ms = (i : ℕ) → i < length ms → good (getD ms i []) ≡ true
+
+-- "true copies from that list": a number of the list, with exactly that message's bytes
+pub record TrueCopy (ms : List (List ℕ)) (c : Rec) : Type 0 where
+  pub in-list : c .number ≤ length ms
+  pub same : c .body ≡ msg ms (c .number)
+
+-- "lost, repeated or shuffled at will": nothing is asked of their order or number
+abbrev pub Copies : List (List ℕ) → List Rec → Type 0
+Copies ms cs = Every (TrueCopy ms) cs
+
+-- "Sequence numbers run from 1 to 1,000,000,000,000"
+pub record Numbered (c : Rec) : Type 0 where
+  pub number-from : 1 ≤ c .number
+  pub number-to : c .number ≤ 1000000000000
+
+-- a true copy that came in an accepted packet
+abbrev pub Copy : List (List ℕ) → Rec → Type 0
+Copy ms c = Numbered c × TrueCopy ms c
+
+-- "answered as taken, repeated or old"
+pub data Arrived : Answer → Type 0 where
+  by-taken : Arrived taken
+  by-old : Arrived old
+  by-repeated : Arrived repeated
+
+-- the number n is among these answers, so answered
+pub data Among (n : ℕ) : List Said → Type 0 where
+  here : {x : Said} {l : List Said} → x .number ≡ n → Arrived (x .answer) → Among n (x ∷ l)
+  later : {x : Said} {l : List Said} → Among n l → Among n (x ∷ l)
+
+-- the book made by messages s + 1 to s + k of a list, from the book b; with s = 0 and the start's book, "those made by the list's first k messages"
+unfoldable pub made : (E : Engine) → List (List ℕ) → ℕ → E .Book → ℕ → Applied (E .Book)
+made E ms s b zero = ok b
+made E ms s b (suc k) = elim (made E ms s b k) [ ok x ↦ E .apply (s + suc k) (msg ms (s + suc k)) x | broke q ↦ broke q ]
+
+module _ (S : Store) (E : Engine) where
+  -- "A start zeroes all three, the second included, and sets the next number to 1"
+  pub record Started (b0 : E .Book) (r : State S E) : Type 0 where
+    pub ok-shelf : S .Ok (r .shelf)
+    pub next-1 : r .next ≡ 1
+    pub book-start : r .book ≡ b0
+    pub shelf-empty : (i : ℕ) → i < 64 → S .get (r .shelf) i .number ≡ 0
+
+  -- the number n was answered as taken, repeated or old in a run of records
+  abbrev pub Answered : ℕ → List Rec → State S E → Type 0
+  Answered n cs r = Among n (said S E cs r)
+
+  -- "exactly those made by the list's first k messages, k being one less than the next number it reports" (from the base s)
+  pub record Made (ms : List (List ℕ)) (s : ℕ) (b : E .Book) (r : State S E) : Type 0 where
+    pub k : ℕ
+    pub next-is : r .next ≡ s + suc k
+    pub within : s + k ≤ length ms
+    pub book-is : made E ms s b k ≡ ok (r .book)
+
+  -- "the receiver names message k + 1, which the list itself, in tables of that size, can't apply, and the rule broken"
+  pub record Named (ms : List (List ℕ)) (s : ℕ) (b : E .Book) (r : State S E) : Type 0 where
+    pub k : ℕ
+    pub next-is : r .next ≡ s + suc k
+    pub in-list : s + suc k ≤ length ms
+    pub made-k : made E ms s b k ≡ ok (r .book)
+    pub rule-named : 1 ≤ stop S E r
+    pub breaks : made E ms s b (suc k) ≡ broke (stop S E r)
+
+  module _ (frame : List ℕ → Framing) (b0 : E .Book) where
+    -- "Take any list of well-formed messages, numbered from 1. Start a receiver, leave its tables to it, and give it packets whose accepted
+    -- records are true copies from that list"
+    pub record Run (ms : List (List ℕ)) (r0 : State S E) (ps : List (List ℕ)) : Type 0 where
+      pub well-formed : WellFormed (E .good) ms
+      pub started : Started b0 r0
+      pub copies : Copies ms (accepted frame ps)
+
+    -- "After each accepted packet its order table, symbol table and second are exactly those made by the list's first k messages"
+    abbrev pub FirstHalf : Type 0
+    FirstHalf = (ms : List (List ℕ)) (r0 : State S E) (ps : List (List ℕ)) → Run ms r0 ps → Made ms 0 b0 (receives S E frame ps r0)
+
+    -- "If every number up to j was answered as taken, repeated or old, then k is at least j, or the receiver names message k + 1"
+    abbrev pub SecondHalf : Type 0
+    SecondHalf =
+        (ms : List (List ℕ)) (r0 : State S E) (ps : List (List ℕ)) (j : ℕ) → Run ms r0 ps
+        → ((n : ℕ) → 1 ≤ n → n ≤ j → Answered n (accepted frame ps) r0)
+        → (j < receives S E frame ps r0 .next) ⊎ Named ms 0 b0 (receives S E frame ps r0)
+
+    -- "Two such receivers on one list, with equal capacities and equal k, agree in these three"
+    abbrev pub Agreement : Type 0
+    Agreement =
+        (ms : List (List ℕ)) (r r′ : State S E) (ps ps′ : List (List ℕ)) → Run ms r ps → Run ms r′ ps′
+        → receives S E frame ps r .next ≡ receives S E frame ps′ r′ .next
+        → receives S E frame ps r .book ≡ receives S E frame ps′ r′ .book
+
+    -- both halves of one run, said of the state r that it ended in: what a function that receives packets can ensure
+    pub record Halves (r0 : State S E) (ps : List (List ℕ)) (r : State S E) : Type 0 where
+      pub first : (ms : List (List ℕ)) → Run ms r0 ps → Made ms 0 b0 r
+      pub second : (ms : List (List ℕ)) (j : ℕ) → Run ms r0 ps → ((n : ℕ) → 1 ≤ n → n ≤ j → Answered n (accepted frame ps) r0) → (j < r .next) ⊎ Named ms 0 b0 r
+
+    pub record Demand3 : Type 0 where
+      pub first-half : FirstHalf
+      pub second-half : SecondHalf
+      pub agreement : Agreement

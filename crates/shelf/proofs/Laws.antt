@@ -1,0 +1,198 @@
+-- Where a slot's parts lie in the lent bytes: a slot is a piece of 74 bytes, its number, length and body are parts of that.
+-- Assumes nothing.
+use Prim.Native.Nat.{ℕ, zero, suc, _+_, _*_, _/_, _%_, _-_, _≤_, _<_}
+use mathlib.Core.Path.{_≡_, refl, sym, ap, _∙_}
+use mathlib.Core.Logic.{_≢_, _⊎_, inl, inr}
+use mathlib.Core.List.{List, [], _++_, append-assoc, append-nil}
+use mathlib.Core.Bool.{true, false}
+use lib.ListN.{length, getD, set, take, drop, replicate, length-append, length-drop, drop-of-length-le, List·getD-eq-default}
+use lib.Seq.{take-all, take-at, drop-at, take-take, length-take-le, take-suc-set, drop-drop, sets-eq, ext-getD}
+use native.Mathlib.Nat.{add-sub-cancel-left, zero-add}
+use native.Mathlib.Numerals.{add-one}
+use native.Mathlib.Omega.{arith}
+use native.Mathlib.Decide.{decLt}
+use borrow.Author.Tests.{eqb-true, eq-eqb, ne-eqb}
+use Rattle.facts.specs.Pick.{both}
+use Rattle.facts.specs.Pieces.{pieces}
+use Rattle.facts.proofs.PieceLaws.{length-pieces, getD-pieces, length-piece, piece-fits, put-in, put-out, pieces-replicate}
+use Rattle.wire.specs.Le.{le, field, padded}
+use Rattle.wire.proofs.Laws.{length-padded, getD-padded, padded-part}
+use Rattle.arbitration.specs.Slots.{Slot, emptySlot, slotFor, slotBody, sameBytes, sameSlot}
+use Rattle.arbitration.proofs.SlotLaws.{same-bytes-refl, bytes-differ}
+use Rattle.shelf.specs.Shelf.{slotSize, shelfSize, goodShelf, toLe, slotOf, bytesOf, slotAt, putSlot}
+use Rattle.shelf.specs.Store.{length-toLe, length-bytes}
+
+-- ---- the bytes of a slot, as the code cuts them out
+pub slot-in : (t : List ℕ) (i : ℕ) → i < length t / 74 → take (74 * i + 74 - 74 * i) (drop (74 * i) t) ≡ getD (pieces slotSize t) i []
+slot-in t i h = rw (add-sub-cancel-left (74 * i) 74) (sym (getD-pieces slotSize t i [] h))
+
+pub slot-past : (t : List ℕ) (i : ℕ) → length t / 74 ≤ i → [] ≡ getD (pieces slotSize t) i []
+slot-past t i h = sym (List·getD-eq-default (pieces slotSize t) [] (rw length-pieces h))
+
+-- whole, or none
+slot-cases : (t : List ℕ) (i : ℕ) → (length (getD (pieces slotSize t) i []) ≡ 74) ⊎ ([] ≡ getD (pieces slotSize t) i [])
+slot-cases t i = go (decLt i (length t / slotSize))
+  where
+    go : Dec (i < length t / slotSize) → (length (getD (pieces slotSize t) i []) ≡ 74) ⊎ ([] ≡ getD (pieces slotSize t) i [])
+    go (yes h) = inl (ap length (getD-pieces slotSize t i [] h) ∙ length-piece slotSize t i h)
+    go (no h) = inr (slot-past t i (omega arith))
+
+-- ---- what is read of them
+module _ (t : List ℕ) (i : ℕ) (x : List ℕ) (is : x ≡ getD (pieces slotSize t) i []) where
+  slot-is : slotOf x ≡ slotAt t i
+  unfolding slotAt
+  slot-is = ap slotOf is
+
+  pub number-is : field x 0 8 ≡ slotAt t i .number
+  unfolding slotOf
+  number-is = ap (λ (s : Slot). s .number) slot-is
+
+  pub len-is : field x 8 2 ≡ slotAt t i .len
+  unfolding slotOf
+  len-is = ap (λ (s : Slot). s .len) slot-is
+
+  body-is : (n : ℕ) → n ≡ field x 8 2 → take n (padded x 10 64) ≡ slotBody (slotAt t i)
+  unfolding slotOf
+  body-is n e = ap (λ (k : ℕ). take k (padded x 10 64)) e ∙ ap slotBody slot-is
+
+  -- the three ways in which the code cuts the body out
+  pub body-none : length x < 74 → [] ≡ slotBody (slotAt t i)
+  unfolding field le
+  body-none h = go (slot-cases t i)
+    where
+      go : (length (getD (pieces slotSize t) i []) ≡ 74) ⊎ ([] ≡ getD (pieces slotSize t) i []) → [] ≡ slotBody (slotAt t i)
+      go (inl l) = absurd (omega (arith, ap length is))
+      go (inr e) = let n : 0 ≡ field x 8 2 = ap (λ (y : List ℕ). field y 8 2) (e ∙ sym is) in body-is 0 n
+
+  module _ (n : ℕ) (e : n ≡ field x 8 2) (l : 74 ≤ length x) where
+    part : padded x 10 64 ≡ take 64 (drop 10 x)
+    part = padded-part x 10 64 (omega arith)
+
+    pub body-long : 64 < n → take 64 (drop 10 x) ≡ slotBody (slotAt t i)
+    body-long h = sym part ∙ sym (take-all n (padded x 10 64) (rw length-padded (omega arith))) ∙ body-is n e
+
+    pub body-in : n ≤ 64 → take (10 + n - 10) (drop 10 x) ≡ slotBody (slotAt t i)
+    body-in h = rw (add-sub-cancel-left 10 n) (sym (ap (take n) part ∙ take-take n 64 (drop 10 x) h) ∙ body-is n e)
+
+  -- the three tests of `holds`
+  module _ (n : ℕ) (b : List ℕ) where
+    pub other-number : field x 0 8 ≢ n → false ≡ sameSlot (slotAt t i) (slotFor n b)
+    unfolding sameSlot both slotOf
+    other-number d = rw (← slot-is, ne-eqb (field x 0 8) n d)
+
+    pub other-length : field x 0 8 ≡ n → field x 8 2 ≢ length b → false ≡ sameSlot (slotAt t i) (slotFor n b)
+    unfolding sameSlot both slotOf
+    other-length e d = rw (← slot-is, eq-eqb (field x 0 8) n e, ne-eqb (field x 8 2) (length b) d)
+
+    pub bytes-decide : field x 0 8 ≡ n → field x 8 2 ≡ length b → sameBytes (padded x 10 64) (padded b 0 64) ≡ sameSlot (slotAt t i) (slotFor n b)
+    unfolding sameSlot both slotOf
+    bytes-decide e d = rw (← slot-is, eq-eqb (field x 0 8) n e, eq-eqb (field x 8 2) (length b) d)
+
+-- ---- comparing 64 bytes behind ten with a body and the zeros behind it
+module _ (x b : List ℕ) where
+  body-at : (k : ℕ) → k < 64 → getD (padded b 0 64) k 0 ≡ getD b k 0
+  body-at k h = getD-padded b 0 64 k h ∙ ap (λ (j : ℕ). getD b j 0) (zero-add k)
+
+  pub one-differs : (k : ℕ) → k < 64 → getD x (10 + k) 0 ≢ getD b k 0 → false ≡ sameBytes (padded x 10 64) (padded b 0 64)
+  one-differs k h n =
+      sym (bytes-differ (padded x 10 64) (padded b 0 64) k (rw length-padded h) (rw length-padded h)
+      (λ e. n (sym (getD-padded x 10 64 k h) ∙ e ∙ body-at k h)))
+
+  pub all-same : ((k : ℕ) → k < 64 → getD x (10 + k) 0 ≡ getD b k 0) → true ≡ sameBytes (padded x 10 64) (padded b 0 64)
+  all-same h =
+      let e : padded x 10 64 ≡ padded b 0 64 =
+      ext-getD 0 (padded x 10 64) (padded b 0 64) (length-padded x 10 64 ∙ sym (length-padded b 0 64))
+      (λ k l. go k (rw length-padded at l))
+      in
+      rw e (sym (same-bytes-refl (padded b 0 64)))
+    where
+      go : (k : ℕ) → k < 64 → getD (padded x 10 64) k 0 ≡ getD (padded b 0 64) k 0
+      go k l = getD-padded x 10 64 k l ∙ h k l ∙ sym (body-at k l)
+
+-- ---- writing a number: the bytes so far and those of what is left make the whole
+pub le-start : (w n : ℕ) (x : List ℕ) → take 0 x ++ toLe (w - 0) n ≡ toLe w n
+le-start w n x = let z : w - 0 ≡ w = omega arith in rw z
+
+pub le-step : (w v k : ℕ) (x : List ℕ) → k < w → length x ≡ w → take (k + 1) (set x k (v % 256)) ++ toLe (w - (k + 1)) (v / 256) ≡ take k x ++ toLe (w - k) v
+unfolding toLe
+le-step w v k x h l =
+    let z : w - k ≡ suc (w - (k + 1)) = omega arith in
+    rw (z, add-one k, take-suc-set x k (v % 256) (omega arith), append-assoc)
+
+pub le-end : (w v k : ℕ) (x : List ℕ) → w ≤ k → length x ≡ w → x ≡ take k x ++ toLe (w - k) v
+unfolding toLe
+le-end w v k x h l =
+    let z : w - k ≡ 0 = omega arith in
+    rw z (sym (append-nil (take k x) ∙ take-all k x (omega arith)))
+
+-- ---- writing a slot: a part that comes back as other 74 bytes is that slot put
+pub part-put : (t : List ℕ) (i : ℕ) (s : Slot) (x : List ℕ) → i < length t / 74 → x ≡ bytesOf s → length (s .bytes) ≡ 64
+    → take (74 * i) t ++ (x ++ drop (74 * i + 74 - 74 * i) (drop (74 * i) t)) ≡ putSlot t i s
+unfolding putSlot
+part-put t i s x h e b =
+    let l : length (bytesOf s) ≡ 74 = length-bytes s b in
+    let f : 74 * i + length (bytesOf s) ≤ length t = omega (arith, piece-fits slotSize t i h) in
+    rw e
+    (sym (put-in slotSize t i (bytesOf s) h ∙ sets-eq (bytesOf s) t (74 * i) f
+    ∙ rw (l, add-sub-cancel-left (74 * i) 74, drop-drop 74 (74 * i) t) (append-assoc (take (74 * i) t) (bytesOf s) (drop (74 * i + 74) t))))
+
+pub put-past : (t : List ℕ) (i : ℕ) (s : Slot) → length t / 74 ≤ i → t ≡ putSlot t i s
+unfolding putSlot
+put-past t i s h = sym (put-out slotSize t i (bytesOf s) h)
+
+-- a part of 74 bytes that was zeroed is an empty slot
+pub empty-part : (t : List ℕ) (i : ℕ) (x : List ℕ) → i < length t / 74 → x ≡ replicate (length (take (74 * i + 74 - 74 * i) (drop (74 * i) t))) 0 → x ≡ bytesOf emptySlot
+unfolding bytesOf toLe
+empty-part t i x h e = rw (add-sub-cancel-left (74 * i) 74, length-piece slotSize t i h) at e
+
+-- a part written right behind p
+seam : (p q y : List ℕ) (n k : ℕ) → length p ≡ n → take n (p ++ q) ++ (y ++ drop k (drop n (p ++ q))) ≡ (p ++ y) ++ drop k q
+seam p q y n k l = rw (take-at p q n l, drop-at p q n l) (sym (append-assoc p y (drop k q)))
+
+-- three parts of 74 bytes, written one after the other, are number, length and padded body
+module _ (x : List ℕ) (n : ℕ) (b y1 y2 y3 : List ℕ) (l : length x ≡ 74) where
+  abbrev one : List ℕ
+  one = y1 ++ drop 8 x
+
+  abbrev two : List ℕ
+  two = take 8 one ++ (y2 ++ drop 2 (drop 8 one))
+
+  pub filled : y1 ≡ toLe (length (take 8 x)) n → y2 ≡ toLe (length (take 2 (drop 8 one))) (length b) → y3 ≡ padded b 0 (length (take 64 (drop 10 two)))
+      → take 10 two ++ (y3 ++ drop 64 (drop 10 two)) ≡ bytesOf (slotFor n b)
+  unfolding bytesOf
+  filled e1 e2 e3 =
+      let f1 : y1 ≡ toLe 8 n = rw (length-take-le 8 x (omega arith)) at e1 in
+      let n1 : length y1 ≡ 8 = ap length f1 ∙ length-toLe 8 n in
+      let r2 : length (drop 8 x) ≡ 66 = rw length-drop (omega arith) in
+      let f2 : y2 ≡ toLe 2 (length b) = rw (drop-at y1 (drop 8 x) 8 n1, length-take-le 2 (drop 8 x) (omega arith)) at e2 in
+      let n2 : length (y1 ++ y2) ≡ 10 = rw length-append (omega (arith, ap length f2 ∙ length-toLe 2 (length b))) in
+      let two-is : two ≡ (y1 ++ y2) ++ drop 2 (drop 8 x) = seam y1 (drop 8 x) y2 8 2 n1 in
+      let r3 : length (drop 2 (drop 8 x)) ≡ 64 = rw length-drop (omega arith) in
+      let f3 : y3 ≡ padded b 0 64 = rw (two-is, drop-at (y1 ++ y2) (drop 2 (drop 8 x)) 10 n2, length-take-le 64 (drop 2 (drop 8 x)) (omega arith)) at e3 in
+      rw two-is
+      (seam (y1 ++ y2) (drop 2 (drop 8 x)) y3 10 64 n2
+      ∙ ap (λ (r : List ℕ). ((y1 ++ y2) ++ y3) ++ r) (drop-of-length-le (drop 2 (drop 8 x)) {i = 64} (omega arith))
+      ∙ append-nil ((y1 ++ y2) ++ y3) ∙ append-assoc y1 y2 y3 ∙ cc (f1, f2, f3))
+
+-- ---- sizes and starts
+pub good-size : (n : ℕ) → goodShelf n ≡ true → n ≡ shelfSize
+unfolding goodShelf
+good-size n e = eqb-true n shelfSize e
+
+pub size-good : (n : ℕ) → n ≡ shelfSize → goodShelf n ≡ true
+unfolding goodShelf
+size-good n e = eq-eqb n shelfSize e
+
+pub other-size : (n : ℕ) → n ≢ shelfSize → goodShelf n ≡ false
+unfolding goodShelf
+other-size n d = ne-eqb n shelfSize d
+
+-- every slot of zeros is empty, there or not
+pub zeros-empty : (n i : ℕ) → slotAt (replicate n 0) i ≡ emptySlot
+unfolding slotAt slotOf field padded le
+zeros-empty n i = ap (λ (l : List (List ℕ)). slotOf (getD l i [])) (pieces-replicate slotSize n 0) ∙ go (n / slotSize) i
+  where
+    go : (m j : ℕ) → slotOf (getD (replicate m (replicate slotSize 0)) j []) ≡ emptySlot
+    go zero j = refl
+    go (suc m) zero = refl
+    go (suc m) (suc j) = go m j
