@@ -86,15 +86,12 @@ decimal-digits =
     (λ n h. rw (decimal-small n h) (digits-snoc [] (48 + n) (λ i l. absurd (not-suc-le-zero l)) (omega arith) (omega arith)))
     (λ n h p. rw (decimal-more n h) (digits-snoc (decimalOf (n / 10)) (48 + n % 10) p (omega arith) (omega arith)))
 
--- and the first is no `0`, but in `0` alone
+-- and the first is no `0`, but in `0` alone (Vectors, zero-is)
 pub decimal-lead : (n : ℕ) → 0 < n → 48 < getD (decimalOf n) 0 0
 decimal-lead =
     decimal-ind (λ n. 0 < n → 48 < getD (decimalOf n) 0 0)
     (λ n h l. rw (decimal-small n h) (omega arith))
     (λ n h p l. rw (decimal-more n h, List·getD-append (decimalOf (n / 10)) ((48 + n % 10) ∷ []) 0 0 (decimal-some (n / 10))) (p (omega arith)))
-
-pub decimal-zero : decimalOf 0 ≡ 48 ∷ []
-decimal-zero = decimal-small 0 (omega arith)
 
 -- ---- a decimal read back
 -- the number that the digits s are, behind the number a

@@ -1,15 +1,16 @@
 -- Trimming looks at the last byte: a space goes, any other stays with all before it.
 -- Assumes nothing.
-use Prim.Native.Nat.{ℕ, suc, _-_, _≤_, _<_}
+use Prim.Native.Nat.{ℕ, zero, suc, _-_, _≤_, _<_}
 use mathlib.Core.Path.{_≡_, refl, sym, ap, _∙_, subst}
 use mathlib.Core.List.{List, [], _∷_, _++_, map}
+use native.Mathlib.Nat.{not-suc-le-zero, le-of-suc-le-suc}
 use native.Mathlib.Omega.{arith}
 use lib.ListN.{length, getD, take, length-map}
 use lib.Seq.{take-suc, take-all}
-use lib.Dec.{eqb}
-use borrow.Author.Tests.{ne-eqb, le-leb, lt-leb}
+use lib.Dec.{eqb, leb}
+use borrow.Author.Tests.{ne-eqb, le-leb, lt-leb, leb-true}
 use Rattle.facts.specs.Pick.{pick, both}
-use Rattle.facts.proofs.Picks.{pick-ind}
+use Rattle.facts.proofs.Picks.{pick-ind, both-true}
 use Rattle.text.specs.Text.{trimCons, trimOf, shownOf, tickerOf}
 
 -- ---- trailing spaces
@@ -63,6 +64,23 @@ shown-below x h = simp (lt-leb 32 x h)
 pub shown-above : (x : ℕ) → 126 < x → 46 ≡ shownOf x
 unfolding shownOf pick both
 shown-above x h = simp (le-leb 32 x (omega arith), lt-leb x 126 h)
+
+shown-range : (x : ℕ) → (32 ≤ shownOf x) × (shownOf x ≤ 126)
+unfolding shownOf
+shown-range x =
+    pick-ind (λ y. (32 ≤ y) × (y ≤ 126)) (both (leb 32 x) (leb x 126)) x 46
+    (λ e. let w = both-true {a = leb 32 x} {b = leb x 126} e in (leb-true 32 x (w .0), leb-true x 126 (w .1)))
+    (λ e. (omega arith, omega arith))
+
+map-range : (s : List ℕ) (i : ℕ) → i < length (map shownOf s) → (32 ≤ getD (map shownOf s) i 0) × (getD (map shownOf s) i 0 ≤ 126)
+map-range [] i h = absurd (not-suc-le-zero h)
+map-range (x ∷ s) zero h = shown-range x
+map-range (x ∷ s) (suc i) h = map-range s i (le-of-suc-le-suc h)
+
+-- so no line feed lies in a ticker
+pub ticker-shown : (t : List ℕ) (i : ℕ) → i < length (tickerOf t) → (32 ≤ getD (tickerOf t) i 0) × (getD (tickerOf t) i 0 ≤ 126)
+unfolding tickerOf
+ticker-shown t i h = map-range (trimOf t) i h
 
 -- ---- how long
 cons-length : (x : ℕ) (s : List ℕ) → length (trimCons x s) ≤ suc (length s)

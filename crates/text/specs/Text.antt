@@ -13,7 +13,7 @@ pub record Wrote (b : List ℕ) (at : ℕ) (t b' : List ℕ) (r : ℕ) : Type 0 
   pub bytes : b' ≡ sets b at t
   pub end : r ≡ at + min (length t) (length b - at)
 
--- the decimal digits of n, at most f of them, the highest first
+-- the decimal digits of n, at most f of them, the highest first (`more` is named so that it is computed only where it is taken)
 unfoldable pub digitsOf : ℕ → ℕ → List ℕ
 digitsOf zero n = []
 digitsOf (suc f) n = let more = digitsOf f (n / 10) ++ ((48 + n % 10) ∷ []) in pick (ltb n 10) ((48 + n) ∷ []) more

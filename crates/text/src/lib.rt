@@ -28,7 +28,7 @@ pub fn bytes(buf: &mut [u8], at: usize, s: &[u8]) -> usize
     o
 }
 
-// The lowest digit of n.
+// The byte that shows the lowest digit of n.
 fn digit(n: u64) -> u8
     ensures { λ r. ⌜ r ≡ 48 + n % 10 ⌝ }
 {
