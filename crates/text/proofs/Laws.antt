@@ -1,0 +1,118 @@
+-- One text behind another is one text, since a store past the end of a buffer changes nothing: an append needs no room, and what it leaves is decided all the same.
+-- Assumes nothing.
+use Prim.Native.Nat.{ℕ, zero, suc, _+_, _-_, _*_, _≤_, _<_, min}
+use mathlib.Core.Path.{_≡_, refl, sym, ap, _∙_}
+use mathlib.Core.List.{List, [], _∷_, _++_, map, append-assoc}
+use native.Mathlib.Decide.{decLe}
+use native.Mathlib.Nat.{suc-mul}
+use native.Mathlib.Omega.{arith}
+use native.Mathlib.Numerals.{add-one}
+use lib.ListN.{length, getD, take, drop, set, length-set, length-append}
+use lib.Seq.{sets, length-sets, sets-eq, set-out, take-suc, take-all, take-at, drop-at, length-take-le}
+use Rattle.facts.proofs.Picks.{no-second}
+use Rattle.text.specs.Text.{Wrote, each}
+
+-- ---- stores
+-- past the end nothing is stored
+sets-out : (u b : List ℕ) (i : ℕ) → length b ≤ i → sets b i u ≡ b
+sets-out [] b i h = refl
+sets-out (a ∷ u) b i h =
+    let e = set-out b i a h in
+    let h' : length (set b i a) ≤ suc i = omega (arith, length-set b i a) in
+    sets-out u (set b i a) (suc i) h' ∙ e
+
+sets-append : (t u b : List ℕ) (i : ℕ) → sets b i (t ++ u) ≡ sets (sets b i t) (i + length t) u
+sets-append [] u b i = ap (λ (k : ℕ). sets b k u) (omega arith)
+sets-append (a ∷ t) u b i = sets-append t u (set b i a) (suc i) ∙ ap (λ (k : ℕ). sets (sets (set b i a) (suc i) t) k u) (omega arith)
+
+-- storing behind what fitted is storing behind all of it
+sets-clip : (b u : List ℕ) (i n : ℕ) → sets b (i + min n (length b - i)) u ≡ sets b (i + n) u
+sets-clip b u i n = go (decLe (i + n) (length b))
+  where
+    go : Dec (i + n ≤ length b) → sets b (i + min n (length b - i)) u ≡ sets b (i + n) u
+    go (yes h) = ap (λ (k : ℕ). sets b k u) (omega arith)
+    go (no h) = sets-out u b (i + min n (length b - i)) (omega arith) ∙ sym (sets-out u b (i + n) (omega arith))
+
+-- ---- one append, and one behind another
+pub wrote-none : (b : List ℕ) (at : ℕ) → Wrote b at [] b at
+wrote-none b at = record { bytes = refl; end = omega arith }
+
+-- the buffer keeps its length
+pub wrote-kept : {b b' t : List ℕ} {at r : ℕ} → Wrote b at t b' r → length b' ≡ length b
+wrote-kept {b} {b'} {t} {at} p = ap length (p .bytes) ∙ length-sets b at t
+
+pub wrote-then : {b b' b'' t u : List ℕ} {at r r' : ℕ} → Wrote b at t b' r → Wrote b' r u b'' r' → Wrote b at (t ++ u) b'' r'
+wrote-then {b} {b'} {b''} {t} {u} {at} {r} p q = record {
+  bytes = q .bytes ∙ ap (λ (l : List ℕ). sets l r u) (p .bytes) ∙ ap (λ (k : ℕ). sets (sets b at t) k u) (p .end ∙ ap (λ (m : ℕ). at + min (length t) (m - at)) (sym (length-sets b at t))) ∙ sets-clip (sets b at t) u at (length t) ∙ sym (sets-append t u b at);
+  end = omega (arith, length-append t u, p .end, q .end, wrote-kept p);
+}
+
+-- the text under another name
+pub wrote-as : {b b' t u : List ℕ} {at r : ℕ} → t ≡ u → Wrote b at t b' r → Wrote b at u b' r
+wrote-as e p = rw e at p
+
+-- a byte that a call answered
+pub wrote-byte : {x y : ℕ} {b b' : List ℕ} {at r : ℕ} → x ≡ y → Wrote b at (x ∷ []) b' r → Wrote b at (y ∷ []) b' r
+wrote-byte e p = rw e at p
+
+-- ---- loops: one element more of s, as it is or as f shows it, and one text more of each
+pub wrote-more : (s : List ℕ) (i : ℕ) {b b' b'' : List ℕ} {at r r' : ℕ} → i < length s → Wrote b at (take i s) b' r → Wrote b' r (getD s i 0 ∷ []) b'' r' → Wrote b at (take (i + 1) s) b'' r'
+wrote-more s i h p q = rw (add-one, take-suc s i 0) (wrote-then p q)
+
+pub wrote-all : (s : List ℕ) (i : ℕ) {b b' : List ℕ} {at r : ℕ} → length s ≤ i → Wrote b at (take i s) b' r → Wrote b at s b' r
+wrote-all s i h p = wrote-as (take-all i s h) p
+
+map-snoc : (f : ℕ → ℕ) (s : List ℕ) (x : ℕ) → map f (s ++ (x ∷ [])) ≡ map f s ++ (f x ∷ [])
+map-snoc f [] x = refl
+map-snoc f (y ∷ s) x = ap (λ (l : List ℕ). f y ∷ l) (map-snoc f s x)
+
+pub map-more : (f : ℕ → ℕ) (s : List ℕ) (i : ℕ) {b b' b'' : List ℕ} {at r r' : ℕ} → i < length s → Wrote b at (map f (take i s)) b' r → Wrote b' r (f (getD s i 0) ∷ []) b'' r' → Wrote b at (map f (take (i + 1) s)) b'' r'
+map-more f s i h p q = rw (add-one, take-suc s i 0, map-snoc) (wrote-then p q)
+
+pub map-all : (f : ℕ → ℕ) (s : List ℕ) (i : ℕ) {b b' : List ℕ} {at r : ℕ} → length s ≤ i → Wrote b at (map f (take i s)) b' r → Wrote b at (map f s) b' r
+map-all f s i h p = wrote-as (ap (map f) (take-all i s h)) p
+
+pub each-none : (f : ℕ → List ℕ) (b : List ℕ) (at : ℕ) → Wrote b at (each f 0) b at
+unfolding each
+each-none f b at = wrote-none b at
+
+pub each-more : (f : ℕ → List ℕ) {i : ℕ} {b b' b'' : List ℕ} {at r r' : ℕ} → Wrote b at (each f i) b' r → Wrote b' r (f i) b'' r' → Wrote b at (each f (i + 1)) b'' r'
+unfolding each
+each-more f {i} p q = rw add-one (wrote-then p q)
+
+pub each-all : (f : ℕ → List ℕ) {i n : ℕ} {b b' : List ℕ} {at r : ℕ} → i ≤ n → n ≤ i → Wrote b at (each f i) b' r → Wrote b at (each f n) b' r
+each-all f {i} {n} h h' p = let e : i ≡ n = omega arith in rw e at p
+
+-- where no text of each has more than m bytes, n of them have at most n * m
+pub each-length : (f : ℕ → List ℕ) (m n : ℕ) → ((i : ℕ) → i < n → length (f i) ≤ m) → length (each f n) ≤ n * m
+unfolding each
+each-length f m zero h = omega arith
+each-length f m (suc n) h = omega (arith, length-append (each f n) (f n), h n (omega arith), each-length f m n (λ i l. h i (omega arith)), suc-mul n m)
+
+-- ---- what an append says
+-- no second outcome fits
+pub wrote-unique : {b t c d : List ℕ} {at r s : ℕ} → Wrote b at t c r → Wrote b at t d s → (c ≡ d) × (r ≡ s)
+wrote-unique p q = (no-second (p .bytes) (q .bytes), no-second (p .end) (q .end))
+
+-- it ends within the buffer: the two facts that `&buf[..r]` asks
+pub wrote-counts : {b b' t : List ℕ} {at r : ℕ} → Wrote b at t b' r → at ≤ length b → (r ≤ length b') × (r ≡ length (take r b'))
+wrote-counts {b} {b'} {t} {at} {r} p h =
+    let l : r ≤ length b' = omega (arith, p .end, wrote-kept p) in
+    (l, sym (length-take-le r b' l))
+
+-- where the text fits, the buffer is what lay before it, the text, and what lay behind it
+pub wrote-part : {b b' t : List ℕ} {at r : ℕ} → Wrote b at t b' r → at + length t ≤ length b → (r ≡ at + length t) × (b' ≡ take at b ++ (t ++ drop r b))
+wrote-part {b} {b'} {t} {at} {r} p h =
+    let n : r ≡ at + length t = omega (arith, p .end) in
+    (n, rw n (p .bytes ∙ sets-eq t b at h ∙ append-assoc (take at b) t (drop (at + length t) b)))
+
+-- where it fits and starts at 0, the first r bytes are the text and the rest of the buffer is as it was
+pub wrote-whole : {b b' t : List ℕ} {r : ℕ} → Wrote b 0 t b' r → length t ≤ length b → (r ≡ length t) × (take r b' ≡ t) × (drop r b' ≡ drop r b)
+wrote-whole {b} {b'} {t} {r} p h =
+    let w = wrote-part p (omega arith) in
+    let n : length t ≡ r = omega (arith, w .0) in
+    (sym n, ap (take r) (w .1) ∙ take-at t (drop r b) r n, ap (drop r) (w .1) ∙ drop-at t (drop r b) r n)
+
+-- where the end lies before that of the buffer, the text fitted
+pub wrote-fits : {b b' t : List ℕ} {at r : ℕ} → Wrote b at t b' r → r < length b → at + length t ≤ length b
+wrote-fits p h = omega (arith, p .end)

@@ -1,0 +1,5 @@
+pub mod Laws
+pub mod DecimalLaws
+pub mod SignedLaws
+pub mod TickerLaws
+pub mod Vectors
