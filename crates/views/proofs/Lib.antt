@@ -2,3 +2,4 @@ pub mod Laws
 pub mod Runs
 pub mod Signs
 pub mod Spreads
+pub mod Theorems
