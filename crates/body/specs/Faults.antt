@@ -1,7 +1,7 @@
 -- Which field of a body is out of range: the offset of its first byte, the earliest first, and 0 for none (no field starts at 0).
 use Prim.Native.Nat.{ℕ, _+_}
 use mathlib.Core.List.{List}
-use mathlib.Core.Bool.{Bool, true, false}
+use mathlib.Core.Bool.{Bool}
 use lib.ListN.{getD}
 use lib.Dec.{eqb}
 use Rattle.facts.specs.Pick.{pick}

@@ -1,6 +1,6 @@
 -- The field ranges of document 01, "Message bodies": "Field ranges: ..".
 use Prim.Native.Nat.{ℕ}
-use mathlib.Core.Bool.{Bool, true, false}
+use mathlib.Core.Bool.{Bool, false}
 use mathlib.Core.List.{List, [], _∷_}
 use lib.Dec.{eqb, leb, ltb}
 use Rattle.facts.specs.Pick.{both, either}

@@ -1,19 +1,18 @@
 -- The table's rule, from one test that the checker computes over its pairs, and what it says of every type byte.
 -- Assumes nothing.
-use mathlib.Core.Path.{_≡_, refl, sym, ap, _∙_}
+use mathlib.Core.Path.{_≡_, refl}
 use mathlib.Core.List.{List, [], _∷_}
 use mathlib.Core.Bool.{Bool, true, false}
 use mathlib.Core.Logic.{_⊎_, inl, inr}
-use Prim.Native.Nat.{ℕ, zero, suc, _+_, _*_, _≤_, _<_}
+use Prim.Native.Nat.{ℕ, _+_, _≤_, _<_}
 use native.Mathlib.Numerals.{add-one}
-use native.Mathlib.Omega.{arith}
 use lib.ListN.{length, getD, drop}
 use lib.Seq.{drop-cons}
 use lib.Dec.{eqb, leb}
 use borrow.Author.Tests.{eqb-true, leb-true}
 use Rattle.facts.specs.Pick.{pick, both}
 use Rattle.facts.proofs.Picks.{both-true}
-use Rattle.kinds.specs.Table.{table, lookup, lengthOf, kindOf, typeOf, kindLength, refusalOf}
+use Rattle.kinds.specs.Table.{table, lookup, lengthOf, kindOf, typeOf, kindLength}
 use Rattle.kinds.specs.declared.Kind.{Kind}
 use Rattle.kinds.specs.declared.Pair.{Pair}
 

@@ -1,22 +1,23 @@
 -- Where the parts of a packet lie, and what one record, the rest behind it and the end say of framing.
 -- Assumes nothing.
 use mathlib.Core.Path.{_≡_, refl, ap, sym, _∙_, subst}
-use mathlib.Core.List.{List, [], _∷_}
-use mathlib.Core.Bool.{Bool, true, false}
+use mathlib.Core.List.{List, []}
+use mathlib.Core.Bool.{true}
 use mathlib.Core.Logic.{_⊎_, inl, inr}
-use Prim.Native.Nat.{ℕ, zero, suc, _+_, _-_, _*_, _≤_, _<_}
+use Prim.Native.Nat.{ℕ, zero, suc, _+_, _-_, _≤_, _<_}
 use native.Mathlib.Nat.{add-sub-cancel-left, add-zero, zero-add}
 use native.Mathlib.Omega.{arith}
-use borrow.Author.Tests.{ltb-false, leb-true, lt-ltb, le-ltb, le-leb, lt-leb}
+use borrow.Author.Tests.{ltb-false, leb-true, lt-ltb, le-ltb, le-leb, lt-leb, eq-eqb, ne-eqb}
 use lib.ListN.{length, take, drop, length-drop, drop-of-length-le}
-use lib.Seq.{take-all, take-nil, drop-drop, length-take-le}
-use lib.Dec.{ltb, leb, eqb}
+use lib.Seq.{take-all, take-nil, drop-drop}
+use lib.Dec.{ltb, leb}
 use Rattle.facts.specs.Pick.{pick, both}
-use Rattle.facts.proofs.Picks.{pick-cases, pick-ind, both-true}
+use Rattle.facts.proofs.Picks.{pick-ind, both-true}
 use Rattle.wire.specs.Le.{field}
 use Rattle.wire.proofs.Laws.{field-past}
 use Rattle.fields.specs.Fields.{refusal, numberOf}
 use Rattle.fields.specs.declared.Refusal.{Refusal}
+use Rattle.fields.specs.declared.Body.{Body}
 use Rattle.body.specs.Read.{readBody, goodBody}
 use Rattle.body.proofs.Laws.{numbers, number-good}
 use Rattle.packet.specs.Record.{Rec, numberOk, headOf, bodyOf, recOf, refused, bodyJudged, readRecord}
@@ -52,6 +53,23 @@ body-past p at h =
 
 pub body-short : (p : List ℕ) (at n : ℕ) → n ≡ field (drop at p) 8 2 → length p - (at + 10) < n → drop (at + 10) p ≡ bodyOf (drop at p)
 body-short p at n e h = sym (take-all n (drop (at + 10) p) (rw length-drop (omega arith))) ∙ body-part p at n e
+
+-- a record that is whole and whose number is good: the body reader decides
+pub record-judged : (t : List ℕ) (h : Head) (m : Body) (k : ℕ) → h ≡ headOf t → 10 ≤ length t → h .len ≤ length t - 10 → numberOk (h .number) ≡ true → m ≡ readBody (take (10 + h .len - 10) (drop 10 t)) → k ≡ numberOf m → readRecord t ≡ bodyJudged k (Record.Good h)
+unfolding readRecord pick
+record-judged t h m k e a b o r q =
+    let n : h .len ≡ field t 8 2 = ap (λ x. x .len) e in
+    let s : h .number ≡ field t 0 8 = ap (λ x. x .number) e in
+    let j : k ≡ numberOf (readBody (bodyOf t)) = q ∙ ap numberOf (r ∙ ap readBody (body-cut t (h .len) n)) in
+    simp (le-ltb (length t) 10 a, ← n, le-ltb _ _ b, ← s, o, ← j)
+
+pub judged-good : (g : Record) (k : ℕ) → k ≡ 0 → g ≡ bodyJudged k g
+unfolding bodyJudged pick
+judged-good g k e = simp (eq-eqb k 0 e)
+
+pub judged-bad : (g : Record) (k : ℕ) → (k ≡ 0 → ⊥) → refused k ≡ bodyJudged k g
+unfolding bodyJudged pick
+judged-bad g k e = simp (ne-eqb k 0 e)
 
 -- what is known of a good record: its number is in range, and its body good
 pub record GoodRec (c : Rec) : Type 0 where

@@ -7,7 +7,6 @@ use Rattle.facts.specs.Pick.{pick, both}
 use Rattle.fields.specs.Fields.{refusal}
 use Rattle.fields.specs.declared.Refusal.{Refusal}
 use Rattle.packet.specs.Record.{Rec, recOf, readRecord}
-use Rattle.packet.specs.declared.Head.{Head}
 use Rattle.packet.specs.declared.Record.{Record}
 use Rattle.packet.specs.declared.Packet.{Packet}
 

@@ -1,6 +1,5 @@
 -- The tests on the way to each answer are those of framed and judged; the table, the kind and the fault are the callees' answers.
 -- Assumes nothing.
-use Prim.Native.Nat.{_<_}
 use native.Mathlib.Omega.{arith}
 use lib.ListN.{length}
 use borrow.Author.Tests.{lt-ltb, le-ltb, eq-eqb, ne-eqb}

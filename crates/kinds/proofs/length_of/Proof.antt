@@ -6,7 +6,7 @@ use Rattle.facts.specs.Pick.{pick}
 use Rattle.kinds.specs.Table.{pair}
 use Rattle.kinds.proofs.Laws.{lookup-at}
 use mathlib.Core.Path.{_≡_, refl, sym, _∙_}
-use Prim.Native.Nat.{ℕ, _+_, _-_, _≤_}
+use Prim.Native.Nat.{_-_, _≤_}
 use native.Mathlib.Omega.{arith}
 use lib.ListN.{getD, drop}
 use Rattle.kinds.specs.Table.{lengthOf, lookup, table}

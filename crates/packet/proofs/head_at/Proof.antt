@@ -1,6 +1,6 @@
 -- Past the end both fields are 0; else the part lent from `at` on is what is left there.
 -- Assumes nothing.
-use mathlib.Core.Path.{_≡_, ap, _∙_}
+use mathlib.Core.Path.{ap}
 use Rattle.packet.specs.Record.{headOf}
 use Rattle.packet.proofs.Laws.{rest, head-past}
 use borrow.Author.Needs.{needs}

@@ -1,17 +1,12 @@
+use mathlib.Core.Path.{_≡_, ap, sym, _∙_}
+use Rattle.packet.proofs.Laws.{record-judged, judged-good, judged-bad}
 -- The tests on the way to each answer are those of readRecord, with the header's and the body reader's answers put in.
 -- Assumes nothing.
-use lib.Dec.{ltb}
 use Rattle.wire.specs.Le.{field}
-use Rattle.packet.proofs.Laws.{body-cut}
-use mathlib.Core.Path.{_≡_, ap, _∙_}
-use Prim.Native.Nat.{ℕ, _-_}
-use native.Mathlib.Nat.{add-sub-cancel-left}
-use borrow.Author.Tests.{lt-ltb, le-ltb, eq-eqb, ne-eqb, not-true, not-false}
-use lib.ListN.{length, take, drop}
+use borrow.Author.Tests.{lt-ltb, le-ltb, not-true, not-false}
+use lib.ListN.{length}
 use Rattle.facts.specs.Pick.{pick}
-use Rattle.fields.specs.Fields.{numberOf}
-use Rattle.body.specs.Read.{readBody}
-use Rattle.packet.specs.Record.{bodyOf, bodyJudged, readRecord}
+use Rattle.packet.specs.Record.{readRecord}
 use borrow.Author.Needs.{needs}
 use Rattle.packet.proofs.read_record.Statement.{statement}
 use Rattle.packet.proofs.read_record.Tie as tie
@@ -70,42 +65,10 @@ number-of-requires : tie.Need-number-of-requires
 number-of-requires c κs = search needs
 
 returns-4 : tie.Need-returns-4
-unfolding readRecord bodyJudged pick
-returns-4 c =
-    let t = c .before .before .before .before .before .before .before .before .before .before .args .t .now in
-    let h = c .before .before .before .before .before .before .before .head-at .result in
-    let n : h .len ≡ field t 8 2 = ap (λ h. h .len) (c .before .before .before .before .before .before .before .head-at .ensures) in
-    let s : h .number ≡ field t 0 8 = ap (λ h. h .number) (c .before .before .before .before .before .before .before .head-at .ensures) in
-    let k : c .before .number-of .result ≡ numberOf (readBody (bodyOf t)) = c .before .number-of .ensures ∙ ap numberOf (c .before .before .read-body .ensures ∙ ap readBody (body-cut t (h .len) n)) in
-    simp (
-      le-ltb (length t) 10 (c .before .before .before .before .before .before .before .before .if1 .left),
-      ← n,
-      le-ltb _ _ (c .before .before .before .before .before .before .if2 .left),
-      ← s,
-      ← c .before .before .before .before .before .number-ok .ensures,
-      not-false (c .before .before .before .before .before .number-ok .result) (c .before .before .before .before .if3 .left),
-      ← k,
-      eq-eqb _ _ (c .if4 .taken),
-    )
+returns-4 c = judged-good _ (c .before .number-of .result) (c .if4 .taken) ∙ sym (record-judged (c .before .before .before .before .before .before .before .before .before .before .args .t .now) (c .before .before .before .before .before .before .before .head-at .result) (c .before .before .read-body .result) (c .before .number-of .result) (c .before .before .before .before .before .before .before .head-at .ensures) (c .before .before .before .before .before .before .before .before .if1 .left) (c .before .before .before .before .before .before .if2 .left) (sym (c .before .before .before .before .before .number-ok .ensures) ∙ not-false (c .before .before .before .before .before .number-ok .result) (c .before .before .before .before .if3 .left)) (c .before .before .read-body .ensures) (c .before .number-of .ensures))
 
 returns-5 : tie.Need-returns-5
-unfolding readRecord bodyJudged pick
-returns-5 c =
-    let t = c .before .before .before .before .before .before .before .before .before .before .args .t .now in
-    let h = c .before .before .before .before .before .before .before .head-at .result in
-    let n : h .len ≡ field t 8 2 = ap (λ h. h .len) (c .before .before .before .before .before .before .before .head-at .ensures) in
-    let s : h .number ≡ field t 0 8 = ap (λ h. h .number) (c .before .before .before .before .before .before .before .head-at .ensures) in
-    let k : c .before .number-of .result ≡ numberOf (readBody (bodyOf t)) = c .before .number-of .ensures ∙ ap numberOf (c .before .before .read-body .ensures ∙ ap readBody (body-cut t (h .len) n)) in
-    simp (
-      le-ltb (length t) 10 (c .before .before .before .before .before .before .before .before .if1 .left),
-      ← n,
-      le-ltb _ _ (c .before .before .before .before .before .before .if2 .left),
-      ← s,
-      ← c .before .before .before .before .before .number-ok .ensures,
-      not-false (c .before .before .before .before .before .number-ok .result) (c .before .before .before .before .if3 .left),
-      ← k,
-      ne-eqb _ _ (c .if4 .left),
-    )
+returns-5 c = judged-bad _ (c .before .number-of .result) (c .if4 .left) ∙ sym (record-judged (c .before .before .before .before .before .before .before .before .before .before .args .t .now) (c .before .before .before .before .before .before .before .head-at .result) (c .before .before .read-body .result) (c .before .number-of .result) (c .before .before .before .before .before .before .before .head-at .ensures) (c .before .before .before .before .before .before .before .before .if1 .left) (c .before .before .before .before .before .before .if2 .left) (sym (c .before .before .before .before .before .number-ok .ensures) ∙ not-false (c .before .before .before .before .before .number-ok .result) (c .before .before .before .before .if3 .left)) (c .before .before .read-body .ensures) (c .before .number-of .ensures))
 
 pub read-record-spec : {M : Type 1} → statement M
 read-record-spec =
