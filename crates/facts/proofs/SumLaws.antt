@@ -1,7 +1,7 @@
 -- Sums by the list's own recursion: a walk from the front, one store, and a bound.
 -- Assumes nothing.
 use mathlib.Core.Path.{_≡_, refl}
-use mathlib.Core.List.{List, [], _∷_}
+use mathlib.Core.List.{List, [], _∷_, map}
 use mathlib.Core.Bool.{Bool, true, false}
 use Prim.Native.Nat.{ℕ, zero, suc, _+_, _*_, _≤_, _<_}
 use native.Mathlib.Numerals.{add-one}
@@ -63,3 +63,9 @@ module _ {A : Type 0} where
   unfolding sumBy
   sum-add f g [] = refl
   sum-add f g (x ∷ xs) = omega (arith, sum-add f g xs)
+
+-- of a list that was mapped
+pub sum-map : {A B : Type 0} (g : B → ℕ) (h : A → B) (xs : List A) → sumBy g (map h xs) ≡ sumBy (λ x. g (h x)) xs
+unfolding sumBy
+sum-map g h [] = refl
+sum-map g h (x ∷ xs) = rw (sum-map g h xs)
