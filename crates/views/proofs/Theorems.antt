@@ -3,7 +3,6 @@
 use mathlib.Core.Path.{_≡_, refl, sym, ap, _∙_}
 use mathlib.Core.List.{List, [], _∷_, _++_, map}
 use mathlib.Core.Bool.{Bool, true, false}
-use mathlib.Core.Logic.{⊎-elim}
 use Prim.Native.Nat.{ℕ, suc, _+_, _*_, _/_, _-_, _≤_, _<_, min}
 use native.Mathlib.Omega.{arith}
 use lib.ListN.{length, getD, take, drop, length-append, length-take, length-drop, length-map, List·getD-append, List·getD-map}
@@ -12,23 +11,30 @@ use lib.Dec.{ltb, eqb}
 use lib.IntN.{ℤ, pos, natAbs, _-ℤ_}
 use lib.Signed.{ltZ}
 use borrow.Author.Tests.{eq-eqb, ne-eqb, eqb-true, eqb-false}
-use Rattle.facts.specs.Pick.{both, either}
+use Rattle.facts.specs.Pick.{both, pick}
 use Rattle.facts.specs.Pieces.{pieces}
 use Rattle.facts.specs.Sums.{sumBy, onlyIf, countBy}
-use Rattle.facts.proofs.Picks.{either-true}
+use Rattle.facts.proofs.Picks.{pick-ind}
 use Rattle.facts.proofs.PieceLaws.{length-join, wide-map, pieces-join, getD-pieces, getD-piece}
-use Rattle.facts.proofs.SumLaws.{only-yes}
+use Rattle.facts.proofs.SumLaws.{sum-map, only-yes}
+use Rattle.fields.specs.Fields.{refusal}
 use Rattle.rows.specs.declared.Row.{Row}
-use Rattle.rows.specs.Find.{ofKey}
+use Rattle.rows.specs.Find.{ofKey, countLive}
+use Rattle.rows.specs.Rows.{rows}
 use Rattle.rows.proofs.Judged.{live-ranges}
 use Rattle.ascend.specs.Ascend.{has, anyBy, inPlace}
 use Rattle.ascend.proofs.Laws.{Ascends, Rising, rising-ascends}
+use Rattle.ascend.proofs.Each.{all-weaken, all-and, all-map, all-has, rising-below, any-sum}
 use Rattle.ascend.proofs.Places.{All, sum-covered, sum-places, places-ascend, places-has, places-covered}
+use Rattle.symbols.specs.Entries.{entries}
+use Rattle.symbols.specs.Find.{countUsed}
 use Rattle.views.specs.declared.Level.{Level}
 use Rattle.views.specs.declared.Side.{Side}
 use Rattle.views.specs.declared.SpreadAnswer.{SpreadAnswer}
+use Rattle.views.specs.declared.CountsAnswer.{CountsAnswer}
 use Rattle.views.specs.Ladder.{topPrice, keyOf, far, atPrice, placesOf, prices, levelOf, ladder, threeOf, fitting, written}
 use Rattle.views.specs.Nearest.{beyond}
+use Rattle.views.specs.Views.{goodTables, viewFault, Shown, ladderView, spreadView, countsView, ladderNumber, spreadNumber, countsNumber}
 use Rattle.views.specs.Spread.{between, spreadOf}
 use Rattle.views.proofs.Signs.{minus-top, minus-below, minus-same, minus-zero}
 use Rattle.views.proofs.Laws.{bid-far, offer-far, far-top, far-far, key-price, at-price-live, rising}
@@ -47,21 +53,17 @@ level-prices k rs = go (prices k rs)
     go [] = refl
     go (p ∷ ps) = rw (go ps)
 
-falls : (s b : ℕ) (ds : List ℕ) → Rising beyond b ds → b ≤ beyond → Falls (beyond - b) (map (far (keyOf Side.Buy s)) ds)
-falls s b [] r h = tt
-falls s b (d ∷ ds) r h =
-    let t : d < beyond = last d ds (r .1) in
+falls : (s b : ℕ) (ds : List ℕ) → Rising beyond b ds → Falls (beyond - b) (map (far (keyOf Side.Buy s)) ds)
+falls s b [] r = tt
+falls s b (d ∷ ds) r =
+    let t = rising-below beyond (suc d) ds (r .1) .0 in
     let e : far (keyOf Side.Buy s) d ≡ beyond - suc d = bid-far s d ∙ omega arith in
-    (omega (arith, r .0), rw e (falls s (suc d) ds (r .1) (omega arith)))
-  where
-    last : (d : ℕ) (ds : List ℕ) → Rising beyond (suc d) ds → d < beyond
-    last d [] r = r
-    last d (x ∷ xs) r = omega (arith, r .0, last x xs (r .1))
+    (omega (arith, r .0), rw e (falls s (suc d) ds (r .1)))
 
 -- "bids from the highest"
 pub bids-fall : (s : ℕ) (rs : List Row) → Falls (topPrice + 1) (prices (keyOf Side.Buy s) rs)
 unfolding prices
-bids-fall s rs = falls s 0 (placesOf (keyOf Side.Buy s) rs) (rising (keyOf Side.Buy s) rs) (omega arith)
+bids-fall s rs = falls s 0 (placesOf (keyOf Side.Buy s) rs) (rising (keyOf Side.Buy s) rs)
 
 offers : (s : ℕ) (ds : List ℕ) → map (far (keyOf Side.Sell s)) ds ≡ ds
 offers s [] = refl
@@ -72,34 +74,9 @@ pub offers-rise : (s : ℕ) (rs : List Row) → Ascends 0 (prices (keyOf Side.Se
 unfolding prices
 offers-rise s rs = rw (offers s (placesOf (keyOf Side.Sell s) rs)) (rising-ascends beyond 0 (placesOf (keyOf Side.Sell s) rs) (rising (keyOf Side.Sell s) rs))
 
--- ---- what holds of each
-all-weaken : {A : Type 0} {P Q : A → Type 0} → ((x : A) → P x → Q x) → (xs : List A) → All P xs → All Q xs
-all-weaken h [] a = tt
-all-weaken h (x ∷ xs) a = (h x (a .0), all-weaken h xs (a .1))
-
-all-and : {A : Type 0} (P Q : A → Type 0) (xs : List A) → All P xs → All Q xs → All (λ x. P x × Q x) xs
-all-and P Q [] a b = tt
-all-and P Q (x ∷ xs) a b = ((a .0, b .0), all-and P Q xs (a .1) (b .1))
-
-all-map : {A B : Type 0} (P : B → Type 0) (h : A → B) (xs : List A) → All (λ x. P (h x)) xs → All P (map h xs)
-all-map P h [] a = tt
-all-map P h (x ∷ xs) a = (a .0, all-map P h xs (a .1))
-
-all-has : (xs : List ℕ) → All (λ x. has x xs ≡ true) xs
-unfolding has either
-all-has [] = tt
-all-has (x ∷ xs) = (rw (eq-eqb x x refl), all-weaken (λ d e. more d (eqb x d) e) xs (all-has xs))
-  where
-    more : (d : ℕ) (b : Bool) → has d xs ≡ true → either b (has d xs) ≡ true
-    more d true e = refl
-    more d false e = e
-
-rising-low : (b : ℕ) (ds : List ℕ) → Rising beyond b ds → (b ≤ beyond) × All (λ d. d ≤ topPrice) ds
-rising-low b [] r = (r, tt)
-rising-low b (d ∷ ds) r = let w = rising-low (suc d) ds (r .1) in (omega (arith, r .0, w .0), (omega (arith, w .0), w .1))
-
+-- ---- in range
 places-low : (k : ℕ) (rs : List Row) → All (λ d. d ≤ topPrice) (placesOf k rs)
-places-low k rs = rising-low 0 (placesOf k rs) (rising k rs) .1
+places-low k rs = all-weaken (λ d h. omega arith) (placesOf k rs) (rising-below beyond 0 (placesOf k rs) (rising k rs) .1)
 
 pub prices-low : (k : ℕ) (rs : List Row) → All (λ p. p ≤ topPrice) (prices k rs)
 unfolding prices
@@ -133,11 +110,6 @@ module _ (k d : ℕ) (h : d ≤ topPrice) where
   any-in-place (r ∷ rs) = rw (in-place r, any-in-place rs)
 
 -- ---- sums over levels
-sum-map : {A B : Type 0} (g : B → ℕ) (h : A → B) (xs : List A) → sumBy g (map h xs) ≡ sumBy (λ x. g (h x)) xs
-unfolding sumBy
-sum-map g h [] = refl
-sum-map g h (x ∷ xs) = rw (sum-map g h xs)
-
 sum-prices : (k : ℕ) (f : Row → ℕ) (rs : List Row) (ds : List ℕ) → All (λ d. d ≤ topPrice) ds
     → sumBy (λ p. sumBy (onlyIf (atPrice k p) f) rs) (map (far k) ds) ≡ sumBy (λ d. sumBy (onlyIf (inPlace (ofKey k) (λ r. far k (r .price)) d) f) rs) ds
 unfolding sumBy
@@ -153,12 +125,6 @@ alone k r (p ∷ ps) = omega (arith, alone k r ps)
 mine-once : (k : ℕ) (r : Row) → ofKey k r ≡ true → sumBy (onlyIf (ofKey k) (λ r. 1)) (r ∷ []) ≡ 1
 unfolding sumBy
 mine-once k r e = omega (arith, only-yes (ofKey k) (λ r. 1) r e)
-
--- one that passes leaves no empty sum
-any-sum : (q : Row → Bool) (f : Row → ℕ) → ((r : Row) → q r ≡ true → 1 ≤ f r) → (rs : List Row) → anyBy q rs ≡ true → 1 ≤ sumBy (onlyIf q f) rs
-unfolding anyBy sumBy
-any-sum q f h [] e = let z : _≡_ {A = ℕ} 0 1 = cc in absurd (omega arith)
-any-sum q f h (r ∷ rs) e = ⊎-elim (λ w. omega (arith, only-yes q f r w, h r w)) (λ w. omega (arith, any-sum q f h rs w)) (either-true e)
 
 module _ (k : ℕ) (rs : List Row) where
   price-sums : (f : Row → ℕ) → sumBy (λ p. sumBy (onlyIf (atPrice k p) f) rs) (prices k rs) ≡ sumBy (onlyIf (ofKey k) f) rs
@@ -303,3 +269,42 @@ module _ (s : ℕ) (rs : List Row) where
   pub no-offers-empty : prices (keyOf Side.Sell s) rs ≡ [] → spreadOf s rs ≡ SpreadAnswer.Empty
   unfolding spreadOf
   no-offers-empty q = rw q (between-none (prices (keyOf Side.Buy s) rs))
+
+-- ---- numbers of the answers
+spread-told : (bs os : List ℕ) → spreadNumber (between bs os) ≡ 0
+unfolding between spreadNumber
+spread-told [] os = refl
+spread-told (b ∷ bs) [] = refl
+spread-told (b ∷ bs) (a ∷ os) = refl
+
+pub spread-of-number : (s : ℕ) (rs : List Row) → spreadNumber (spreadOf s rs) ≡ 0
+unfolding spreadOf
+spread-of-number s rs = spread-told (prices (keyOf Side.Buy s) rs) (prices (keyOf Side.Sell s) rs)
+
+module _ (s : ℕ) (orders symbols : List ℕ) where
+  pub ladder-number : (side : Side) (out : List ℕ) → ladderNumber (ladderView side s orders symbols out .answer) ≡ viewFault s orders symbols
+  unfolding ladderView ladderNumber
+  ladder-number side out =
+      pick-ind (λ (x : Shown). ladderNumber (x .answer) ≡ viewFault s orders symbols) (eqb (viewFault s orders symbols) 0) _ _
+      (λ e. sym (eqb-true (viewFault s orders symbols) 0 e))
+      (λ e. refl)
+
+  -- "Each refusal returns its number alone; tables, output and state keep every byte"
+  pub refused-kept : (side : Side) (out : List ℕ) → (viewFault s orders symbols ≡ 0 → ⊥) → ladderView side s orders symbols out .run ≡ out
+  unfolding ladderView pick
+  refused-kept side out n = rw (ne-eqb (viewFault s orders symbols) 0 n)
+
+  pub spread-number : spreadNumber (spreadView s orders symbols) ≡ viewFault s orders symbols
+  unfolding spreadView spreadNumber
+  spread-number =
+      pick-ind (λ x. spreadNumber x ≡ viewFault s orders symbols) (eqb (viewFault s orders symbols) 0) _ _
+      (λ e. spread-of-number s (rows orders) ∙ sym (eqb-true (viewFault s orders symbols) 0 e))
+      (λ e. refl)
+
+  pub counts-number : countsNumber (countsView orders symbols) ≡ pick (goodTables orders symbols) 0 6
+  unfolding countsView countsNumber pick
+  counts-number = go (goodTables orders symbols)
+    where
+      go : (b : Bool) → countsNumber (pick b (CountsAnswer.Are (record { orders = countLive (rows orders); symbols = countUsed (entries symbols) })) (CountsAnswer.Refused (refusal 6))) ≡ pick b 0 6
+      go true = refl
+      go false = refl

@@ -9,6 +9,7 @@ ghost use Rattle.ascend.specs.Ascend.{leastFrom};
 ghost use Rattle.views.specs.Ladder.{keyOf, far, atPrice, placesOf, levelOf, putLevel, laidOut, ladderRun, topPrice};
 ghost use Rattle.views.specs.Nearest.{beyond, near};
 ghost use Rattle.views.specs.Spread.{spreadOf};
+ghost use Rattle.views.specs.Views.{goodTables, viewFault, shown, ladderView, spreadView, countsView};
 use fields::Refusal;
 use rows::Row;
 
@@ -27,6 +28,23 @@ pub struct Level {
     pub price: u64,
     pub shares: u64,
     pub orders: u64,
+}
+
+// The number of all levels, written or not.
+pub enum LadderAnswer {
+    Levels(usize),
+    Refused(Refusal),
+}
+
+// Live orders and used entries.
+pub struct Sizes {
+    pub orders: usize,
+    pub symbols: usize,
+}
+
+pub enum CountsAnswer {
+    Are(Sizes),
+    Refused(Refusal),
 }
 
 // Best offer less best bid; Empty where a side has no order.
@@ -174,4 +192,67 @@ pub fn spread_of(orders: &[u64], symbol: u32) -> SpreadAnswer
         return SpreadAnswer::Empty;
     }
     SpreadAnswer::Of(minus(offer, TOP_PRICE - bid))
+}
+
+fn good_tables(orders: &[u64], symbols: &[u8]) -> bool
+    ensures { λ b. ⌜ b ≡ goodTables (now (orders .entry)) (now (symbols .entry)) ⌝ }
+{
+    if !rows::good_rows(orders.len()) {
+        return false;
+    }
+    symbols::good_entries(symbols.len())
+}
+
+// The refusal of a view of a symbol; 0 where there is none.
+pub fn view_fault(orders: &[u64], symbols: &[u8], symbol: u32) -> u8
+    ensures { λ r. ⌜ r ≡ viewFault symbol (now (orders .entry)) (now (symbols .entry)) ⌝ }
+{
+    if !good_tables(orders, symbols) {
+        return 6;
+    }
+    if !symbols::known(symbols, symbol) {
+        return 30;
+    }
+    0
+}
+
+// The price levels of a symbol and side, into the lent run while a whole level fits.
+pub fn ladder(
+    orders: &[u64],
+    symbols: &[u8],
+    symbol: u32,
+    side: Side,
+    out: &mut [u64],
+) -> LadderAnswer
+    ensures { λ r. ⌜ shown r (now (out .exit)) ≡ ladderView side symbol (now (orders .entry)) (now (symbols .entry)) (now (out .entry)) ⌝ }
+{
+    let fault = view_fault(orders, symbols, symbol);
+    if fault != 0 {
+        return LadderAnswer::Refused(Refusal { number: fault });
+    }
+    LadderAnswer::Levels(ladder_of(orders, key_of(symbol, side), out))
+}
+
+// Best offer less best bid of a symbol, in millionths of a dollar.
+pub fn spread(orders: &[u64], symbols: &[u8], symbol: u32) -> SpreadAnswer
+    ensures { λ r. ⌜ r ≡ spreadView symbol (now (orders .entry)) (now (symbols .entry)) ⌝ }
+{
+    let fault = view_fault(orders, symbols, symbol);
+    if fault != 0 {
+        return SpreadAnswer::Refused(Refusal { number: fault });
+    }
+    spread_of(orders, symbol)
+}
+
+// How many orders are live and how many entries in use.
+pub fn counts(orders: &[u64], symbols: &[u8]) -> CountsAnswer
+    ensures { λ r. ⌜ r ≡ countsView (now (orders .entry)) (now (symbols .entry)) ⌝ }
+{
+    if !good_tables(orders, symbols) {
+        return CountsAnswer::Refused(Refusal { number: 6 });
+    }
+    CountsAnswer::Are(Sizes {
+        orders: rows::count_live(orders),
+        symbols: symbols::count_used(symbols),
+    })
 }
