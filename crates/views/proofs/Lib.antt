@@ -1,4 +1,5 @@
 pub mod Laws
+pub mod Levels
 pub mod Runs
 pub mod Signs
 pub mod Spreads

@@ -1,18 +1,18 @@
 -- Levels put one by one, each in its place, are the levels that fit whole, written at the front, and the rest of the run behind them.
 -- Assumes nothing.
-use mathlib.Core.Path.{_≡_, refl, sym, _∙_}
-use mathlib.Core.List.{List, [], _∷_, _++_, append-assoc}
+use mathlib.Core.Path.{_≡_, refl, sym, _∙_, ap}
+use mathlib.Core.List.{List, [], _∷_, _++_, append-assoc, map}
 use mathlib.Core.Bool.{Bool, true, false}
-use Prim.Native.Nat.{ℕ, suc, _+_, _*_, _/_, _≤_, _<_}
+use Prim.Native.Nat.{ℕ, suc, _+_, _*_, _/_, _≤_, _<_, min}
 use native.Mathlib.Numerals.{add-one}
 use native.Mathlib.Omega.{arith}
-use lib.ListN.{length, set, take, drop, length-append, length-take, length-drop, take-append-drop}
-use lib.Seq.{take-nil, take-at, drop-at, drop-drop, sets-eq}
+use lib.ListN.{length, set, take, drop, length-append, length-take, length-drop, take-append-drop, getD, length-map, List·getD-map}
+use lib.Seq.{take-nil, take-at, drop-at, drop-drop, sets-eq, getD-take}
 use lib.Dec.{ltb}
 use borrow.Author.Tests.{ltb-true, ltb-false}
 use Rattle.facts.specs.Pick.{pick}
-use Rattle.facts.specs.Pieces.{join}
-use Rattle.facts.proofs.PieceLaws.{put-in, put-out, length-put, piece-fits}
+use Rattle.facts.specs.Pieces.{join, pieces}
+use Rattle.facts.proofs.PieceLaws.{put-in, put-out, piece-fits, length-join, wide-map, pieces-join, getD-pieces, getD-piece}
 use Rattle.rows.specs.Rows.{rows, goodRows}
 use Rattle.views.specs.declared.Level.{Level}
 use Rattle.views.specs.Ladder.{ladder, threeOf, fitting, written, putLevel, laidOut, ladderRun}
@@ -29,10 +29,6 @@ level-written o j l h =
 pub level-past : (o : List ℕ) (j : ℕ) (l : Level) → length o / 3 ≤ j → putLevel o j l ≡ o
 unfolding putLevel
 level-past o j l h = put-out 3 o j (threeOf l) h
-
-pub length-put-level : (o : List ℕ) (j : ℕ) (l : Level) → length (putLevel o j l) ≡ length o
-unfolding putLevel
-length-put-level o j l = length-put 3 o j (threeOf l)
 
 -- ---- levels one by one, from place j on
 unfoldable pub laid : ℕ → List Level → List ℕ → List ℕ
@@ -67,9 +63,8 @@ laid-from (l ∷ ls) j o = laid-from ls (suc j) (putLevel o j l) ∙ go (ltb j (
         let h : j < length o / 3 = ltb-true j (length o / 3) e in
         let f : 3 * j + 3 ≤ length o = piece-fits 3 o j h in
         let n : length (take (3 * j) o ++ threeOf l) ≡ 3 * suc j = rw (length-append, length-three, length-take) (omega arith) in
-        let w : putLevel o j l ≡ (take (3 * j) o ++ threeOf l) ++ drop (3 * j + 3) o =
-        put-in 3 o j (threeOf l) h ∙ (sets-eq (threeOf l) o (3 * j) (rw length-three f) ∙ rw (length-three, append-assoc))
-        in
+        let v : putLevel o j l ≡ take (3 * j) o ++ threeOf l ++ drop (3 * j + length (threeOf l)) o = put-in 3 o j (threeOf l) h ∙ sets-eq (threeOf l) o (3 * j) (rw length-three f) in
+        let w : putLevel o j l ≡ (take (3 * j) o ++ threeOf l) ++ drop (3 * j + 3) o = v ∙ rw (length-three, append-assoc) in
         rw (
           w,
           take-at (take (3 * j) o ++ threeOf l) (drop (3 * j + 3) o) (3 * suc j) n,
@@ -106,3 +101,23 @@ module _ (k : ℕ) (t o : List ℕ) where
   pub run-all : (j : ℕ) (u : List ℕ) → goodRows (length t) ≡ true → length (ladder k (rows t)) ≡ j → laid 0 (ladder k (rows t)) o ≡ u → laidOut j u ≡ ladderRun k t o
   unfolding ladderRun pick
   run-all j u g e f = rw (g, e, ← laid-written (ladder k (rows t)) o, f)
+
+-- ---- by index
+map-length : (ls : List Level) (n : ℕ) → length (map threeOf (take n ls)) ≡ min n (length ls)
+map-length ls n = rw (length-map, length-take)
+
+-- the level that three numbers are
+unfoldable levelFrom : List ℕ → Level
+levelFrom x = record { price = getD x 0 0; shares = getD x 1 0; orders = getD x 2 0 }
+
+pub fitting-length : (ls : List Level) (n : ℕ) → length (fitting ls n) ≡ 3 * min (n / 3) (length ls)
+unfolding fitting
+fitting-length ls n = length-join 3 (map threeOf (take (n / 3) ls)) (wide-map 3 levelFrom threeOf length-three (take (n / 3) ls)) ∙ ap (λ (m : ℕ). 3 * m) (map-length ls (n / 3))
+
+pub fitting-at : (ls : List Level) (n i c : ℕ) (d : Level) → i < n / 3 → i < length ls → c < 3 → getD (fitting ls n) (3 * i + c) 0 ≡ getD (threeOf (getD ls i d)) c 0
+unfolding fitting
+fitting-at ls n i c d h l k =
+    let w : pieces 3 (fitting ls n) ≡ map threeOf (take (n / 3) ls) = pieces-join 3 (map threeOf (take (n / 3) ls)) (omega arith) (wide-map 3 levelFrom threeOf length-three (take (n / 3) ls)) in
+    let q : getD (pieces 3 (fitting ls n)) i (threeOf d) ≡ threeOf (getD ls i d) = rw w (List·getD-map threeOf (take (n / 3) ls) i d ∙ ap threeOf (getD-take (n / 3) ls i d h)) in
+    sym (getD-piece 3 (fitting ls n) i c 0 k)
+    ∙ ap (λ x. getD x c 0) (sym (getD-pieces 3 (fitting ls n) i (threeOf d) (omega (arith, fitting-length ls n))) ∙ q)
