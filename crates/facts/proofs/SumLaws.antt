@@ -65,7 +65,10 @@ module _ {A : Type 0} where
   sum-add f g (x ∷ xs) = omega (arith, sum-add f g xs)
 
 -- ---- a list mapped: what each element counts afterwards
-pub sum-map : {A B : Type 0} (f : B → ℕ) (g : A → B) (h : A → ℕ) → ((x : A) → f (g x) ≡ h x) → (xs : List A) → sumBy f (map g xs) ≡ sumBy h xs
+pub sum-map-as : {A B : Type 0} (f : B → ℕ) (g : A → B) (h : A → ℕ) → ((x : A) → f (g x) ≡ h x) → (xs : List A) → sumBy f (map g xs) ≡ sumBy h xs
 unfolding sumBy
-sum-map f g h e [] = refl
-sum-map f g h e (x ∷ xs) = rw (e x, sum-map f g h e xs)
+sum-map-as f g h e [] = refl
+sum-map-as f g h e (x ∷ xs) = rw (e x, sum-map-as f g h e xs)
+
+pub sum-map : {A B : Type 0} (f : B → ℕ) (g : A → B) (xs : List A) → sumBy f (map g xs) ≡ sumBy (λ x. f (g x)) xs
+sum-map f g xs = sum-map-as f g (λ x. f (g x)) (λ x. refl) xs

@@ -11,7 +11,7 @@ use borrow.Author.Tests.{eqb-true, eqb-false}
 use Rattle.facts.specs.Pick.{pick}
 use Rattle.facts.specs.Sums.{sumBy, onlyIf}
 use Rattle.facts.proofs.Picks.{pick-ind}
-use Rattle.facts.proofs.SumLaws.{sum-set, sum-map, sum-zero, only-no}
+use Rattle.facts.proofs.SumLaws.{sum-set, sum-map-as, sum-zero, only-no}
 use Rattle.rows.specs.declared.Row.{Row}
 use Rattle.rows.specs.Rows.{rows, zeroRow, symbolOf, live}
 use Rattle.rows.specs.Find.{ofSymbol}
@@ -123,7 +123,7 @@ pub clear-own : (symbol : ℕ) (t : List ℕ) → liveShares symbol (rows (clear
 unfolding liveShares shareOf
 clear-own symbol t =
     rw clear-rows
-    (sum-map (shareOf symbol) (wiped symbol) (λ r. 0) (λ r. only-no (ofSymbol symbol) (λ x. x .size) (wiped symbol r) (wiped-gone symbol r)) (rows t)
+    (sum-map-as (shareOf symbol) (wiped symbol) (λ r. 0) (λ r. only-no (ofSymbol symbol) (λ x. x .size) (wiped symbol r) (wiped-gone symbol r)) (rows t)
     ∙ sum-zero (rows t))
 
 other-kept : (s symbol : ℕ) (r : Row) → (symbol ≡ s → ⊥) → shareOf s (wiped symbol r) ≡ shareOf s r
@@ -135,7 +135,7 @@ other-kept s symbol r n =
 
 pub clear-others : (s symbol : ℕ) (t : List ℕ) → (symbol ≡ s → ⊥) → liveShares s (rows (cleared symbol t)) ≡ liveShares s (rows t)
 unfolding liveShares
-clear-others s symbol t n = rw clear-rows (sum-map (shareOf s) (wiped symbol) (shareOf s) (λ r. other-kept s symbol r n) (rows t))
+clear-others s symbol t n = rw clear-rows (sum-map-as (shareOf s) (wiped symbol) (shareOf s) (λ r. other-kept s symbol r n) (rows t))
 
 pub clear-shares : (s symbol : ℕ) (t : List ℕ) → liveShares s (rows (cleared symbol t)) + under s symbol (liveShares s (rows t)) ≡ liveShares s (rows t)
 unfolding under

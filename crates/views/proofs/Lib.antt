@@ -1,0 +1,7 @@
+pub mod Laws
+pub mod Levels
+pub mod Runs
+pub mod Signs
+pub mod Spreads
+pub mod ViewLaws
+pub mod Theorems

@@ -1,0 +1,4 @@
+pub mod Ladder
+pub mod Nearest
+pub mod Spread
+pub mod Views
