@@ -4,3 +4,5 @@ pub mod Lists
 pub mod Searches
 pub mod PieceLaws
 pub mod SumLaws
+pub mod TableLaws
+pub mod CountLaws

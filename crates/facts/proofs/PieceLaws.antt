@@ -29,7 +29,7 @@ module _ {A : Type 0} where
       let e : w * suc i ≡ w + w * i = mul-suc w i ∙ omega arith in
       rw (getD-cut w n (drop w t) i d (le-of-suc-le-suc h), drop-drop, e)
 
-  join-cut : (w n : ℕ) (t : List A) → join (cut w n t) ≡ take (w * n) t
+  pub join-cut : (w n : ℕ) (t : List A) → join (cut w n t) ≡ take (w * n) t
   unfolding cut join
   join-cut w zero t = rw (mul-zero w)
   join-cut w (suc n) t =

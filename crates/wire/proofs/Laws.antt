@@ -7,7 +7,7 @@ use Prim.Native.Nat.{ℕ, zero, suc, _+_, _*_, _^_, _≤_, _<_}
 use native.Mathlib.Nat.{pow-suc, pow-succ', pow-zero, zero-add, add-zero, suc-add, add-suc, mul-assoc}
 use native.Mathlib.Omega.{arith}
 use lib.ListN.{length, take, drop, getD, replicate, length-append, length-drop, length-replicate, drop-of-length-le}
-use lib.Seq.{take-nil, drop-nil, length-take-le, take-append-le, getD-take, getD-drop, ext-getD}
+use lib.Seq.{take-nil, take-all, drop-nil, length-take-le, take-append-le, getD-take, getD-drop, ext-getD}
 use Rattle.wire.specs.Le.{le, field, padded, Bytes}
 
 -- the law: one more byte, at the front
@@ -69,3 +69,19 @@ pub is-padded : (b : List ℕ) (at : ℕ) (l : List ℕ) → ((k : ℕ) → k < 
 is-padded b at l h =
     ext-getD 0 l (padded b at (length l)) (sym (length-padded b at (length l)))
     (λ k lt. h k lt ∙ sym (getD-padded b at (length l) k lt))
+
+-- a field is decided by its own bytes
+pub field-same : (a b : List ℕ) (at w : ℕ) → ((k : ℕ) → at ≤ k → k < at + w → getD a k 0 ≡ getD b k 0) → field a at w ≡ field b at w
+field-same a b at zero h = field-none a at ∙ sym (field-none b at)
+field-same a b at (suc w) h =
+    let x : getD a at 0 ≡ getD b at 0 = h at (omega arith) (omega arith) in
+    let xs : field a (suc at) w ≡ field b (suc at) w = field-same a b (suc at) w (λ k l u. h k (omega arith) (omega arith)) in
+    rw (field-more a at w, field-more b at w, x, xs)
+
+-- and so it stands in a padded copy that reaches so far
+pub field-padded : (b : List ℕ) (n at w : ℕ) → at + w ≤ n → field (padded b 0 n) at w ≡ field b at w
+field-padded b n at w h = field-same (padded b 0 n) b at w (λ k l u. getD-padded b 0 n k (omega arith) ∙ rw (zero-add k))
+
+-- a list of that length is its own padded copy
+pub padded-whole : (b : List ℕ) (n : ℕ) → length b ≡ n → padded b 0 n ≡ b
+padded-whole b n h = padded-part b 0 n (omega arith) ∙ take-all n b (omega arith)

@@ -1,0 +1,4 @@
+pub mod EntryLaws
+pub mod FindLaws
+pub mod UpdateLaws
+pub mod StartLaws
