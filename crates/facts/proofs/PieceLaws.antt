@@ -1,13 +1,13 @@
 -- Pieces of one width, by recursion on their number: `cut` takes one piece off the front, and so does each proof.
 -- Assumes nothing.
 use mathlib.Core.Path.{_≡_, refl, sym, ap, _∙_}
-use mathlib.Core.List.{List, [], _∷_, _++_, map}
+use mathlib.Core.List.{List, [], _∷_, _++_, map, append-assoc}
 use Prim.Native.Nat.{ℕ, zero, suc, _+_, _*_, _/_, _%_, _-_, _≤_, _<_}
 use native.Mathlib.Numerals.{add-one}
-use native.Mathlib.Nat.{mul-zero, mul-suc, zero-add, mul-div-right, mul-div-le, div-add-mod, mul-le-mul-left, le-of-suc-le-suc, not-suc-le-zero, le-trans}
+use native.Mathlib.Nat.{mul-zero, mul-suc, zero-add, add-zero, mul-div-right, mul-div-le, mul-add-div, div-eq-of-lt, div-add-mod, mul-le-mul-left, le-of-suc-le-suc, not-suc-le-zero, le-trans}
 use native.Mathlib.Omega.{arith}
 use lib.ListN.{length, getD, set, take, drop, replicate, length-append, length-take, length-drop, length-replicate, take-append-drop, getD-replicate, replicate-append-replicate}
-use lib.Seq.{sets, take-all, take-at, drop-at, take-add, drop-drop, drop-cons, take-set-le, drop-set-add, getD-take, getD-drop, set-out, length-sets, sets-eq, ext-getD}
+use lib.Seq.{sets, take-all, take-at, drop-at, take-add, drop-drop, drop-cons, take-set-le, drop-set-lt, drop-set-add, getD-take, getD-drop, set-out, length-sets, sets-eq, ext-getD}
 use lib.Dec.{ltb}
 use borrow.Author.Tests.{lt-ltb, le-ltb, ltb-true, ltb-false}
 use Rattle.facts.specs.Pick.{pick}
@@ -153,6 +153,36 @@ module _ {A : Type 0} where
   pub put-join : (w : ℕ) (t : List A) (i : ℕ) (s : List A) → length s ≡ w → length t % w ≡ 0 → putPiece w t i s ≡ join (set (pieces w t) i s)
   put-join w t i s l h = sym (join-pieces w (putPiece w t i s) (rw length-put h)) ∙ ap join (pieces-put w t i s l)
 
+  -- ---- what lies behind the last whole piece
+  pub join-rest : (w : ℕ) (t : List A) → join (pieces w t) ++ drop (w * (length t / w)) t ≡ t
+  unfolding pieces
+  join-rest w t = rw (join-cut w (length t / w) t) (take-append-drop (w * (length t / w)) t)
+
+  cut-rest : (w : ℕ) (xs : List (List A)) (y : List A) → Wide w xs → cut w (length xs) (join xs ++ y) ≡ xs
+  unfolding cut join
+  cut-rest w [] y h = refl
+  cut-rest w (x ∷ xs) y h =
+      rw (append-assoc x (join xs) y, take-at x (join xs ++ y) w (h .0), drop-at x (join xs ++ y) w (h .0), cut-rest w xs y (h .1))
+
+  pub pieces-rest : (w : ℕ) (xs : List (List A)) (y : List A) → length y < w → Wide w xs → pieces w (join xs ++ y) ≡ xs
+  unfolding pieces
+  pieces-rest w xs y l h =
+      let n : length (join xs ++ y) / w ≡ length xs = rw (length-append, length-join w xs h, mul-add-div {m = w} (omega arith) (length xs) (length y), div-eq-of-lt l, add-zero) in
+      rw n (cut-rest w xs y h)
+
+  drop-behind : (n : ℕ) (t : List A) (i : ℕ) (s : List A) → i + length s ≤ n → drop n (sets t i s) ≡ drop n t
+  drop-behind n t i [] h = refl
+  drop-behind n t i (x ∷ s) h = drop-behind n (set t i x) (suc i) s (omega arith) ∙ drop-set-lt n t i x (omega arith)
+
+  pub rest-put : (w : ℕ) (t : List A) (i : ℕ) (s : List A) → length s ≡ w → drop (w * (length t / w)) (putPiece w t i s) ≡ drop (w * (length t / w)) t
+  unfolding putPiece
+  rest-put w t i s l =
+      pick-ind (λ u. drop (w * (length t / w)) u ≡ drop (w * (length t / w)) t) (ltb i (length t / w)) _ _
+      (λ e.
+      let m = mul-le-mul-left w (ltb-true i (length t / w) e) in
+      drop-behind (w * (length t / w)) t (w * i) s (omega (arith, m, mul-suc w i)))
+      (λ e. refl)
+
   -- ---- one element over and over
   cut-replicate : (w n m : ℕ) (a : A) → w * n ≤ m → cut w n (replicate m a) ≡ replicate n (replicate w a)
   unfolding cut
@@ -209,3 +239,10 @@ module _ {A B : Type 0} (w : ℕ) (of : List A → B) (to : B → List A) where
 
   pub join-values : ((x : List A) → length x ≡ w → to (of x) ≡ x) → (t : List A) → length t % w ≡ 0 → join (map to (map of (pieces w t))) ≡ t
   join-values forth t h = rw (map-forth forth (pieces w t) (wide-pieces w t)) (join-pieces w t h)
+
+  -- the same with a rest behind the last whole piece
+  pub rest-values : ((b : B) → length (to b) ≡ w) → ((b : B) → of (to b) ≡ b) → (bs : List B) (y : List A) → length y < w → map of (pieces w (join (map to bs) ++ y)) ≡ bs
+  rest-values wide back bs y l = rw (pieces-rest w (map to bs) y l (wide-map wide bs)) (map-back back bs)
+
+  pub values-rest : ((x : List A) → length x ≡ w → to (of x) ≡ x) → (t : List A) → join (map to (map of (pieces w t))) ++ drop (w * (length t / w)) t ≡ t
+  values-rest forth t = rw (map-forth forth (pieces w t) (wide-pieces w t)) (join-rest w t)

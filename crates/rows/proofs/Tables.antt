@@ -1,18 +1,19 @@
 -- A row is a piece of five numbers, so the laws of tables are those of pieces.
 -- Assumes nothing.
 use mathlib.Core.Path.{_≡_, refl, sym, ap, _∙_}
-use mathlib.Core.List.{List, [], _∷_, map}
+use mathlib.Core.List.{List, [], _∷_, _++_, map}
 use mathlib.Core.Bool.{Bool, true, false}
 use Prim.Native.Nat.{ℕ, suc, _+_, _*_, _/_, _%_, _≤_, _<_}
-use native.Mathlib.Nat.{add-zero}
+use native.Mathlib.Nat.{add-zero, mod-lt, mod-def}
 use native.Mathlib.Omega.{arith}
-use lib.ListN.{length, getD, set, take, drop, replicate, length-map, List·getD-map, List·getD-eq-default}
+use lib.ListN.{length, getD, set, take, drop, replicate, length-append, length-drop, length-set, length-map, List·getD-map, List·getD-eq-default}
+use lib.Seq.{getD-set-same, getD-set-other}
 use lib.Dec.{ltb}
 use borrow.Author.Tests.{ltb-true, ltb-false}
 use Rattle.facts.specs.Pieces.{pieces}
-use Rattle.facts.proofs.PieceLaws.{length-pieces, getD-pieces, getD-piece, put-in, put-out, length-put, put-self, pieces-replicate, map-replicate, length-piece, length-join, wide-map, values-put, values-join, join-values}
+use Rattle.facts.proofs.PieceLaws.{length-pieces, getD-pieces, getD-piece, put-in, put-out, length-put, put-self, pieces-replicate, map-replicate, length-piece, length-join, wide-map, values-put, values-join, join-values, rest-put, rest-values, values-rest}
 use Rattle.rows.specs.declared.Row.{Row}
-use Rattle.rows.specs.Rows.{rowOf, numbersOf, rows, flat, putRow, zeroRow}
+use Rattle.rows.specs.Rows.{rowOf, numbersOf, rows, rest, flat, putRow, zeroRow}
 
 -- ---- a row and its five numbers
 pub row-eq : (a b : Row) → a .order ≡ b .order → a .key ≡ b .key → a .price ≡ b .price → a .size ≡ b .size → a .rank ≡ b .rank → a ≡ b
@@ -67,6 +68,30 @@ put-flat t i r h = sym (flat-rows (putRow t i r) (rw length-put-row h)) ∙ ap f
 pub rows-zero : (n : ℕ) → rows (replicate n 0) ≡ replicate (n / 5) zeroRow
 unfolding rows rowOf zeroRow
 rows-zero n = rw (pieces-replicate {A = ℕ} 5 n 0) (map-replicate rowOf (n / 5) (replicate 5 0))
+
+-- ---- a table of any length is its rows and the rest
+pub length-rest : (t : List ℕ) → length (rest t) < 5
+unfolding rest
+length-rest t = rw (length-drop, ← mod-def (length t) 5) (mod-lt (length t) (omega arith))
+
+pub flat-rest : (t : List ℕ) → flat (rows t) ++ rest t ≡ t
+unfolding rows flat rest
+flat-rest t = values-rest 5 rowOf numbersOf numbers-row t
+
+pub rows-rest : (rs : List Row) (x : List ℕ) → length x < 5 → rows (flat rs ++ x) ≡ rs
+unfolding rows flat
+rows-rest rs x h = rest-values 5 rowOf numbersOf length-numbers row-numbers rs x h
+
+pub rest-put-row : (t : List ℕ) (i : ℕ) (r : Row) → rest (putRow t i r) ≡ rest t
+unfolding rest putRow
+rest-put-row t i r = rw (length-put 5 t i (numbersOf r)) (rest-put 5 t i (numbersOf r) (length-numbers r))
+
+-- ---- the rows after one is put
+pub row-put-same : (t : List ℕ) (i : ℕ) (r : Row) → i < length t / 5 → getD (rows (putRow t i r)) i zeroRow ≡ r
+row-put-same t i r h = rw (rows-put t i r) (getD-set-same (rows t) i r zeroRow (rw length-rows h))
+
+pub row-put-other : (t : List ℕ) (i : ℕ) (r : Row) (j : ℕ) → (j ≡ i → ⊥) → getD (rows (putRow t i r)) j zeroRow ≡ getD (rows t) j zeroRow
+row-put-other t i r j n = rw (rows-put t i r) (getD-set-other (rows t) i j r zeroRow n)
 
 -- ---- where the numbers lie
 pub getD-rows : (t : List ℕ) (i : ℕ) → getD (rows t) i zeroRow ≡ rowOf (getD (pieces 5 t) i [])

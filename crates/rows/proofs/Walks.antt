@@ -1,7 +1,7 @@
 -- A walk over a table takes one row off the rows left, so a search, a sum or a count of those left goes on from the next row.
 -- Assumes nothing.
-use mathlib.Core.Path.{_≡_}
-use mathlib.Core.List.{List}
+use mathlib.Core.Path.{_≡_, _∙_}
+use mathlib.Core.List.{List, map}
 use mathlib.Core.Bool.{Bool, true, false}
 use Prim.Native.Nat.{ℕ, _+_, _*_, _/_, _≤_, _<_}
 use native.Mathlib.Nat.{sub-zero}
@@ -10,12 +10,13 @@ use lib.ListN.{length, getD, drop}
 use Rattle.facts.specs.Search.{first}
 use Rattle.facts.specs.Sums.{sumBy, onlyIf, countBy}
 use Rattle.facts.specs.declared.Found.the-variants.{At, Nothing}
+use Rattle.facts.proofs.Lists.{mapTo, map-more, map-all}
 use Rattle.facts.proofs.Searches.{first-hit, first-miss, first-end, first-at}
 use Rattle.facts.proofs.SumLaws.{sum-step, sum-end, sum-bound, only-bound, only-yes, only-no}
 use Rattle.rows.specs.declared.Row.{Row}
-use Rattle.rows.specs.Rows.{rows, zeroRow, free, live}
+use Rattle.rows.specs.Rows.{rows, putRow, zeroRow, free, live}
 use Rattle.rows.specs.Find.{isOrder, findOrder, findFree}
-use Rattle.rows.proofs.Tables.{length-rows}
+use Rattle.rows.proofs.Tables.{length-rows, rows-put}
 use Rattle.rows.proofs.Judged.{live-ranges}
 
 -- ---- searches: a walk at row i, and where a found row lies
@@ -65,3 +66,11 @@ module _ (p : Row → Bool) (t : List ℕ) (i : ℕ) where
 pub shares-bound : (p : Row → Bool) → ((r : Row) → p r ≡ true → live r ≡ true) → (rs : List Row) → sumBy (onlyIf p (λ r. r .size)) rs ≤ 4294967295 * length rs
 shares-bound p l rs =
     sum-bound (onlyIf p (λ r. r .size)) 4294967295 (only-bound p (λ r. r .size) 4294967295 (λ r e. live-ranges r (l r e) .size-top)) rs
+
+-- ---- a walk that changes each row: at row i of what came of t
+module _ (f : Row → Row) (t : List ℕ) (i : ℕ) where
+  pub map-row : (u : List ℕ) → i < length t / 5 → rows u ≡ mapTo f i (rows t) → rows (putRow u i (f (getD (rows u) i zeroRow))) ≡ mapTo f (i + 1) (rows t)
+  map-row u h e = rows-put u i (f (getD (rows u) i zeroRow)) ∙ rw e (map-more f (rows t) i zeroRow (rw length-rows h))
+
+  pub map-past : length t / 5 ≤ i → mapTo f i (rows t) ≡ map f (rows t)
+  map-past h = map-all f (rows t) i (rw length-rows h)

@@ -1,8 +1,8 @@
 -- The order table (document 01: "a lent run of 64-bit numbers, five to a row: order ID, symbol ID times 2 plus side (buy 0, sell 1), price, size, rank").
-use Prim.Native.Nat.{ℕ, _/_, _%_}
+use Prim.Native.Nat.{ℕ, _*_, _/_, _%_}
 use mathlib.Core.List.{List, [], _∷_, map}
 use mathlib.Core.Bool.{Bool, not}
-use lib.ListN.{getD}
+use lib.ListN.{length, getD, drop}
 use lib.Dec.{ltb, leb, eqb}
 use Rattle.facts.specs.Pick.{both, either}
 use Rattle.facts.specs.Pieces.{pieces, join, putPiece}
@@ -19,6 +19,10 @@ numbersOf r = r .order ∷ r .key ∷ r .price ∷ r .size ∷ r .rank ∷ []
 -- the rows of a table; numbers behind the last whole row are none
 unfoldable pub rows : List ℕ → List Row
 rows t = map rowOf (pieces 5 t)
+
+-- the numbers behind the last whole row
+unfoldable pub rest : List ℕ → List ℕ
+rest t = drop (5 * (length t / 5)) t
 
 -- the table of whole rows
 unfoldable pub flat : List Row → List ℕ

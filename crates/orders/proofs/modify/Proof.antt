@@ -1,0 +1,55 @@
+-- The target decides: a rule leaves the table, a place takes the row remade.
+-- Assumes nothing.
+use mathlib.Core.Path.{sym, _∙_}
+use borrow.Author.Needs.{needs}
+use Rattle.orders.specs.Rules.{modified}
+use Rattle.orders.proofs.Cases.{upon-rule, upon-place}
+use Rattle.orders.proofs.modify.Statement.{statement}
+use Rattle.orders.proofs.modify.Tie as tie
+
+target-of-requires : tie.Need-target-of-requires
+target-of-requires c κs = search needs
+
+enum-known-n : tie.Need-enum-known-n
+enum-known-n c = search needs
+
+enum-known-i : tie.Need-enum-known-i
+enum-known-i c = search needs
+
+row-at-requires : tie.Need-row-at-requires
+row-at-requires c κs = search needs
+
+remake-requires : tie.Need-remake-requires
+remake-requires c κs = search needs
+
+put-row-requires : tie.Need-put-row-requires
+put-row-requires c κs = search needs
+
+same-length : tie.Need-same-length
+same-length c = search needs
+
+returns : tie.Need-returns
+unfolding modified
+returns c = sym (upon-rule _ _ _ _ (sym (c .before .before .before .target-of .ensures) ∙ c .before .n .given .1))
+
+same-length-2 : tie.Need-same-length-2
+same-length-2 c = search needs
+
+returns-2 : tie.Need-returns-2
+unfolding modified
+returns-2 c = rw (c .before .before .put-row .ensures, c .before .before .before .remake .ensures, c .before .before .before .before .before .row-at .ensures) (sym (upon-place _ _ _ _ (sym (c .before .before .before .before .before .before .before .before .before .before .target-of .ensures) ∙ c .before .before .before .before .before .before .before .before .i .given .1)))
+
+pub modify-spec : {M : Type 1} → statement M
+modify-spec =
+    tie.close
+    (tie.spec
+    target-of-requires
+    enum-known-n
+    enum-known-i
+    row-at-requires
+    remake-requires
+    put-row-requires
+    same-length
+    returns
+    same-length-2
+    returns-2)
