@@ -1,15 +1,15 @@
 // One message applied to the lent tables and the second, or the rule that it breaks, with nothing changed. Each kind of message has a
 // function of its own. Every function answers for tables of any length and content; sizes are judged by those who lend them (6).
+use facts::Found;
 use fields::AddOrder;
 use fields::Body;
 use fields::DeleteOrder;
 use fields::ModifyOrder;
 use fields::OrderExecution;
 use fields::SymbolClear;
+use orders::Target;
 use rows::Row;
 use symbols::Updated;
-use facts::Found;
-use orders::Target;
 ghost use mathlib.Core.Path.{_≡_};
 ghost use Rattle.orders.specs.Rules.{change};
 ghost use Rattle.book.specs.Rules.{sideOf, moves, rowFor, addRule, modifyRule, deleteRule, executionRule, clearRule, symbolRule};
@@ -64,7 +64,15 @@ pub fn modify_rule(orders: &mut [u64], symbols: &[u8], m: ModifyOrder, number: u
         return 20;
     }
     let moved = loses_place(m.flags);
-    orders::modify(orders, m.order, m.symbol as u64, m.price, m.size as u64, moved, number)
+    orders::modify(
+        orders,
+        m.order,
+        m.symbol as u64,
+        m.price,
+        m.size as u64,
+        moved,
+        number,
+    )
 }
 
 pub fn delete_rule(orders: &mut [u64], symbols: &[u8], m: DeleteOrder) -> u8
@@ -115,15 +123,36 @@ pub fn apply(
     ensures { λ r. ⌜ outcome (r .rule) (book (now (orders .exit)) (now (symbols .exit)) (r .second)) ≡ applied number (now (body .entry)) (book (now (orders .entry)) (now (symbols .entry)) second) ⌝ }
 {
     match body::read_body(body) {
-        Body::SystemTime(seconds) => Applied { rule: 0, second: seconds },
-        Body::SymbolUpdate => Applied { rule: symbol_rule(symbols, body), second },
+        Body::SystemTime(seconds) => Applied {
+            rule: 0,
+            second: seconds,
+        },
+        Body::SymbolUpdate => Applied {
+            rule: symbol_rule(symbols, body),
+            second,
+        },
         Body::SystemState => Applied { rule: 0, second },
         Body::TradingStatus(_) => Applied { rule: 0, second },
-        Body::SymbolClear(m) => Applied { rule: clear_rule(orders, symbols, m), second },
-        Body::Add(m) => Applied { rule: add_rule(orders, symbols, m, number), second },
-        Body::Modify(m) => Applied { rule: modify_rule(orders, symbols, m, number), second },
-        Body::Delete(m) => Applied { rule: delete_rule(orders, symbols, m), second },
-        Body::Execution(m) => Applied { rule: execution_rule(orders, symbols, m), second },
+        Body::SymbolClear(m) => Applied {
+            rule: clear_rule(orders, symbols, m),
+            second,
+        },
+        Body::Add(m) => Applied {
+            rule: add_rule(orders, symbols, m, number),
+            second,
+        },
+        Body::Modify(m) => Applied {
+            rule: modify_rule(orders, symbols, m, number),
+            second,
+        },
+        Body::Delete(m) => Applied {
+            rule: delete_rule(orders, symbols, m),
+            second,
+        },
+        Body::Execution(m) => Applied {
+            rule: execution_rule(orders, symbols, m),
+            second,
+        },
         Body::Trade(_) => Applied { rule: 0, second },
         Body::TradeCancel(_) => Applied { rule: 0, second },
         Body::Refused(_) => Applied { rule: 27, second },

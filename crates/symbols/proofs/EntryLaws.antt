@@ -15,7 +15,7 @@ use Rattle.facts.proofs.PieceLaws.{Wide, length-pieces, getD-pieces, piece-fits
 use Rattle.facts.proofs.TableLaws.{join-rest, no-rest, put-join-rest, part-put}
 use Rattle.wire.specs.Le.{padded}
 use Rattle.wire.proofs.Laws.{length-padded, getD-padded, field-padded, padded-whole}
-use Rattle.kinds.specs.Table.{lookup, lengthOf, typeOf, kindLength}
+use Rattle.kinds.specs.Table.{table, lookup, lengthOf, typeOf, kindLength}
 use Rattle.kinds.specs.declared.Kind.{Kind}
 use Rattle.symbols.specs.Entries.{entrySize, maxEntries, goodEntries, entries, rest, entryOf, putEntry, used, freeEntry, spoiledEntry, idOf}
 
@@ -30,7 +30,7 @@ id-inside = omega arith
 
 -- "each the last Symbol Update body"
 pub size-is : kindLength Kind.SymbolUpdate ≡ entrySize
-unfolding entrySize kindLength lengthOf lookup pick
+unfolding entrySize kindLength lengthOf lookup pick table
 size-is = refl
 
 -- the most entries there may be, for bounds of counts and places
