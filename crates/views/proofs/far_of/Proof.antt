@@ -1,6 +1,7 @@
 -- The test of the remainder decides, as in the definition.
 -- Assumes nothing.
-use mathlib.Core.Path.{sym}
+use mathlib.Core.Path.{_≡_, sym}
+use Prim.Native.Nat.{_%_}
 use borrow.Author.Tests.{eq-eqb, ne-eqb}
 use borrow.Author.Needs.{needs}
 use Rattle.facts.specs.Pick.{pick}
@@ -13,11 +14,15 @@ sub-result c = search needs
 
 returns : tie.Need-returns
 unfolding far pick
-returns c = sym (simp (eq-eqb _ _ (c .if1 .taken)))
+returns c =
+    let e : c .before .args .key % 2 ≡ 0 = c .if1 .taken in
+    sym (simp (eq-eqb _ _ e))
 
 returns-2 : tie.Need-returns-2
 unfolding far pick
-returns-2 c = sym (simp (ne-eqb _ _ (c .if1 .left)))
+returns-2 c =
+    let n : c .before .args .key % 2 ≡ 0 → ⊥ = c .if1 .left in
+    sym (simp (ne-eqb _ _ n))
 
 pub far-of-spec : {M : Type 1} → statement M
 far-of-spec = tie.close (tie.spec sub-result returns returns-2)

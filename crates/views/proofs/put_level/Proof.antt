@@ -9,7 +9,7 @@ use Rattle.views.proofs.put_level.Statement.{statement}
 use Rattle.views.proofs.put_level.Tie as tie
 
 returns : tie.Need-returns
-returns c = let a = c .before .args in sym (level-past (a .out .now) (a .j) (a .l) (c .if1 .taken))
+returns c = let a = c .before .args in sym (level-past (a .out .now) (a .j) (a .l) (omega arith))
 
 mul-b : tie.Need-mul-b
 mul-b c = search needs

@@ -1,7 +1,9 @@
 -- The nearest place of a side is its best price, and BEYOND says that the side is empty.
 -- Assumes nothing.
+use mathlib.Core.Path.{_≡_}
 use Prim.Native.Nat.{_-_}
 use native.Mathlib.Omega.{arith}
+use lib.IntN.{pos, _-ℤ_}
 use mir.Syntax.{w64}
 use mir.ValLaws.{toZ-ofZ}
 use borrow.Author.Needs.{needs}
@@ -40,9 +42,11 @@ minus-requires c κs = search needs
 returns-3 : tie.Need-returns-3
 returns-3 c =
     let a = c .before .before .before .before .before .before .before .before .args in
-    let p = two-sided (a .symbol) (rows (a .orders .now)) (c .before .before .before .before .before .nearest .result) (rw (c .before .before .before .before .before .before .key-of .ensures) at (c .before .before .before .before .before .nearest .ensures)) (c .before .before .before .before .if1 .left) (c .before .before .nearest2 .result) (rw (c .before .before .before .key-of2 .ensures) at (c .before .before .nearest2 .ensures)) (c .before .if2 .left) in
-    let f = minus-fits (c .before .before .nearest2 .result) (topPrice - c .before .before .before .before .before .nearest .result) (c .before .if2 .left) (omega arith) in
-    rw (c .minus .ensures, toZ-ofZ w64 _ f) p
+    let b = c .before .before .before .before .before .nearest .result in
+    let o = c .before .before .nearest2 .result in
+    let p = two-sided (a .symbol) (rows (a .orders .now)) b (rw (c .before .before .before .before .before .before .key-of .ensures) at (c .before .before .before .before .before .nearest .ensures)) (c .before .before .before .before .if1 .left) o (rw (c .before .before .before .key-of2 .ensures) at (c .before .before .nearest2 .ensures)) (c .before .if2 .left) in
+    let m : c .minus .result ≡ pos o -ℤ pos (topPrice - b) = c .minus .ensures in
+    rw (m, toZ-ofZ w64 _ (minus-fits o (topPrice - b) (c .before .if2 .left) (omega arith))) p
 
 pub spread-of-spec : {M : Type 1} → statement M
 spread-of-spec =
