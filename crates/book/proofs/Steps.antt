@@ -39,6 +39,15 @@ record Lawful (t : List ℕ) (c : Change) : Type 0 where
   same-length : length (c .table) ≡ length t
   numbers : Numbered (c .rule)
 
+numbered : {A : Type 0} {n : ℕ} → (A → (20 ≤ n) × (n ≤ 27)) → (n ≡ 0) ⊎ A → Numbered n
+numbered f (inl e) = inl e
+numbered f (inr a) = inr (f a)
+
+-- the two of a message that names an order
+named : {n : ℕ} → (n ≡ 22) ⊎ (n ≡ 23) → (20 ≤ n) × (n ≤ 27)
+named (inl e) = (omega arith, omega arith)
+named (inr e) = (omega arith, omega arith)
+
 stopped : (n : ℕ) (t : List ℕ) → 20 ≤ n → n ≤ 27 → Lawful t (change n t)
 stopped n t a b = record { broken = λ h. refl; same-length = refl; numbers = inr (a, b) }
 
@@ -58,7 +67,7 @@ module _ (s t : List ℕ) where
       (record {
         broken = add-broken r t;
         same-length = add-length r t;
-        numbers = ⊎-elim inl (⊎-elim (λ e. inr (omega arith, omega arith)) (λ e. inr (omega arith, omega arith))) (add-rules r t);
+        numbers = numbered (⊎-elim (λ e. (omega arith, omega arith)) (λ e. (omega arith, omega arith))) (add-rules r t);
       })
 
   modify-lawful : (m : ModifyOrder) (n : ℕ) → Lawful t (modifyRule m n s t)
@@ -68,7 +77,7 @@ module _ (s t : List ℕ) where
       (record {
         broken = modify-broken (m .order) (m .symbol) (m .price) (m .size) (moves (m .flags)) n t;
         same-length = modify-length (m .order) (m .symbol) (m .price) (m .size) (moves (m .flags)) n t;
-        numbers = ⊎-elim inl (⊎-elim (λ e. inr (omega arith, omega arith)) (λ e. inr (omega arith, omega arith))) (modify-rules (m .order) (m .symbol) (m .price) (m .size) (moves (m .flags)) n t);
+        numbers = numbered named (modify-rules (m .order) (m .symbol) (m .price) (m .size) (moves (m .flags)) n t);
       })
 
   delete-lawful : (m : DeleteOrder) → Lawful t (deleteRule m s t)
@@ -78,7 +87,7 @@ module _ (s t : List ℕ) where
       (record {
         broken = delete-broken (m .order) (m .symbol) t;
         same-length = delete-length (m .order) (m .symbol) t;
-        numbers = ⊎-elim inl (⊎-elim (λ e. inr (omega arith, omega arith)) (λ e. inr (omega arith, omega arith))) (delete-rules (m .order) (m .symbol) t);
+        numbers = numbered named (delete-rules (m .order) (m .symbol) t);
       })
 
   execution-lawful : (m : OrderExecution) → Lawful t (executionRule m s t)
@@ -88,10 +97,7 @@ module _ (s t : List ℕ) where
       (record {
         broken = execute-broken (m .order) (m .symbol) (m .size) t;
         same-length = execute-length (m .order) (m .symbol) (m .size) t;
-        numbers =
-            ⊎-elim inl
-            (⊎-elim (⊎-elim (λ e. inr (omega arith, omega arith)) (λ e. inr (omega arith, omega arith))) (λ e. inr (omega arith, omega arith)))
-            (execute-rules (m .order) (m .symbol) (m .size) t);
+        numbers = numbered (⊎-elim named (λ e. (omega arith, omega arith))) (execute-rules (m .order) (m .symbol) (m .size) t);
       })
 
   clear-lawful : (m : SymbolClear) → Lawful t (clearRule m s t)
