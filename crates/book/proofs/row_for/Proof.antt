@@ -3,6 +3,9 @@
 use native.Mathlib.Omega.{arith}
 use Rattle.book.specs.Rules.{rowFor}
 use Rattle.book.proofs.Laws.{side-small}
+use mathlib.Core.Path.{refl, ap}
+use Prim.Native.Nat.{_+_, _*_}
+use Rattle.rows.proofs.Tables.{row-eq}
 use borrow.Author.Needs.{needs}
 use Rattle.book.proofs.row_for.Statement.{statement}
 use Rattle.book.proofs.row_for.Tie as tie
@@ -24,7 +27,7 @@ cast-t7 c = search needs
 
 returns : tie.Need-returns
 unfolding rowFor
-returns c = cc
+returns c = row-eq _ _ refl (ap (λ s. c .before .before .before .args .m .symbol * 2 + s) (c .before .before .side-of .ensures)) refl refl refl
 
 pub row-for-spec : {M : Type 1} → statement M
 row-for-spec = tie.close (tie.spec side-of-requires cast-t4 mul-t5 add-t6 cast-t7 returns)
