@@ -52,6 +52,6 @@ appliedBy (Body.Refused r) n b k = outcome 27 k
 unfoldable pub applied : ℕ → List ℕ → Book → Outcome
 applied n b k = appliedBy (readBody b) n b k
 
--- "the rule that its message breaks": neither the message's number nor the second has a say in it (rule-any of proofs/Laws.antt)
+-- "the rule that its message breaks": neither the message's number nor the second has a say in it (rule-any of proofs/Steps.antt)
 unfoldable pub ruleOf : List ℕ → List ℕ → List ℕ → ℕ
 ruleOf b o s = applied 0 b (book o s 0) .rule
