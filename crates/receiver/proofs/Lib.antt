@@ -1,1 +1,3 @@
-pub mod Turn
+pub mod Exits
+pub mod Records
+pub mod Accounts

@@ -7,7 +7,6 @@ use lib.ListN.{length, replicate}
 use lib.Dec.{leb}
 use Rattle.facts.specs.Pick.{pick, both}
 use Rattle.fields.specs.Fields.{refusal}
-use Rattle.fields.specs.declared.Refusal.{Refusal}
 use Rattle.packet.specs.Record.{Rec}
 use Rattle.packet.specs.Packet.{Framing, bad, records, framing}
 use Rattle.rows.specs.Rows.{goodRows}

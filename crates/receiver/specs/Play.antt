@@ -2,7 +2,7 @@
 use Prim.Native.Nat.{ℕ, zero, suc, _+_, _-_}
 use mathlib.Core.List.{List, [], _∷_}
 use lib.ListN.{length, take, drop}
-use lib.Dec.{leb, ltb}
+use lib.Dec.{ltb}
 use Rattle.facts.specs.Pick.{pick}
 use Rattle.fields.specs.Fields.{refusal}
 use Rattle.wire.specs.Le.{field}

@@ -1,8 +1,17 @@
+-- The loop keeps: the turns that are left, from here, give the end of all 64.
+-- Assumes nothing.
+use mathlib.Core.Path.{_≡_, refl, sym, ap, _∙_}
+use Prim.Native.Nat.{_+_, _-_, _≤_}
+use native.Mathlib.Omega.{arith}
+use borrow.Author.Needs.{needs}
+use borrow.Author.Tests.{not-true, not-false}
+use lib.ListN.{length}
+use Rattle.arbitration.proofs.Turns.{loop-step, loop-rest, loop-end, turn-next}
+use Rattle.shelf.specs.Store.{shelfStore}
+use Rattle.receiver.specs.Rules.{bookEngine}
+use Rattle.receiver.specs.Lent.{Rx, rx}
 use Rattle.receiver.proofs.drain.Statement.{statement}
 use Rattle.receiver.proofs.drain.Tie as tie
-use Rattle.receiver.proofs.drain.Reads as reads
-use Rattle.receiver.proofs.drain.Lts as lts
-use Rattle.receiver.proofs.turn.Reads as turn-reads
 
 abbrev Inv-loop : tie.InvT-loop
 Inv-loop orders₀ symbols₀ shelf₀ at₀ i₀ orders symbols shelf at i =
@@ -16,57 +25,53 @@ Inv-loop orders₀ symbols₀ shelf₀ at₀ i₀ orders symbols shelf at i =
 abbrev μ-loop : tie.MeasureT-loop
 μ-loop orders₀ symbols₀ shelf₀ at₀ i₀ orders symbols shelf at i = 64 - i
 
--- src/lib.rt:119:5
 loop-holds : tie.Need-loop-holds Inv-loop μ-loop
-loop-holds c = ?
+loop-holds c = (refl, refl, refl, omega arith, omega arith, refl)
 
--- src/lib.rt:120:13
 turn-requires : tie.Need-turn-requires Inv-loop μ-loop
-turn-requires c κs = ?
+turn-requires c κs = search needs
 
--- src/lib.rt:123:13
 same-length : tie.Need-same-length Inv-loop μ-loop
-same-length c = ?
+same-length c = search needs
 
--- src/lib.rt:123:13
 same-length-2 : tie.Need-same-length-2 Inv-loop μ-loop
-same-length-2 c = ?
+same-length-2 c = search needs
 
--- src/lib.rt:123:13
 same-length-3 : tie.Need-same-length-3 Inv-loop μ-loop
-same-length-3 c = ?
+same-length-3 c = search needs
 
--- src/lib.rt:123:13
 returns : tie.Need-returns Inv-loop μ-loop
-returns c = ?
+returns c = loop-rest shelfStore bookEngine 64 (c .before .before .before .before .before .before .before .before .before .before .before .before .before .before .loop .i) (rx (c .before .before .before .before .before .before .before .before .before .before .before .before .before .before .loop .at .next) (c .before .before .before .before .before .before .before .before .before .before .before .before .before .before .loop .at .second) (c .before .before .before .before .before .before .before .before .before .before .before .before .before .before .loop .orders) (c .before .before .before .before .before .before .before .before .before .before .before .before .before .before .loop .symbols) (c .before .before .before .before .before .before .before .before .before .before .before .before .before .before .loop .shelf)) _ _ (c .before .before .before .before .before .before .before .before .before .before .before .before .before .before .loop .inv .5) (c .before .before .before .before .before .before .before .before .before .turn .ensures .0) (sym (c .before .before .before .before .before .before .before .before .before .turn .ensures .1) ∙ not-true (c .before .before .before .before .before .before .before .before .before .turn .result .on) (c .if1 .taken))
 
--- src/lib.rt:125:9
 add-i : tie.Need-add-i Inv-loop μ-loop
-add-i c = ?
+add-i c = search needs
 
--- src/lib.rt:119:5
 loop-less : tie.Need-loop-less Inv-loop μ-loop
-loop-less c = ?
+loop-less c = search needs
 
--- src/lib.rt:119:5
 loop-again : tie.Need-loop-again Inv-loop μ-loop
-loop-again c = ?
+loop-again c =
+    let r : Rx = (rx (c .before .before .before .before .before .before .before .before .before .before .before .before .before .before .loop .at .next) (c .before .before .before .before .before .before .before .before .before .before .before .before .before .before .loop .at .second) (c .before .before .before .before .before .before .before .before .before .before .before .before .before .before .loop .orders) (c .before .before .before .before .before .before .before .before .before .before .before .before .before .before .loop .symbols) (c .before .before .before .before .before .before .before .before .before .before .before .before .before .before .loop .shelf)) in
+    let next : c .before .before .before .before .before .before .before .before .before .turn .result .at .next ≤ c .before .before .before .before .before .before .before .before .before .before .before .before .before .before .loop .at .next + 1 = omega (arith, ap (λ (x : Rx). x .next) (c .before .before .before .before .before .before .before .before .before .turn .ensures .0), turn-next shelfStore bookEngine r .1) in (
+      search needs,
+      search needs,
+      search needs,
+      omega arith,
+      omega arith,
+      loop-step shelfStore bookEngine 64 (c .before .before .before .before .before .before .before .before .before .before .before .before .before .before .loop .i) r _ _ (c .before .before .before .before .before .before .before .before .before .before .before .before .before .loop-test .taken) (c .before .before .before .before .before .before .before .before .before .before .before .before .before .before .loop .inv .5) (c .before .before .before .before .before .before .before .before .before .turn .ensures .0) (sym (c .before .before .before .before .before .before .before .before .before .turn .ensures .1) ∙ not-false (c .before .before .before .before .before .before .before .before .before .turn .result .on) (c .if1 .left)),
+    )
 
--- src/lib.rt:113:1
 same-length-4 : tie.Need-same-length-4 Inv-loop μ-loop
-same-length-4 c = ?
+same-length-4 c = search needs
 
--- src/lib.rt:113:1
 same-length-5 : tie.Need-same-length-5 Inv-loop μ-loop
-same-length-5 c = ?
+same-length-5 c = search needs
 
--- src/lib.rt:113:1
 same-length-6 : tie.Need-same-length-6 Inv-loop μ-loop
-same-length-6 c = ?
+same-length-6 c = search needs
 
--- src/lib.rt:113:1
 returns-2 : tie.Need-returns-2 Inv-loop μ-loop
-returns-2 c = ?
+returns-2 c = loop-end shelfStore bookEngine 64 (c .before .loop .i) (rx (c .before .loop .at .next) (c .before .loop .at .second) (c .before .loop .orders) (c .before .loop .symbols) (c .before .loop .shelf)) _ (c .loop-test .left) (c .before .loop .inv .5)
 
 pub drain-spec : {M : Type 1} → statement M
 drain-spec =

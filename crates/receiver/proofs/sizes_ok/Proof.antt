@@ -1,39 +1,29 @@
-use mathlib.Core.Path.{_≡_, sym, _∙_}
+-- Three tests, one after another.
+-- Assumes nothing.
 use borrow.Author.Tests.{not-true, not-false}
 use Rattle.facts.specs.Pick.{both}
 use Rattle.receiver.specs.Lent.{sizesOk}
 use borrow.Author.Needs.{needs}
 use Rattle.receiver.proofs.sizes_ok.Statement.{statement}
 use Rattle.receiver.proofs.sizes_ok.Tie as tie
-use Rattle.receiver.proofs.sizes_ok.Reads as reads
-use Rattle.receiver.proofs.sizes_ok.Lts as lts
-use Rattle.rows.proofs.good_rows.Reads as good-rows-reads
-use Rattle.shelf.proofs.good_shelf.Reads as good-shelf-reads
-use Rattle.symbols.proofs.good_entries.Reads as good-entries-reads
 
--- src/lib.rt:294:9
 good-rows-requires : tie.Need-good-rows-requires
 good-rows-requires c κs = search needs
 
--- src/lib.rt:295:9
 returns : tie.Need-returns
 unfolding sizesOk both
 returns c = simp (← c .before .good-rows .ensures, not-true (c .before .good-rows .result) (c .if1 .taken))
 
--- src/lib.rt:297:9
 good-entries-requires : tie.Need-good-entries-requires
 good-entries-requires c κs = search needs
 
--- src/lib.rt:298:9
 returns-2 : tie.Need-returns-2
 unfolding sizesOk both
 returns-2 c = simp (← c .before .before .before .good-rows .ensures, not-false (c .before .before .before .good-rows .result) (c .before .before .if1 .left), ← c .before .good-entries .ensures, not-true (c .before .good-entries .result) (c .if2 .taken))
 
--- src/lib.rt:300:5
 good-shelf-requires : tie.Need-good-shelf-requires
 good-shelf-requires c κs = search needs
 
--- src/lib.rt:291:1
 returns-3 : tie.Need-returns-3
 unfolding sizesOk both
 returns-3 c = simp (← c .before .before .before .before .good-rows .ensures, not-false (c .before .before .before .before .good-rows .result) (c .before .before .before .if1 .left), ← c .before .before .good-entries .ensures, not-false (c .before .before .good-entries .result) (c .before .if2 .left)) (c .good-shelf .ensures)

@@ -13,8 +13,8 @@ use Rattle.book.specs.Book.{Book, book, Outcome, outcome, applied, ruleOf}
 use Rattle.book.proofs.Steps.{broken-keeps, bad-body, rule-good, rule-any}
 use Rattle.arbitration.specs.Slots.{Slot, emptySlot, slotBody}
 use Rattle.arbitration.specs.Engine.{ok, broke}
-use Rattle.arbitration.specs.Receive.{stuck, ofApplied, goodSlot, try, stop, turned}
-use Rattle.arbitration.proofs.Turns.{turnTo, goesOn, Stays, Moves, try-empty, try-other, try-bad, try-good, long-bad, short-good, stays-nothing, stays-stuck, moves, stop-nothing, stop-stuck, stop-goes}
+use Rattle.arbitration.specs.Receive.{stuck, ofApplied, try, stop}
+use Rattle.arbitration.proofs.Turns.{turnTo, goesOn, Stays, try-empty, try-other, try-bad, try-good, long-bad, short-good, stays-nothing, stays-stuck, moves, stop-nothing, stop-stuck, stop-goes}
 use Rattle.shelf.specs.Shelf.{slotAt, putSlot}
 use Rattle.shelf.specs.Store.{shelfStore}
 use Rattle.receiver.specs.Rules.{appliedTo, bookEngine}
