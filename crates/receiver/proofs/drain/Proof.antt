@@ -6,6 +6,7 @@ use native.Mathlib.Omega.{arith}
 use borrow.Author.Needs.{needs}
 use borrow.Author.Tests.{not-true, not-false}
 use lib.ListN.{length}
+use Rattle.arbitration.specs.Receive.{drain as drained}
 use Rattle.arbitration.proofs.Turns.{loop-step, loop-rest, loop-end, turn-next}
 use Rattle.shelf.specs.Store.{shelfStore}
 use Rattle.receiver.specs.Rules.{bookEngine}

@@ -3,6 +3,7 @@
 use mathlib.Core.Path.{ap, _∙_}
 use mathlib.Core.List.{List}
 use Prim.Native.Nat.{ℕ}
+use Rattle.arbitration.specs.Receive.{drain as drained}
 use Rattle.shelf.specs.Store.{shelfStore}
 use Rattle.receiver.specs.Rules.{bookEngine}
 use Rattle.receiver.specs.Lent.{rx}
