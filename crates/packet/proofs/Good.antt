@@ -126,3 +126,25 @@ outcome p = go (framing p) refl (framing-fine p)
     go : (x : Framing) → framing p ≡ x → Fine x → Outcome p
     go (bad r) e f = refused r e (ap told e) (f .0) (f .1)
     go (records cs) e f = good cs e (ap told e) (some-records p cs e) f
+
+-- the records of a framing, none of a refused one
+unfoldable pub recordsIn : Framing → List Rec
+recordsIn (bad r) = []
+recordsIn (records cs) = cs
+
+-- what the answer to a packet says of its framing
+pub bad-framing : (p : List ℕ) (r : Refusal) → readPacket p ≡ Packet.Refused r → framing p ≡ bad r
+unfolding readPacket told
+bad-framing p r e = go (framing p) refl
+  where
+    go : (x : Framing) → framing p ≡ x → framing p ≡ bad r
+    go (bad q) f = let g : Packet.Refused q ≡ Packet.Refused r = sym (ap told f) ∙ e in f ∙ cc
+    go (records cs) f = let g : Packet.Good (length cs) ≡ Packet.Refused r = sym (ap told f) ∙ e in let z : _≡_ {A = ℕ} 0 1 = cc in absurd (omega arith)
+
+pub good-framing : (p : List ℕ) (n : ℕ) → readPacket p ≡ Packet.Good n → framing p ≡ records (recordsIn (framing p))
+unfolding readPacket told recordsIn
+good-framing p n e = go (framing p) refl
+  where
+    go : (x : Framing) → framing p ≡ x → framing p ≡ records (recordsIn (framing p))
+    go (bad q) f = let g : Packet.Refused q ≡ Packet.Good n = sym (ap told f) ∙ e in let z : _≡_ {A = ℕ} 0 1 = cc in absurd (omega arith)
+    go (records cs) f = f ∙ ap records (sym (ap recordsIn f))

@@ -1,0 +1,3 @@
+pub mod Exits
+pub mod Records
+pub mod Accounts

@@ -1,0 +1,88 @@
+-- One record of a packet, and the loop over a packet's records: what is left of the records, from here, gives the end.
+-- Assumes nothing.
+use Prim.Native.Nat.{ℕ, _+_, _≤_, _<_}
+use mathlib.Core.Path.{_≡_, sym, ap, _∙_}
+use mathlib.Core.List.{List}
+use native.Mathlib.Omega.{arith}
+use lib.ListN.{length, drop}
+use Rattle.packet.specs.Record.{Rec, headOf, bodyOf, recOf}
+use Rattle.packet.specs.declared.Head.{Head}
+use Rattle.packet.specs.Packet.{records, framesFrom, framing}
+use Rattle.packet.proofs.Good.{Step, step, step-end, framing-size}
+use Rattle.arbitration.specs.Receive.{Counts, recordsOf, judged, acted}
+use Rattle.arbitration.specs.Receive as theory
+use Rattle.arbitration.proofs.Answers.{after-next}
+use Rattle.arbitration.proofs.Tallies.{Working, working, work, counted, total, working-of, work-step, work-end}
+use Rattle.shelf.specs.Store.{shelfStore}
+use Rattle.receiver.specs.Rules.{bookEngine}
+use Rattle.receiver.specs.Lent.{Rx, rec, answerOf, GoodPacket}
+use Rattle.receiver.specs.declared.Answer.{Answer}
+
+abbrev W : Type 0
+W = Working shelfStore bookEngine
+
+-- a record answered d: the state after it, and the counts with one more
+pub offered : (c : Rec) (w : W) (a d : Answer) → a ≡ d → (r : Rx) (t : Counts) → answerOf a ≡ judged shelfStore bookEngine c (w .rx) → t ≡ counted (answerOf a) (w .counts) → r ≡ acted shelfStore bookEngine (answerOf d) c (w .rx)
+    → _≡_ {A = W} (record { rx = r; counts = t }) (working shelfStore bookEngine c w)
+offered c w a d q r t e f g =
+    let n : t ≡ counted (answerOf d) (w .counts) = f ∙ ap (λ (x : Answer). counted (answerOf x) (w .counts)) q in
+    (λ i. record { rx = g i; counts = n i }) ∙ sym (working-of shelfStore bookEngine c w (answerOf d) (sym e ∙ ap answerOf q))
+
+counted-total : (a : theory.Answer) (t : Counts) → total (counted a t) ≡ total t + 1
+counted-total theory.taken t = omega arith
+counted-total theory.old t = omega arith
+counted-total theory.tooFar t = omega arith
+counted-total theory.repeated t = omega arith
+counted-total theory.differing t = omega arith
+
+-- a record raises next by at most 64 and the counts by one
+pub worked-bounds : (c : Rec) (w w′ : W) → w′ ≡ working shelfStore bookEngine c w → (w′ .rx .next ≤ w .rx .next + 64) × (total (w′ .counts) ≤ total (w .counts) + 1)
+worked-bounds c w w′ e =
+    let n : w′ .rx .next ≡ working shelfStore bookEngine c w .rx .next = ap (λ (x : W). x .rx .next) e in
+    let t : total (w′ .counts) ≡ total (counted (judged shelfStore bookEngine c (w .rx)) (w .counts)) = ap (λ (x : W). total (x .counts)) e in
+    (omega (arith, after-next shelfStore bookEngine c (w .rx) .1), omega (arith, counted-total (judged shelfStore bookEngine c (w .rx)) (w .counts)))
+
+-- the records that are left from a place on
+unfoldable pub leftFrom : List ℕ → ℕ → List Rec
+leftFrom p at = recordsOf (framesFrom (length p) (drop at p))
+
+module _ (p : List ℕ) (at n : ℕ) (inside-p : at < length p) (n-is : n ≡ headOf (drop at p) .len) (frames : framesFrom (length p) (drop at p) ≡ records (leftFrom p at)) where
+  walk : Step p at (leftFrom p at)
+  walk = step p at (leftFrom p at) inside-p frames
+
+  -- the same place, by the length that the code read
+  place : at + (10 + headOf (drop at p) .len) ≡ at + (10 + n)
+  place = ap (λ k. at + (10 + k)) (sym n-is)
+
+  behind-is : framesFrom (length p) (drop (at + (10 + n)) p) ≡ records (walk .others)
+  behind-is = ap (λ k. framesFrom (length p) (drop k p)) (sym place) ∙ walk .next
+
+  left-is : leftFrom p (at + (10 + n)) ≡ walk .others
+  unfolding leftFrom
+  left-is = ap recordsOf behind-is
+
+  pub next-inside : at + (10 + n) ≤ length p
+  next-inside = omega (arith, place, walk .inside)
+
+  pub next-frames : framesFrom (length p) (drop (at + (10 + n)) p) ≡ records (leftFrom p (at + (10 + n)))
+  next-frames = behind-is ∙ ap records (sym left-is)
+
+  pub next-works : (w w′ end : W) → work shelfStore bookEngine (leftFrom p at) w ≡ end → w′ ≡ working shelfStore bookEngine (recOf (drop at p)) w → work shelfStore bookEngine (leftFrom p (at + (10 + n))) w′ ≡ end
+  next-works w w′ end v u =
+      ap (λ cs. work shelfStore bookEngine cs w′) left-is
+      ∙ work-step shelfStore bookEngine (recOf (drop at p)) (walk .others) w w′ end (ap (λ cs. work shelfStore bookEngine cs w) (sym (walk .first-is)) ∙ v) u
+
+-- the start of the loop: all of a good packet's records are left
+pub first-frames : (p : List ℕ) → GoodPacket p → (length p ≤ 1500) × (framesFrom (length p) p ≡ records (leftFrom p 0)) × (leftFrom p 0 ≡ recordsOf (framing p))
+unfolding leftFrom
+first-frames p g =
+    let s = framing-size p (g .cs) (g .framing-is) in
+    (s .1, s .2 ∙ ap records (sym (ap recordsOf (s .2))), ap recordsOf (s .2) ∙ sym (ap recordsOf (g .framing-is)))
+
+-- its end
+pub last-works : (p : List ℕ) (at : ℕ) → length p ≤ at → framesFrom (length p) (drop at p) ≡ records (leftFrom p at) → (w end : W) → work shelfStore bookEngine (leftFrom p at) w ≡ end → w ≡ end
+last-works p at h f w end v = work-end shelfStore bookEngine w end (ap (λ cs. work shelfStore bookEngine cs w) (sym (step-end p at (leftFrom p at) h f)) ∙ v)
+
+-- the record that the code read at a place
+pub same-record : (p : List ℕ) (at : ℕ) (h : Head) (b : List ℕ) → h ≡ headOf (drop at p) → b ≡ bodyOf (drop at p) → rec (h .number) b ≡ recOf (drop at p)
+same-record p at h b e f = λ i. record { number = e i .number; body = f i }

@@ -1,0 +1,68 @@
+-- The tests come in the order of `received`: sizes, next, then the packet's own framing.
+-- Assumes nothing.
+use mathlib.Core.Path.{sym, _∙_}
+use borrow.Author.Tests.{not-true, not-false}
+use Rattle.packet.proofs.Good.{recordsIn, good-framing}
+use Rattle.packet.specs.Packet.{framing}
+use Rattle.receiver.specs.Lent.{lent}
+use Rattle.receiver.proofs.Accounts.{refused-sizes, refused-next, judged-packet, refused-packet, next-most}
+use borrow.Author.Needs.{needs}
+use Rattle.receiver.proofs.receive.Statement.{statement}
+use Rattle.receiver.proofs.receive.Tie as tie
+
+sizes-ok-requires : tie.Need-sizes-ok-requires
+sizes-ok-requires c κs = search needs
+
+returns : tie.Need-returns
+returns c = refused-sizes (lent (c .before .before .before .before .before .before .args .orders .now) (c .before .before .before .before .before .before .args .symbols .now) (c .before .before .before .before .before .before .args .shelf .now) (c .before .before .before .before .before .before .args .state)) (c .before .before .before .before .before .before .args .p .now) (sym (c .before .sizes-ok .ensures) ∙ not-true (c .before .sizes-ok .result) (c .if1 .taken))
+
+next-ok-requires : tie.Need-next-ok-requires
+next-ok-requires c κs = search needs
+
+returns-2 : tie.Need-returns-2
+returns-2 c = refused-next (lent (c .before .before .before .before .before .before .before .before .args .orders .now) (c .before .before .before .before .before .before .before .before .args .symbols .now) (c .before .before .before .before .before .before .before .before .args .shelf .now) (c .before .before .before .before .before .before .before .before .args .state)) (c .before .before .before .before .before .before .before .before .args .p .now) (sym (c .before .before .before .sizes-ok .ensures) ∙ not-false (c .before .before .before .sizes-ok .result) (c .before .before .if1 .left)) (sym (c .before .next-ok .ensures) ∙ not-true (c .before .next-ok .result) (c .if2 .taken))
+
+read-packet-requires : tie.Need-read-packet-requires
+read-packet-requires c κs = search needs
+
+enum-known-r : tie.Need-enum-known-r
+enum-known-r c = search needs
+
+enum-told : tie.Need-enum-told
+enum-told c = search needs
+
+accept-requires : tie.Need-accept-requires
+accept-requires c κs = (next-most (c .before .before .before .before .before .before .before .before .before .before .before .before .before .before .args .state .next) (sym (c .before .before .before .before .before .before .before .next-ok .ensures) ∙ not-false (c .before .before .before .before .before .before .before .next-ok .result) (c .before .before .before .before .before .before .if2 .left)), record { cs = recordsIn (framing (c .before .before .before .before .before .before .before .before .before .before .before .before .before .before .args .p .now)); framing-is = good-framing (c .before .before .before .before .before .before .before .before .before .before .before .before .before .before .args .p .now) _ (sym (c .before .before .before .before .before .read-packet .ensures) ∙ c .before .before .before .enum-told .given .1) })
+
+returns-3 : tie.Need-returns-3
+returns-3 c = refused-packet (lent (c .before .before .before .before .before .before .before .before .before .before .before .before .args .orders .now) (c .before .before .before .before .before .before .before .before .before .before .before .before .args .symbols .now) (c .before .before .before .before .before .before .before .before .before .before .before .before .args .shelf .now) (c .before .before .before .before .before .before .before .before .before .before .before .before .args .state)) (c .before .before .before .before .before .before .before .before .before .before .before .before .args .p .now) (sym (c .before .before .before .before .before .before .before .sizes-ok .ensures) ∙ not-false (c .before .before .before .before .before .before .before .sizes-ok .result) (c .before .before .before .before .before .before .if1 .left)) (sym (c .before .before .before .before .before .next-ok .ensures) ∙ not-false (c .before .before .before .before .before .next-ok .result) (c .before .before .before .before .if2 .left)) _ (sym (c .before .before .before .read-packet .ensures) ∙ c .before .r .given .1)
+
+same-length : tie.Need-same-length
+same-length c = search needs
+
+same-length-2 : tie.Need-same-length-2
+same-length-2 c = search needs
+
+same-length-3 : tie.Need-same-length-3
+same-length-3 c = search needs
+
+returns-4 : tie.Need-returns-4
+returns-4 c = c .before .before .before .before .before .before .accept .ensures ∙ judged-packet (lent (c .before .before .before .before .before .before .before .before .before .before .before .before .before .before .before .before .before .before .before .before .before .args .orders .now) (c .before .before .before .before .before .before .before .before .before .before .before .before .before .before .before .before .before .before .before .before .before .args .symbols .now) (c .before .before .before .before .before .before .before .before .before .before .before .before .before .before .before .before .before .before .before .before .before .args .shelf .now) (c .before .before .before .before .before .before .before .before .before .before .before .before .before .before .before .before .before .before .before .before .before .args .state)) (c .before .before .before .before .before .before .before .before .before .before .before .before .before .before .before .before .before .before .before .before .before .args .p .now) (sym (c .before .before .before .before .before .before .before .before .before .before .before .before .before .before .before .before .sizes-ok .ensures) ∙ not-false (c .before .before .before .before .before .before .before .before .before .before .before .before .before .before .before .before .sizes-ok .result) (c .before .before .before .before .before .before .before .before .before .before .before .before .before .before .before .if1 .left)) (sym (c .before .before .before .before .before .before .before .before .before .before .before .before .before .before .next-ok .ensures) ∙ not-false (c .before .before .before .before .before .before .before .before .before .before .before .before .before .before .next-ok .result) (c .before .before .before .before .before .before .before .before .before .before .before .before .before .if2 .left))
+
+pub receive-spec : {M : Type 1} → statement M
+receive-spec =
+    tie.close
+    (tie.spec
+    sizes-ok-requires
+    returns
+    next-ok-requires
+    returns-2
+    read-packet-requires
+    enum-known-r
+    enum-told
+    accept-requires
+    returns-3
+    same-length
+    same-length-2
+    same-length-3
+    returns-4)

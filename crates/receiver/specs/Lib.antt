@@ -1,0 +1,3 @@
+pub mod Rules
+pub mod Lent
+pub mod Play
