@@ -5,4 +5,6 @@
 //! Refusals (1 to 6, 30) and broken rules (20 to 27) are document 01's numbers, as plain `u8`.
 #![forbid(unsafe_code)]
 
+pub mod book;
 pub mod packet;
+pub mod tables;
