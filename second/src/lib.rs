@@ -7,4 +7,5 @@
 
 pub mod book;
 pub mod packet;
+pub mod receiver;
 pub mod tables;
