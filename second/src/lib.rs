@@ -8,4 +8,6 @@
 pub mod book;
 pub mod packet;
 pub mod receiver;
+pub mod sheet;
 pub mod tables;
+pub mod views;
