@@ -6,6 +6,7 @@
 #![forbid(unsafe_code)]
 
 pub mod book;
+pub mod examples;
 pub mod morning;
 pub mod packet;
 pub mod receiver;
