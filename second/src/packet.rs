@@ -364,3 +364,39 @@ pub fn read_packet(packet: &[u8]) -> Result<Vec<Record<'_>>, u8> {
     }
     Ok(records)
 }
+
+#[cfg(test)]
+mod tests {
+    use super::*;
+
+    #[test]
+    fn little_at_all_widths() {
+        assert_eq!(little(&[]), 0);
+        assert_eq!(little(&[255]), 255);
+        assert_eq!(little(&[1, 2]), 513);
+        assert_eq!(little(&[0, 0, 0, 1]), 16_777_216);
+        assert_eq!(
+            little(&[1, 0, 0, 0, 0, 0, 0, 128]),
+            9_223_372_036_854_775_809
+        );
+        assert_eq!(little(&[255; 8]), u64::MAX);
+    }
+
+    #[test]
+    fn lengths_are_the_sums_of_003() {
+        let sums = [
+            (49, 1 + 4),
+            (1, 1 + 4 + 4 + 11 + 1 + 1 + 1 + 2 + 8 + 8 + 1),
+            (83, 1 + 4 + 8 + 1 + 1),
+            (4, 1 + 4 + 4 + 1 + 1 + 1),
+            (5, 1 + 4 + 4),
+            (20, 1 + 4 + 4 + 8 + 1 + 8 + 4 + 4),
+            (21, 1 + 4 + 4 + 8 + 8 + 4 + 1),
+            (23, 1 + 4 + 4 + 8),
+            (24, 1 + 4 + 4 + 8 + 8 + 8 + 4 + 1),
+            (10, 1 + 4 + 4 + 8 + 1 + 8 + 4 + 1),
+            (11, 1 + 4 + 4 + 8 + 1 + 8 + 4),
+        ];
+        assert_eq!(TYPES_AND_LENGTHS, sums);
+    }
+}

@@ -123,3 +123,64 @@ pub fn free_entry(symbols: &[u8]) -> Option<usize> {
     }
     None
 }
+
+#[cfg(test)]
+mod tests {
+    use super::*;
+
+    #[test]
+    fn rows_are_free_live_or_spoiled() {
+        assert!(row_is_free(&[0; 5]));
+        assert!(!row_is_live(&[0; 5]));
+        let live = [
+            [0, 0, 1, 1, 1],
+            [
+                u64::MAX,
+                (1 << 33) - 1,
+                1_000_000_000_000_000,
+                4_294_967_295,
+                u64::MAX,
+            ],
+        ];
+        for row in live {
+            assert!(row_is_live(&row) && !row_is_free(&row));
+        }
+        let spoiled = [
+            [1, 0, 0, 0, 0],
+            [0, 0, 1, 1, 0],
+            [0, 0, 1, 0, 1],
+            [0, 0, 1, 4_294_967_296, 1],
+            [0, 0, 0, 1, 1],
+            [0, 0, 1_000_000_000_000_001, 1, 1],
+            [0, 1 << 33, 1, 1, 1],
+            [0, u64::MAX, 1, 1, 1],
+        ];
+        for row in spoiled {
+            assert!(!row_is_live(&row) && !row_is_free(&row));
+        }
+    }
+
+    #[test]
+    fn searches_take_the_lowest() {
+        let mut orders = vec![1; 5 * 6];
+        orders[5..10].fill(0);
+        orders[20..25].fill(0);
+        orders[0] = 9;
+        orders[4] = 0; // spoiled
+        assert_eq!(live_row(&orders, 1), Some(2));
+        assert_eq!(live_row(&orders, 9), None);
+        assert_eq!(free_row(&orders), Some(1));
+        assert_eq!(free_row(&[1; 10]), None);
+
+        let mut symbols = vec![0; 42 * 4];
+        for (place, kind) in [2, 1, 0, 1].into_iter().enumerate() {
+            symbols[place * 42] = kind;
+            symbols[place * 42 + 5] = 7;
+        }
+        assert_eq!(used_entry(&symbols, 7), Some(1));
+        assert_eq!(used_entry(&symbols, 0), None);
+        assert_eq!(used_entry(&symbols, 7 + 256), None);
+        assert_eq!(free_entry(&symbols), Some(2));
+        assert_eq!(free_entry(&[3; 42]), None);
+    }
+}
