@@ -1,0 +1,402 @@
+//! The eleven messages, and reading them: a body (refusals 3, 4), then records and packets
+//! (refusal 1, then record by record 2, 5, 3, 4).
+
+/// "A packet is 1 to 1,500 bytes".
+pub const MOST_PACKET_BYTES: usize = 1_500;
+/// "A record is: sequence number, 8 bytes; body length, 2 bytes; body."
+pub const HEADER_BYTES: usize = 10;
+/// "Sequence numbers run from 1 to 1,000,000,000,000."
+pub const LAST_NUMBER: u64 = 1_000_000_000_000;
+/// "price (millionths of a dollar) 1 to 1,000,000,000,000,000"
+pub const HIGHEST_PRICE: u64 = 1_000_000_000_000_000;
+
+pub const SYSTEM_TIME: u8 = 49;
+pub const SYMBOL_UPDATE: u8 = 1;
+pub const SYSTEM_STATE: u8 = 83;
+pub const TRADING_STATUS: u8 = 4;
+pub const SYMBOL_CLEAR: u8 = 5;
+pub const ADD_ORDER: u8 = 20;
+pub const MODIFY_ORDER: u8 = 21;
+pub const DELETE_ORDER: u8 = 23;
+pub const ORDER_EXECUTION: u8 = 24;
+pub const TRADE: u8 = 10;
+pub const TRADE_CANCEL: u8 = 11;
+
+/// "The types and lengths of all eleven messages stand in one table."
+pub const TYPES_AND_LENGTHS: [(u8, usize); 11] = [
+    (SYSTEM_TIME, 5),
+    (SYMBOL_UPDATE, 42),
+    (SYSTEM_STATE, 15),
+    (TRADING_STATUS, 12),
+    (SYMBOL_CLEAR, 9),
+    (ADD_ORDER, 34),
+    (MODIFY_ORDER, 30),
+    (DELETE_ORDER, 17),
+    (ORDER_EXECUTION, 38),
+    (TRADE, 31),
+    (TRADE_CANCEL, 30),
+];
+
+#[derive(Clone, Copy, Debug, PartialEq, Eq)]
+pub enum Side {
+    Buy,
+    Sell,
+}
+
+/// A good message with its fields, as 003 section 4 lists them.
+#[derive(Clone, Copy, Debug, PartialEq, Eq)]
+pub enum Message {
+    SystemTime {
+        seconds: u32,
+    },
+    SymbolUpdate(SymbolUpdate),
+    SystemState {
+        nanoseconds: u32,
+        version: [u8; 8],
+        session: u8,
+        status: u8,
+    },
+    TradingStatus {
+        nanoseconds: u32,
+        symbol: u32,
+        trading: u8,
+        market_state: u8,
+        short_sale: u8,
+    },
+    SymbolClear {
+        nanoseconds: u32,
+        symbol: u32,
+    },
+    AddOrder {
+        nanoseconds: u32,
+        symbol: u32,
+        order: u64,
+        side: Side,
+        price: u64,
+        size: u32,
+        attributable: [u8; 4],
+    },
+    ModifyOrder {
+        nanoseconds: u32,
+        symbol: u32,
+        order: u64,
+        price: u64,
+        size: u32,
+        flags: u8,
+    },
+    DeleteOrder {
+        nanoseconds: u32,
+        symbol: u32,
+        order: u64,
+    },
+    OrderExecution {
+        nanoseconds: u32,
+        symbol: u32,
+        order: u64,
+        trade: u64,
+        price: u64,
+        size: u32,
+        flags: u8,
+    },
+    Trade {
+        nanoseconds: u32,
+        symbol: u32,
+        trade: u64,
+        correction: u8,
+        price: u64,
+        size: u32,
+        flags: u8,
+    },
+    TradeCancel {
+        nanoseconds: u32,
+        symbol: u32,
+        trade: u64,
+        correction: u8,
+        price: u64,
+        size: u32,
+    },
+}
+
+#[derive(Clone, Copy, Debug, PartialEq, Eq)]
+pub struct SymbolUpdate {
+    pub nanoseconds: u32,
+    pub symbol: u32,
+    pub ticker: [u8; 11],
+    pub reserved20: u8,
+    pub test: u8,
+    pub reserved22: u8,
+    pub lot: u16,
+    pub opening: [u8; 8],
+    pub closing: [u8; 8],
+    pub market: u8,
+    /// All 42 bytes as they came: a symbol entry is "the last Symbol Update body for its symbol".
+    pub body: [u8; 42],
+}
+
+/// A record of a good packet.
+#[derive(Clone, Copy, Debug, PartialEq, Eq)]
+pub struct Record<'a> {
+    pub number: u64,
+    pub body: &'a [u8],
+    pub message: Message,
+}
+
+/// "All numbers are unsigned and little-endian": the last byte counts most.
+pub fn little(bytes: &[u8]) -> u64 {
+    let mut value = 0;
+    for byte in bytes.iter().rev() {
+        value = value * 256 + *byte as u64;
+    }
+    value
+}
+
+fn u16_at(body: &[u8], at: usize) -> u16 {
+    little(&body[at..at + 2]) as u16
+}
+
+fn u32_at(body: &[u8], at: usize) -> u32 {
+    little(&body[at..at + 4]) as u32
+}
+
+fn u64_at(body: &[u8], at: usize) -> u64 {
+    little(&body[at..at + 8])
+}
+
+fn bytes_at<const N: usize>(body: &[u8], at: usize) -> [u8; N] {
+    let mut bytes = [0; N];
+    bytes.copy_from_slice(&body[at..at + N]);
+    bytes
+}
+
+/// The length that belongs to a type, or none if there is no such type.
+pub fn length_of_type(kind: u8) -> Option<usize> {
+    for (known, length) in TYPES_AND_LENGTHS {
+        if known == kind {
+            return Some(length);
+        }
+    }
+    None
+}
+
+pub fn price_in_range(price: u64) -> bool {
+    (1..=HIGHEST_PRICE).contains(&price)
+}
+
+fn check(in_range: bool) -> Result<(), u8> {
+    if in_range {
+        Ok(())
+    } else {
+        Err(4)
+    }
+}
+
+fn check_price_and_size(price: u64, size: u32) -> Result<(), u8> {
+    check(price_in_range(price))?;
+    check(size >= 1)
+}
+
+/// A body: refused with 3 ("no such type, an empty body, or not that type's length"), else with 4
+/// ("a field out of range"), else the message that its type byte decides.
+pub fn read_body(body: &[u8]) -> Result<Message, u8> {
+    if body.is_empty() {
+        return Err(3);
+    }
+    let kind = body[0];
+    if length_of_type(kind) != Some(body.len()) {
+        return Err(3);
+    }
+    match kind {
+        SYSTEM_TIME => Ok(Message::SystemTime {
+            seconds: u32_at(body, 1),
+        }),
+        SYMBOL_UPDATE => {
+            let update = SymbolUpdate {
+                nanoseconds: u32_at(body, 1),
+                symbol: u32_at(body, 5),
+                ticker: bytes_at(body, 9),
+                reserved20: body[20],
+                test: body[21],
+                reserved22: body[22],
+                lot: u16_at(body, 23),
+                opening: bytes_at(body, 25),
+                closing: bytes_at(body, 33),
+                market: body[41],
+                body: bytes_at(body, 0),
+            };
+            check(update.test == b'Y' || update.test == b'N')?;
+            check(b"ABCHIJKLMNPQUVWXYZ".contains(&update.market))?;
+            Ok(Message::SymbolUpdate(update))
+        }
+        SYSTEM_STATE => Ok(Message::SystemState {
+            nanoseconds: u32_at(body, 1),
+            version: bytes_at(body, 5),
+            session: body[13],
+            status: body[14],
+        }),
+        TRADING_STATUS => Ok(Message::TradingStatus {
+            nanoseconds: u32_at(body, 1),
+            symbol: u32_at(body, 5),
+            trading: body[9],
+            market_state: body[10],
+            short_sale: body[11],
+        }),
+        SYMBOL_CLEAR => Ok(Message::SymbolClear {
+            nanoseconds: u32_at(body, 1),
+            symbol: u32_at(body, 5),
+        }),
+        ADD_ORDER => {
+            let side = match body[17] {
+                b'B' => Side::Buy,
+                b'S' => Side::Sell,
+                _ => return Err(4),
+            };
+            let price = u64_at(body, 18);
+            let size = u32_at(body, 26);
+            check_price_and_size(price, size)?;
+            Ok(Message::AddOrder {
+                nanoseconds: u32_at(body, 1),
+                symbol: u32_at(body, 5),
+                order: u64_at(body, 9),
+                side,
+                price,
+                size,
+                attributable: bytes_at(body, 30),
+            })
+        }
+        MODIFY_ORDER => {
+            let price = u64_at(body, 17);
+            let size = u32_at(body, 25);
+            let flags = body[29];
+            check_price_and_size(price, size)?;
+            // "in flags, bit 0 tells the position and bits 1 to 7 are zero"
+            check(flags == 0 || flags == 1)?;
+            Ok(Message::ModifyOrder {
+                nanoseconds: u32_at(body, 1),
+                symbol: u32_at(body, 5),
+                order: u64_at(body, 9),
+                price,
+                size,
+                flags,
+            })
+        }
+        DELETE_ORDER => Ok(Message::DeleteOrder {
+            nanoseconds: u32_at(body, 1),
+            symbol: u32_at(body, 5),
+            order: u64_at(body, 9),
+        }),
+        ORDER_EXECUTION => {
+            let price = u64_at(body, 25);
+            let size = u32_at(body, 33);
+            check_price_and_size(price, size)?;
+            Ok(Message::OrderExecution {
+                nanoseconds: u32_at(body, 1),
+                symbol: u32_at(body, 5),
+                order: u64_at(body, 9),
+                trade: u64_at(body, 17),
+                price,
+                size,
+                flags: body[37],
+            })
+        }
+        TRADE => {
+            let price = u64_at(body, 18);
+            let size = u32_at(body, 26);
+            check_price_and_size(price, size)?;
+            Ok(Message::Trade {
+                nanoseconds: u32_at(body, 1),
+                symbol: u32_at(body, 5),
+                trade: u64_at(body, 9),
+                correction: body[17],
+                price,
+                size,
+                flags: body[30],
+            })
+        }
+        TRADE_CANCEL => {
+            let price = u64_at(body, 18);
+            let size = u32_at(body, 26);
+            check_price_and_size(price, size)?;
+            Ok(Message::TradeCancel {
+                nanoseconds: u32_at(body, 1),
+                symbol: u32_at(body, 5),
+                trade: u64_at(body, 9),
+                correction: body[17],
+                price,
+                size,
+            })
+        }
+        _ => Err(3),
+    }
+}
+
+/// A packet: refused with 1, else by the first fault of its records "from the front, each by 2,
+/// 5, 3, 4", else its records in order.
+pub fn read_packet(packet: &[u8]) -> Result<Vec<Record<'_>>, u8> {
+    if packet.is_empty() || packet.len() > MOST_PACKET_BYTES {
+        return Err(1);
+    }
+    let mut records = Vec::new();
+    let mut at = 0;
+    while at < packet.len() {
+        // 2: "fewer than 10 header bytes left, or the body runs past the end"
+        let left = packet.len() - at;
+        if left < HEADER_BYTES {
+            return Err(2);
+        }
+        let number = little(&packet[at..at + 8]);
+        let length = little(&packet[at + 8..at + 10]) as usize;
+        if length > left - HEADER_BYTES {
+            return Err(2);
+        }
+        // 5: "sequence number 0 or above 10^12"
+        if number == 0 || number > LAST_NUMBER {
+            return Err(5);
+        }
+        // 3 and 4
+        let body = &packet[at + HEADER_BYTES..at + HEADER_BYTES + length];
+        let message = read_body(body)?;
+        records.push(Record {
+            number,
+            body,
+            message,
+        });
+        at += HEADER_BYTES + length;
+    }
+    Ok(records)
+}
+
+#[cfg(test)]
+mod tests {
+    use super::*;
+
+    #[test]
+    fn little_at_all_widths() {
+        assert_eq!(little(&[]), 0);
+        assert_eq!(little(&[255]), 255);
+        assert_eq!(little(&[1, 2]), 513);
+        assert_eq!(little(&[0, 0, 0, 1]), 16_777_216);
+        assert_eq!(
+            little(&[1, 0, 0, 0, 0, 0, 0, 128]),
+            9_223_372_036_854_775_809
+        );
+        assert_eq!(little(&[255; 8]), u64::MAX);
+    }
+
+    #[test]
+    fn lengths_are_the_sums_of_003() {
+        let sums = [
+            (49, 1 + 4),
+            (1, 1 + 4 + 4 + 11 + 1 + 1 + 1 + 2 + 8 + 8 + 1),
+            (83, 1 + 4 + 8 + 1 + 1),
+            (4, 1 + 4 + 4 + 1 + 1 + 1),
+            (5, 1 + 4 + 4),
+            (20, 1 + 4 + 4 + 8 + 1 + 8 + 4 + 4),
+            (21, 1 + 4 + 4 + 8 + 8 + 4 + 1),
+            (23, 1 + 4 + 4 + 8),
+            (24, 1 + 4 + 4 + 8 + 8 + 8 + 4 + 1),
+            (10, 1 + 4 + 4 + 8 + 1 + 8 + 4 + 1),
+            (11, 1 + 4 + 4 + 8 + 1 + 8 + 4),
+        ];
+        assert_eq!(TYPES_AND_LENGTHS, sums);
+    }
+}

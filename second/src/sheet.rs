@@ -1,0 +1,153 @@
+//! The sheet, and recordings played into a receiver at full capacities.
+
+use crate::packet::{little, Side};
+use crate::receiver::{receive, start, State, SHELF_BYTES};
+use crate::tables::*;
+use crate::views::{ladder, live_orders, spread, used_entries};
+
+/// "up to ten levels a side"
+pub const SHEET_LEVELS: usize = 10;
+
+/// The sheet's bytes: "key=value lines in a fixed order, each ended by one line feed".
+pub fn sheet(
+    state: State,
+    orders: &[u64],
+    symbols: &[u8],
+    bad: u64,
+    whole: bool,
+) -> Result<Vec<u8>, u8> {
+    let order_count = live_orders(orders)?;
+    let symbol_count = used_entries(symbols)?;
+    let mut text = Vec::new();
+    line(&mut text, "recording", if whole { "whole" } else { "cut" });
+    line(&mut text, "bad", &bad.to_string());
+    line(&mut text, "next", &state.next.to_string());
+    line(&mut text, "stop", &state.stop.to_string());
+    line(&mut text, "second", &state.second.to_string());
+    line(&mut text, "symbols", &symbol_count.to_string());
+    line(&mut text, "orders", &order_count.to_string());
+    // "symbols in table order"
+    for place in 0..entries_in(symbols) {
+        let entry = entry(symbols, place);
+        if entry_is_used(entry) {
+            symbol_block(&mut text, entry, orders, symbols)?;
+        }
+    }
+    Ok(text)
+}
+
+fn symbol_block(
+    text: &mut Vec<u8>,
+    entry: &[u8],
+    orders: &[u64],
+    symbols: &[u8],
+) -> Result<(), u8> {
+    let symbol = symbol_of_entry(entry);
+    line(text, "symbol", &symbol.to_string());
+    line(text, "ticker", &shown_ticker(&entry[9..20]));
+    line(text, "lot", &little(&entry[23..25]).to_string());
+    match spread(orders, symbols, symbol)? {
+        Some(spread) => line(text, "spread", &spread.to_string()),
+        None => line(text, "spread", "none"),
+    }
+    // "bids first"
+    for (key, side) in [("bid", Side::Buy), ("ask", Side::Sell)] {
+        let mut run = [0; 3 * SHEET_LEVELS];
+        let levels = ladder(orders, symbols, symbol, side, &mut run)? as usize;
+        for place in 0..levels.min(SHEET_LEVELS) {
+            let level = &run[place * 3..place * 3 + 3];
+            line(
+                text,
+                key,
+                &format!("{} {} {}", level[0], level[1], level[2]),
+            );
+        }
+    }
+    Ok(())
+}
+
+fn line(text: &mut Vec<u8>, key: &str, value: &str) {
+    text.extend_from_slice(key.as_bytes());
+    text.push(b'=');
+    text.extend_from_slice(value.as_bytes());
+    text.push(b'\n');
+}
+
+/// "trailing spaces of tickers dropped, other bytes outside 32 to 126 shown as a full stop"
+fn shown_ticker(ticker: &[u8]) -> String {
+    let mut end = ticker.len();
+    while end > 0 && ticker[end - 1] == b' ' {
+        end -= 1;
+    }
+    let mut shown = String::new();
+    for byte in &ticker[..end] {
+        if (32..=126).contains(byte) {
+            shown.push(*byte as char);
+        } else {
+            shown.push('.');
+        }
+    }
+    shown
+}
+
+/// A receiver with a recording played into it.
+#[derive(Clone, Debug, PartialEq, Eq)]
+pub struct Played {
+    pub state: State,
+    pub orders: Vec<u64>,
+    pub symbols: Vec<u8>,
+    pub shelf: Vec<u8>,
+    pub bad: u64,
+    pub whole: bool,
+}
+
+/// "packets each behind a 2-byte length. It uses full capacities. A refused packet is counted as
+/// bad and passed over; a recording that ends inside a length or packet gives `recording=cut`,
+/// and that last piece is dropped, not bad."
+pub fn play(recording: &[u8]) -> Result<Played, u8> {
+    let mut orders = vec![0; MOST_ROWS * ROW_NUMBERS];
+    let mut symbols = vec![0; MOST_ENTRIES * ENTRY_BYTES];
+    let mut shelf = vec![0; SHELF_BYTES];
+    let mut state = start(&mut orders, &mut symbols, &mut shelf)?;
+    let mut bad = 0;
+    let mut whole = true;
+    let mut at = 0;
+    while at < recording.len() {
+        let left = recording.len() - at;
+        if left < 2 {
+            whole = false;
+            break;
+        }
+        let length = little(&recording[at..at + 2]) as usize;
+        if length > left - 2 {
+            whole = false;
+            break;
+        }
+        let packet = &recording[at + 2..at + 2 + length];
+        match receive(state, &mut orders, &mut symbols, &mut shelf, packet) {
+            Ok((after, _)) => state = after,
+            Err(_) => bad += 1,
+        }
+        at += 2 + length;
+    }
+    Ok(Played {
+        state,
+        orders,
+        symbols,
+        shelf,
+        bad,
+        whole,
+    })
+}
+
+/// The sheet of a recording.
+pub fn sheet_of_recording(recording: &[u8]) -> Result<Vec<u8>, u8> {
+    let played = play(recording)?;
+    sheet(
+        played.state,
+        &played.orders,
+        &played.symbols,
+        played.bad,
+        played.whole,
+    )
+}

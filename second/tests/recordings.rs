@@ -1,0 +1,271 @@
+//! The sheet's bytes, recordings whole and cut, and the examples.
+
+mod common;
+use common::*;
+use second::examples::*;
+use second::morning::*;
+use second::packet::{read_packet, LAST_NUMBER};
+use second::receiver::{receive, start, SHELF_BYTES};
+use second::sheet::*;
+use std::path::PathBuf;
+
+fn sheet_text(recording: &[u8]) -> String {
+    String::from_utf8(sheet_of_recording(recording).unwrap()).unwrap()
+}
+
+const EMPTY: &str = "recording=whole\nbad=0\nnext=1\nstop=0\nsecond=0\nsymbols=0\norders=0\n";
+
+fn empty_but(line: &str, instead: &str) -> String {
+    assert!(EMPTY.contains(line));
+    EMPTY.replace(line, instead)
+}
+
+#[test]
+fn an_empty_recording_is_whole() {
+    assert_eq!(sheet_text(&[]), EMPTY);
+}
+
+#[test]
+fn cut_inside_a_length_or_a_packet() {
+    let cut = empty_but("recording=whole", "recording=cut");
+    let recording = morning_recording();
+    for length in 1..recording.len() {
+        assert_eq!(sheet_text(&recording[..length]), cut, "length {length}");
+    }
+    assert_eq!(sheet_text(&recording), MORNING_SHEET);
+    // The last piece is dropped, not bad, and what came before it counts.
+    for piece in [
+        vec![9],
+        vec![15, 0],
+        vec![15, 0, 1],
+        vec![221, 5, 0],
+        vec![255, 255],
+    ] {
+        let longer = [recording.clone(), piece].concat();
+        assert_eq!(
+            sheet_text(&longer),
+            MORNING_SHEET.replace("recording=whole", "recording=cut")
+        );
+    }
+}
+
+#[test]
+fn lengths_0_and_above_1500_are_one_bad_packet_each() {
+    assert_eq!(sheet_text(&[0, 0]), empty_but("bad=0", "bad=1"));
+    assert_eq!(sheet_text(&[0, 0, 0, 0]), empty_but("bad=0", "bad=2"));
+    for length in [1_501, 2_000, 65_535] {
+        // What lies in a packet that is too long is no packet, however good it looks.
+        let mut long = morning_recording();
+        long.resize(length, 0);
+        let recording = recording(&[long.clone()]);
+        assert_eq!(sheet_text(&recording), empty_but("bad=0", "bad=1"));
+        let cut = &recording[..recording.len() - 1];
+        assert_eq!(
+            sheet_text(cut),
+            empty_but("recording=whole", "recording=cut")
+        );
+        let followed = [recording, morning_recording()].concat();
+        assert_eq!(
+            sheet_text(&followed),
+            MORNING_SHEET.replace("bad=0", "bad=1")
+        );
+    }
+    // 1,500 is good.
+    let records: Vec<_> = (1..=100).map(|n| (n, time(n as u32))).collect();
+    let text = sheet_text(&recording(&[packet(&records)]));
+    assert_eq!(
+        text,
+        EMPTY
+            .replace("next=1", "next=101")
+            .replace("second=0", "second=100")
+    );
+}
+
+#[test]
+fn a_refused_packet_is_passed_over() {
+    let list = example_list();
+    let mut packets = Vec::new();
+    for refusal in 1..=5 {
+        packets.push(bad_packet(refusal as u64, &list, refusal));
+        packets.push(packet(&numbered(&list, refusal as usize, 1)));
+    }
+    let text = sheet_text(&recording(&packets));
+    assert_eq!(text, MORNING_SHEET.replace("bad=0", "bad=5"));
+}
+
+#[test]
+fn the_stop_is_that_of_the_last_accepted_packet() {
+    let mut packets = vec![packet(&numbered(&example_list(), 1, 5))];
+    packets.push(packet(&[(6, execute(7, 500, 101))]));
+    let stopped = MORNING_SHEET.replace("stop=0", "stop=24");
+    assert_eq!(sheet_text(&recording(&packets)), stopped);
+    packets.push(vec![0; 9]);
+    let text = sheet_text(&recording(&packets));
+    assert_eq!(text, stopped.replace("bad=0", "bad=1"));
+    packets.push(packet(&[(1, time(1))]));
+    let text = sheet_text(&recording(&packets));
+    assert_eq!(text, stopped.replace("bad=0", "bad=1"));
+}
+
+#[test]
+fn tickers() {
+    for (ticker, shown) in [
+        (b"ABC        ", "ABC"),
+        (b"A B C      ", "A B C"),
+        (b"  ABC      ", "  ABC"),
+        (b"           ", ""),
+        (b"ABCDEFGHIJK", "ABCDEFGHIJK"),
+        (b"ABC\0       ", "ABC."),
+        (b"ABC       \0", "ABC       ."),
+        (b"ABC   \0    ", "ABC   ."),
+        (b"\0\x01\x1f !~\x7f\x80\xff\n\t", "... !~....."),
+        (b"a=b\nc=d    ", "a=b.c=d"),
+        (b"\xa0\xa0\xa0        ", "..."),
+    ] {
+        let body = symbol_update(0, 7, ticker, 65_535);
+        let text = sheet_text(&recording(&[packet(&[(1, body)])]));
+        let wanted = format!(
+            "{}symbol=7\nticker={shown}\nlot=65535\nspread=none\n",
+            EMPTY
+                .replace("next=1", "next=2")
+                .replace("symbols=0", "symbols=1")
+        );
+        assert_eq!(text, wanted);
+    }
+}
+
+#[test]
+fn ten_levels_a_side_and_symbols_in_table_order() {
+    let mut packets = vec![packet(&[(1, update(9)), (2, update(3)), (3, update(5))])];
+    let mut number = 3;
+    for level in 1..=12 {
+        number += 1;
+        packets.push(packet(&[(number, buy(3, level, 100 + level, 1))]));
+        number += 1;
+        packets.push(packet(&[(number, sell(9, 50 + level, 200 + level, 2))]));
+    }
+    let mut wanted = "recording=whole\nbad=0\nnext=28\nstop=0\nsecond=0\nsymbols=3\norders=24\n\
+                      symbol=9\nticker=ABC\nlot=100\nspread=none\n"
+        .to_string();
+    for price in 201..=210 {
+        wanted.push_str(&format!("ask={price} 2 1\n"));
+    }
+    wanted.push_str("symbol=3\nticker=ABC\nlot=100\nspread=none\n");
+    for price in (103..=112).rev() {
+        wanted.push_str(&format!("bid={price} 1 1\n"));
+    }
+    wanted.push_str("symbol=5\nticker=ABC\nlot=100\nspread=none\n");
+    assert_eq!(sheet_text(&recording(&packets)), wanted);
+}
+
+#[test]
+fn sheets_of_altered_receivers() {
+    let mut desk = Desk::example();
+    // Two used entries of one symbol each print their block; orders of an unknown symbol count.
+    let entry = desk.symbols[..42].to_vec();
+    desk.symbols[84..126].copy_from_slice(&entry);
+    desk.symbols[42] = 9;
+    desk.orders[15..20].copy_from_slice(&[1, 99, 1, 1, 1]);
+    desk.state.next = LAST_NUMBER + 1;
+    desk.state.stop = 27;
+    let text = sheet(desk.state, &desk.orders, &desk.symbols, u64::MAX, false).unwrap();
+    let block = "symbol=7\nticker=ABC\nlot=100\nspread=20000\nbid=10000000 150 2\n\
+                 ask=10020000 200 1\n";
+    let wanted = format!(
+        "recording=cut\nbad=18446744073709551615\nnext=1000000000001\nstop=27\nsecond=34200\n\
+         symbols=2\norders=4\n{block}{block}"
+    );
+    assert_eq!(String::from_utf8(text).unwrap(), wanted);
+    assert_eq!(sheet(desk.state, &[], &desk.symbols, 0, true), Err(6));
+    assert_eq!(sheet(desk.state, &desk.orders, &[1; 43], 0, true), Err(6));
+}
+
+fn example_file(name: &str) -> Vec<u8> {
+    let folder = PathBuf::from(env!("CARGO_MANIFEST_DIR")).join("../examples");
+    std::fs::read(folder.join(name)).expect(name)
+}
+
+#[test]
+fn the_example_files_are_those_that_make_examples_writes() {
+    assert!(example_file("morning.rec") == morning_recording());
+    assert!(example_file("morning.sheet") == MORNING_SHEET.as_bytes());
+    let long = long_recording();
+    assert!(long.len() < 200_000);
+    assert!(example_file("long.rec") == long);
+    assert!(example_file("long.sheet") == sheet_of_recording(&long).unwrap());
+}
+
+/// The long recording has what it is there for.
+#[test]
+fn the_long_recording_shows_everything() {
+    let list = long_list();
+    let mut kinds: Vec<u8> = list.iter().map(|body| body[0]).collect();
+    kinds.sort();
+    kinds.dedup();
+    assert_eq!(kinds.len(), 11);
+
+    let mut orders = vec![0; 8_000];
+    let mut symbols = vec![0; 42_000];
+    let mut shelf = vec![0; SHELF_BYTES];
+    let mut state = start(&mut orders, &mut symbols, &mut shelf).unwrap();
+    let mut answers = [0; 5];
+    let mut refused = [0; 7];
+    let mut waited = 0;
+    for packet in long_packets() {
+        match receive(state, &mut orders, &mut symbols, &mut shelf, &packet) {
+            Err(number) => refused[number as usize] += 1,
+            Ok((after, answer)) => {
+                // No differing copy is ever taken, so the book is the list's.
+                for record in read_packet(&packet).unwrap() {
+                    let own = &list[record.number as usize - 1];
+                    assert!(answer.differing > 0 || own == record.body);
+                }
+                for (sum, count) in answers.iter_mut().zip(counts(&answer)) {
+                    *sum += count;
+                }
+                waited += u64::from(answer.highest > answer.next);
+                state = after;
+            }
+        }
+    }
+    assert!(answers.iter().all(|count| *count > 10), "{answers:?}");
+    assert!(refused[1..=5].iter().all(|count| *count > 3), "{refused:?}");
+    assert!(waited > 50);
+    assert_eq!((state.stop, state.next), (24, list.len() as u64 - 20));
+
+    let text = sheet_text(&long_recording());
+    assert_eq!(text.matches("spread=-").count(), 1);
+    assert_eq!(text.matches("spread=none").count(), 3);
+    for ticker in [
+        "BRK B",
+        "NUL.",
+        "PAD      .",
+        "....~!",
+        "",
+        " LEAD",
+        "A.B.C",
+    ] {
+        assert!(text.contains(&format!("ticker={ticker}\n")), "{ticker}");
+    }
+}
+
+/// Seeded recordings: every one gives a sheet, and together they show every rule and both words.
+#[test]
+fn seeded_recordings() {
+    let mut stops = std::collections::BTreeSet::new();
+    let mut cuts = 0;
+    for seed in seeds(100) {
+        let recording = drawn_recording(seed);
+        let played = play(&recording).unwrap();
+        stops.insert(played.state.stop);
+        cuts += u64::from(!played.whole);
+        let text = sheet_text(&recording);
+        assert!(text.ends_with('\n') && !text.contains("\n\n"));
+    }
+    if seeds(2).len() == 2 {
+        for rule in [0, 20, 21, 22, 23, 24, 25, 26] {
+            assert!(stops.contains(&rule), "{rule}");
+        }
+        assert!(cuts > 10);
+    }
+}

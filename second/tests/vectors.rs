@@ -1,0 +1,226 @@
+//! The packets of tools/vectors.py, and the text that it says a right reader prints.
+
+use second::packet::*;
+use std::path::PathBuf;
+use std::process::Command;
+
+/// The output of `python3 tools/vectors.py WORD`.
+fn vectors(word: &str) -> Vec<u8> {
+    let script = PathBuf::from(env!("CARGO_MANIFEST_DIR")).join("../tools/vectors.py");
+    let output = Command::new("python3")
+        .arg(script)
+        .arg(word)
+        .output()
+        .expect("python3 is there");
+    assert!(output.status.success());
+    output.stdout
+}
+
+/// The fields of a message as the vectors print them.
+fn fields(message: &Message) -> Vec<u64> {
+    let spell = |bytes: &[u8]| bytes.iter().map(|byte| *byte as u64).collect::<Vec<u64>>();
+    match *message {
+        Message::SystemTime { seconds } => vec![49, seconds as u64],
+        Message::SymbolUpdate(update) => [
+            vec![1, update.symbol as u64],
+            spell(&update.ticker),
+            vec![update.lot as u64],
+            spell(&update.opening),
+            spell(&update.closing),
+            vec![update.market as u64],
+        ]
+        .concat(),
+        Message::SystemState {
+            nanoseconds,
+            version,
+            session,
+            status,
+        } => [
+            vec![83, nanoseconds as u64],
+            spell(&version),
+            vec![session as u64, status as u64],
+        ]
+        .concat(),
+        Message::TradingStatus {
+            nanoseconds,
+            symbol,
+            trading,
+            market_state,
+            short_sale,
+        } => vec![
+            4,
+            nanoseconds as u64,
+            symbol as u64,
+            trading as u64,
+            market_state as u64,
+            short_sale as u64,
+        ],
+        Message::SymbolClear {
+            nanoseconds,
+            symbol,
+        } => vec![5, nanoseconds as u64, symbol as u64],
+        Message::AddOrder {
+            nanoseconds,
+            symbol,
+            order,
+            side,
+            price,
+            size,
+            attributable,
+        } => vec![
+            20,
+            nanoseconds as u64,
+            symbol as u64,
+            order,
+            match side {
+                Side::Buy => 66,
+                Side::Sell => 83,
+            },
+            price,
+            size as u64,
+            little(&attributable),
+        ],
+        Message::ModifyOrder {
+            nanoseconds,
+            symbol,
+            order,
+            price,
+            size,
+            flags,
+        } => vec![
+            21,
+            nanoseconds as u64,
+            symbol as u64,
+            order,
+            price,
+            size as u64,
+            flags as u64,
+        ],
+        Message::DeleteOrder {
+            nanoseconds,
+            symbol,
+            order,
+        } => vec![23, nanoseconds as u64, symbol as u64, order],
+        Message::OrderExecution {
+            nanoseconds,
+            symbol,
+            order,
+            trade,
+            price,
+            size,
+            flags,
+        } => vec![
+            24,
+            nanoseconds as u64,
+            symbol as u64,
+            order,
+            trade,
+            price,
+            size as u64,
+            flags as u64,
+        ],
+        Message::Trade {
+            nanoseconds,
+            symbol,
+            trade,
+            correction,
+            price,
+            size,
+            flags,
+        } => vec![
+            10,
+            nanoseconds as u64,
+            symbol as u64,
+            trade,
+            correction as u64,
+            price,
+            size as u64,
+            flags as u64,
+        ],
+        Message::TradeCancel {
+            nanoseconds,
+            symbol,
+            trade,
+            correction,
+            price,
+            size,
+        } => vec![
+            11,
+            nanoseconds as u64,
+            symbol as u64,
+            trade,
+            correction as u64,
+            price,
+            size as u64,
+        ],
+    }
+}
+
+fn printed(packet: &[u8]) -> String {
+    match read_packet(packet) {
+        Err(number) => format!("refused {number}\n"),
+        Ok(records) => {
+            let mut text = format!("records {}\n", records.len());
+            for record in records {
+                let mut words = vec![record.number.to_string()];
+                words.extend(
+                    fields(&record.message)
+                        .iter()
+                        .map(|field| field.to_string()),
+                );
+                text.push_str(&words.join(" "));
+                text.push('\n');
+            }
+            text
+        }
+    }
+}
+
+#[test]
+fn the_reader_prints_what_the_vectors_say() {
+    let packets = vectors("stdin");
+    let wanted = String::from_utf8(vectors("stdout")).unwrap();
+    let mut text = String::new();
+    let mut count = 0;
+    let mut at = 0;
+    while at < packets.len() {
+        let length = little(&packets[at..at + 2]) as usize;
+        text.push_str(&printed(&packets[at + 2..at + 2 + length]));
+        at += 2 + length;
+        count += 1;
+    }
+    assert_eq!(at, packets.len());
+    assert!(count > 2_000, "{count} packets");
+    for (place, (line, want)) in text.lines().zip(wanted.lines()).enumerate() {
+        assert_eq!(line, want, "line {}", place + 1);
+    }
+    assert_eq!(text, wanted);
+}
+
+/// A Symbol Update keeps the bytes that the vectors do not print.
+#[test]
+fn a_symbol_update_keeps_all_42_bytes() {
+    let body: Vec<u8> = (0..42)
+        .map(|at| match at {
+            0 => 1,
+            21 => b'Y',
+            41 => b'Z',
+            _ => 100 + at,
+        })
+        .collect();
+    match read_body(&body) {
+        Ok(Message::SymbolUpdate(update)) => {
+            assert_eq!(update.body[..], body[..]);
+            assert_eq!(update.nanoseconds.to_le_bytes(), body[1..5]);
+            assert_eq!(update.symbol.to_le_bytes(), body[5..9]);
+            assert_eq!(update.ticker, body[9..20]);
+            assert_eq!((update.reserved20, update.test), (120, b'Y'));
+            assert_eq!(update.reserved22, 122);
+            assert_eq!(update.lot.to_le_bytes(), body[23..25]);
+            assert_eq!(update.opening, body[25..33]);
+            assert_eq!(update.closing, body[33..41]);
+            assert_eq!(update.market, b'Z');
+        }
+        other => panic!("{other:?}"),
+    }
+}
