@@ -10,16 +10,20 @@ use lib.ListN.{length, replicate, length-replicate}
 use lib.Dec.{eqb, leb}
 use borrow.Author.Tests.{le-leb}
 use Rattle.facts.specs.Pick.{pick, both}
-use Rattle.facts.proofs.Picks.{pick-cases, both-true}
+use Rattle.facts.proofs.Picks.{pick-cases, pick-ind, both-true}
+use Rattle.fields.specs.Fields.{refusal}
+use Rattle.body.specs.Read.{goodBody}
+use Rattle.receiver.specs.declared.Received.{Received}
 use Rattle.packet.specs.Record.{Rec}
 use Rattle.packet.specs.Packet.{Framing, bad, records, framing}
 use Rattle.book.specs.Book.{Book, applied}
 use Rattle.book.proofs.Steps.{lengths-kept}
 use Rattle.arbitration.specs.Slots.{emptySlot, slotFor, slotBody}
 use Rattle.arbitration.specs.Engine.{Applied, ok, broke}
-use Rattle.arbitration.specs.Demand3.{Every, Started}
-use Rattle.arbitration.specs.Receive.{recordsOf, drain, shelved, turned, after, run, worked, receives}
-use Rattle.arbitration.proofs.Turns.{Went, drain-keeps}
+use Rattle.arbitration.specs.Demand3.{Every, Started, WellFormed, Copies}
+use Rattle.arbitration.specs.Receive.{recordsOf, drain, shelved, turned, after, run, worked, receives, told, stop}
+use Rattle.arbitration.proofs.Turns.{Went, drain-keeps, try-empty, stop-nothing}
+use Rattle.arbitration.proofs.Halves.{agree}
 use Rattle.arbitration.proofs.Answers.{after-cases, after-next, run-keeps}
 use Rattle.arbitration.proofs.Range.{Bounded, framing-bounded, Below, after-below, start-below}
 use Rattle.arbitration.proofs.Packets.{framing-numbered, halves}
@@ -29,7 +33,7 @@ use Rattle.shelf.proofs.Laws.{good-size, zeros-empty}
 use Rattle.rows.specs.Rows.{goodRows}
 use Rattle.symbols.specs.Entries.{goodEntries}
 use Rattle.receiver.specs.Rules.{appliedTo, bookEngine}
-use Rattle.receiver.specs.Lent.{Rx, rx, rxOf, Lent, lent, lentOf, fresh, sizesOk, nextOk, framed, received}
+use Rattle.receiver.specs.Lent.{Rx, rxOf, Lent, outcome, fresh, sizesOk, nextOk, framed, received}
 use Rattle.receiver.specs.Play.{plays, packetsOf, zeroBook, recordsPlayed, Demand}
 use Rattle.receiver.proofs.Accounts.{judged-packet}
 
@@ -102,6 +106,20 @@ module _ (o s h : ℕ) where
         go (bad q) = refl
         go (records cs) = refl
 
+    -- an accepted packet's stop is that of the state it leaves; a refused one leaves both
+    received-stop : (p : List ℕ) (k : Lent) → k .state .stop ≡ stop shelfStore bookEngine (rxOf k) → received k p .after .state .stop ≡ stop shelfStore bookEngine (rxOf (received k p .after))
+    unfolding received framed told
+    received-stop p k e = pick-ind (λ x. x .after .state .stop ≡ stop shelfStore bookEngine (rxOf (x .after))) (both (sizesOk (length (k .orders)) (length (k .symbols)) (length (k .shelf))) (nextOk (k .state .next))) (framed (framing p) k) (outcome (Received.Refused (refusal 6)) k) (λ _. go (framing p)) (λ _. e)
+      where
+        go : (x : Framing) → framed x k .after .state .stop ≡ stop shelfStore bookEngine (rxOf (framed x k .after))
+        go (bad q) = e
+        go (records cs) = refl
+
+    plays-stop : (ps : List (List ℕ)) (k : Lent) → k .state .stop ≡ stop shelfStore bookEngine (rxOf k) → plays ps k .state .stop ≡ stop shelfStore bookEngine (rxOf (plays ps k))
+    unfolding plays
+    plays-stop [] k e = e
+    plays-stop (p ∷ ps) k e = plays-stop ps (received k p .after) (received-stop p k e)
+
     pub plays-receives : (ps : List (List ℕ)) (k : Lent) → Fit (rxOf k) → rxOf (plays ps k) ≡ receives shelfStore bookEngine framing ps (rxOf k)
     unfolding plays receives
     plays-receives [] k f = refl
@@ -139,3 +157,13 @@ module _ (o s h : ℕ) where
           first = λ ms w c. x .first ms (record { well-formed = w; started = fresh-started; copies = c });
           second = λ ms j w c a. x .second ms j (record { well-formed = w; started = fresh-started; copies = c }) a;
         }
+
+    -- and the stop that it reports is the one that demand 3 names
+    pub stop-reported : (t : List ℕ) → plays (packetsOf t) (fresh o s h) .state .stop ≡ stop shelfStore bookEngine (rxOf (plays (packetsOf t) (fresh o s h)))
+    stop-reported t =
+        plays-stop (packetsOf t) (fresh o s h)
+        (sym (stop-nothing shelfStore bookEngine (rxOf (fresh o s h)) (try-empty shelfStore bookEngine (rxOf (fresh o s h)) (ap (λ x. x .number) (zeros-empty h (1 % 64))))))
+
+-- "Two such receivers on one list, with equal capacities and equal k, agree in these three"
+pub two-receivers : (o s h h′ : ℕ) (t t′ : List ℕ) (r r′ : Rx) → Demand o s h t r → Demand o s h′ t′ r′ → (ms : List (List ℕ)) → WellFormed goodBody ms → Copies ms (recordsPlayed t) → Copies ms (recordsPlayed t′) → r .next ≡ r′ .next → r .book ≡ r′ .book
+two-receivers o s h h′ t t′ r r′ d d′ ms w c c′ e = agree shelfStore bookEngine ms 0 (zeroBook o s) r r′ (d .first ms w c) (d′ .first ms w c′) e

@@ -13,7 +13,10 @@ use Rattle.receiver.specs.Lent.{Lent, lent, rxOf, sizesOk, fresh, Begun,
 use Rattle.receiver.specs.Play.{packetsOf, plays, played, Demand, Demanded}
 use Rattle.receiver.specs.declared.State.{State}
 use Rattle.receiver.specs.declared.Started.{Started}
-use Rattle.receiver.proofs.Fits.{demanded}
+use Rattle.arbitration.specs.Receive.{stop}
+use Rattle.shelf.specs.Store.{shelfStore}
+use Rattle.receiver.specs.Rules.{bookEngine}
+use Rattle.receiver.proofs.Fits.{demanded, stop-reported}
 
 module _ (o s h t : List ℕ) (x : Started) (o′ s′ h′ : List ℕ) (e : begun x o′ s′ h′ ≡ started o s h) where
   abbrev fit : Bool
@@ -64,5 +67,8 @@ module _ (o s h t : List ℕ) (x : Started) (o′ s′ h′ : List ℕ) (e : beg
     pub played-demand : Demanded (length o) (length s) (length h) t (begun (Started.Ready r) o″ s″ h″)
     played-demand r′ a =
         let same : r ≡ r′ = cc in
-        let d : Demand (length o) (length s) (length h) t (rxOf (lent o″ s″ h″ r)) = subst (λ (k : Lent). Demand (length o) (length s) (length h) t (rxOf k)) (sym all-played) (demanded (length o) (length s) (length h) (start-ready st q .0) t) in
-        subst (λ (y : State). Demand (length o) (length s) (length h) t (rxOf (lent o″ s″ h″ y))) same d
+        let fits = start-ready st q .0 in
+        let end : plays (packetsOf t) began ≡ lent o″ s″ h″ r′ = sym all-played ∙ ap (lent o″ s″ h″) same in (
+          subst (λ (k : Lent). Demand (length o) (length s) (length h) t (rxOf k)) end (demanded (length o) (length s) (length h) fits t),
+          subst (λ (k : Lent). k .state .stop ≡ stop shelfStore bookEngine (rxOf k)) end (stop-reported (length o) (length s) (length h) fits t),
+        )

@@ -12,7 +12,7 @@ use Rattle.body.specs.Read.{goodBody}
 use Rattle.packet.specs.Record.{Rec}
 use Rattle.packet.specs.Packet.{framing}
 use Rattle.book.specs.Book.{Book, book}
-use Rattle.arbitration.specs.Receive.{accepted}
+use Rattle.arbitration.specs.Receive.{accepted, stop}
 use Rattle.arbitration.specs.Demand3.{WellFormed, Copies, Answered, Made, Named}
 use Rattle.shelf.specs.Store.{shelfStore}
 use Rattle.receiver.specs.Rules.{bookEngine}
@@ -62,6 +62,9 @@ pub record Demand (o s h : ℕ) (t : List ℕ) (r : Rx) : Type 0 where
       → ((n : ℕ) → 1 ≤ n → n ≤ j → Answered shelfStore bookEngine n (recordsPlayed t) (rxOf (fresh o s h)))
       → (j < r .next) ⊎ Named shelfStore bookEngine ms 0 (zeroBook o s) r
 
--- of what `play` answers: where it was not refused, the receiver that it leaves
+-- of what `play` answers: where it was not refused, demand 3 of the receiver that it leaves, which reports the stop that demand 3 names
 abbrev pub Demanded : ℕ → ℕ → ℕ → List ℕ → Begun → Type 0
-Demanded o s h t x = (q : State) → x .answer ≡ Started.Ready q → Demand o s h t (rx (q .next) (q .second) (x .orders) (x .symbols) (x .shelf))
+Demanded o s h t x =
+    (q : State) → x .answer ≡ Started.Ready q
+    → Demand o s h t (rx (q .next) (q .second) (x .orders) (x .symbols) (x .shelf))
+    × (q .stop ≡ stop shelfStore bookEngine (rx (q .next) (q .second) (x .orders) (x .symbols) (x .shelf)))

@@ -90,12 +90,13 @@ loop-less c = search needs
 
 -- src/lib.rt:371:5
 loop-again : tie.Need-loop-again Inv-loop μ-loop
-loop-again c =
-    (search needs,
-    search needs,
-    search needs,
-    omega arith,
-    played-next (c .before .before .before .before .before .before .before .before .before .before .before .before .before .before .before .before .before .before .before .before .args .t .now) (c .before .before .before .before .before .before .before .before .before .before .before .before .before .before .before .loop .at) (c .before .before .before .before .before .before .before .before .before .before .before .before .before .u16-at .result) (c .before .before .before .before .before .before .before .before .before .before .before .before .before .before .loop-test .taken) (c .before .before .before .before .before .before .before .before .before .before .before .before .before .u16-at .ensures) (lent (c .before .before .before .before .before .before .before .before .before .before .before .before .before .before .before .loop .orders) (c .before .before .before .before .before .before .before .before .before .before .before .before .before .before .before .loop .symbols) (c .before .before .before .before .before .before .before .before .before .before .before .before .before .before .before .loop .shelf) (c .before .before .before .before .before .before .before .before .before .before .before .before .before .before .before .loop .s)) (plays (packetsOf (c .before .before .before .before .before .before .before .before .before .before .before .before .before .before .before .before .before .before .before .before .args .t .now)) (lent (c .before .before .before .before .before .before .before .before .before .before .before .before .before .before .before .before .before .before .before .before .args .orders .now) (c .before .before .before .before .before .before .before .before .before .before .before .before .before .before .before .before .before .before .before .before .args .symbols .now) (c .before .before .before .before .before .before .before .before .before .before .before .before .before .before .before .before .before .before .before .before .args .shelf .now) (c .before .before .before .before .before .before .before .before .before .before .before .before .before .before .before .before .before .before .before .before .args .state))) (c .before .before .before .before .before .before .before .before .before .before .before .before .before .before .before .loop .inv .4) (c .before .before .before .before .before .before .before .before .before .before .before .before .if1 .left) (outcome (c .before .before .before .before .before .before .before .receive .result .answer) _) (c .before .before .before .before .before .before .before .receive .ensures) _ refl)
+loop-again c = (
+  search needs,
+  search needs,
+  search needs,
+  omega arith,
+  played-next (c .before .before .before .before .before .before .before .before .before .before .before .before .before .before .before .before .before .before .before .before .args .t .now) (c .before .before .before .before .before .before .before .before .before .before .before .before .before .before .before .loop .at) (c .before .before .before .before .before .before .before .before .before .before .before .before .before .u16-at .result) (c .before .before .before .before .before .before .before .before .before .before .before .before .before .before .loop-test .taken) (c .before .before .before .before .before .before .before .before .before .before .before .before .before .u16-at .ensures) (lent (c .before .before .before .before .before .before .before .before .before .before .before .before .before .before .before .loop .orders) (c .before .before .before .before .before .before .before .before .before .before .before .before .before .before .before .loop .symbols) (c .before .before .before .before .before .before .before .before .before .before .before .before .before .before .before .loop .shelf) (c .before .before .before .before .before .before .before .before .before .before .before .before .before .before .before .loop .s)) (plays (packetsOf (c .before .before .before .before .before .before .before .before .before .before .before .before .before .before .before .before .before .before .before .before .args .t .now)) (lent (c .before .before .before .before .before .before .before .before .before .before .before .before .before .before .before .before .before .before .before .before .args .orders .now) (c .before .before .before .before .before .before .before .before .before .before .before .before .before .before .before .before .before .before .before .before .args .symbols .now) (c .before .before .before .before .before .before .before .before .before .before .before .before .before .before .before .before .before .before .before .before .args .shelf .now) (c .before .before .before .before .before .before .before .before .before .before .before .before .before .before .before .before .before .before .before .before .args .state))) (c .before .before .before .before .before .before .before .before .before .before .before .before .before .before .before .loop .inv .4) (c .before .before .before .before .before .before .before .before .before .before .before .before .if1 .left) (outcome (c .before .before .before .before .before .before .before .receive .result .answer) _) (c .before .before .before .before .before .before .before .receive .ensures) _ refl,
+)
 
 -- src/lib.rt:360:1
 same-length-4 : tie.Need-same-length-4 Inv-loop μ-loop
