@@ -1,7 +1,7 @@
 -- What every message does alike: by the case of its body, what the orders' and the symbols' laws say of the one table that it concerns.
 -- Assumes nothing.
 use mathlib.Core.Path.{_≡_, refl, sym, ap, _∙_}
-use mathlib.Core.Bool.{Bool, true, false}
+use mathlib.Core.Bool.{true, false}
 use mathlib.Core.List.{List}
 use mathlib.Core.Logic.{_⊎_, inl, inr, ⊎-elim}
 use Prim.Native.Nat.{ℕ, _≤_}
@@ -9,7 +9,7 @@ use native.Mathlib.Omega.{arith}
 use lib.ListN.{length}
 use borrow.Author.Tests.{eqb-false}
 use Rattle.facts.specs.declared.Found.{Found}
-use Rattle.facts.proofs.Picks.{pick-ind}
+use Rattle.facts.proofs.Picks.{upheld, pick-ind}
 use Rattle.fields.specs.Fields.{numberOf}
 use Rattle.fields.specs.declared.Body.{Body}
 use Rattle.fields.specs.declared.AddOrder.{AddOrder}
@@ -230,11 +230,7 @@ module _ (n : ℕ) (b : List ℕ) (k : Book) where
   bad-body h = bad-by (readBody b) n b k (eqb-false (numberOf (readBody b)) 0 h)
 
   pub rule-good : applied n b k .rule ≡ 0 → goodBody b ≡ true
-  rule-good e = go (goodBody b) refl
-    where
-      go : (t : Bool) → goodBody b ≡ t → t ≡ true
-      go true g = refl
-      go false g = absurd (omega (arith, bad-body g))
+  rule-good e = upheld (goodBody b) (λ g. omega (arith, bad-body g))
 
   -- the second is a System Time's, and no other message's
   pub second-kept : ((c : ℕ) → readBody b ≡ Body.SystemTime c → ⊥) → applied n b k .after .second ≡ k .second

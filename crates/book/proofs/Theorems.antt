@@ -1,13 +1,13 @@
 -- What a reader expects of the whole book: each message does to the book what its law of orders or of symbols says of the one table it concerns.
 -- Assumes nothing.
 use mathlib.Core.Path.{_≡_, refl, sym, ap, subst, _∙_}
-use mathlib.Core.Bool.{Bool, true, false}
+use mathlib.Core.Bool.{true, false}
 use mathlib.Core.List.{List}
 use Prim.Native.Nat.{ℕ, _%_, _≤_, _<_}
 use native.Mathlib.Omega.{arith}
 use lib.ListN.{getD, replicate}
 use borrow.Author.Tests.{eq-eqb, ne-eqb}
-use Rattle.facts.proofs.Picks.{pick-ind}
+use Rattle.facts.proofs.Picks.{upheld, pick-ind}
 use Rattle.wire.specs.Le.{Bytes}
 use Rattle.wire.proofs.Laws.{field-below}
 use Rattle.fields.specs.declared.Body.{Body}
@@ -143,11 +143,7 @@ unknown-symbol n b k s h u = unknown-by h n b k u
 
 -- so the symbol of one that applied was known
 pub applied-known : (n : ℕ) (b : List ℕ) (k : Book) (s : ℕ) → Names (readBody b) s → applied n b k .rule ≡ 0 → knownSymbol s (entries (k .symbols)) ≡ true
-applied-known n b k s h z = go (knownSymbol s (entries (k .symbols))) refl
-  where
-    go : (t : Bool) → knownSymbol s (entries (k .symbols)) ≡ t → t ≡ true
-    go true e = refl
-    go false e = absurd (omega (arith, ap (λ o. o .rule) (unknown-symbol n b k s h e)))
+applied-known n b k s h z = upheld (knownSymbol s (entries (k .symbols))) (λ e. omega (arith, ap (λ o. o .rule) (unknown-symbol n b k s h e)))
 
 -- ---- a message on the order table that applied: its rule of orders did it all
 record Worked (f : List ℕ → Change) (k : Book) (o : Outcome) : Type 0 where

@@ -24,7 +24,7 @@ sideOf x = pick (eqb x 66) 0 1
 unfoldable pub moves : ℕ → Bool
 moves flags = eqb (flags % 2) 1
 
--- "order ID, symbol ID times 2 plus side, price, size, rank", "rank = sequence number"
+-- "order ID, symbol ID times 2 plus side (buy 0, sell 1), price, size, rank", "rank = sequence number"
 unfoldable pub rowFor : AddOrder → ℕ → Row
 rowFor m n = record { order = m .order; key = m .symbol * 2 + sideOf (m .side); price = m .price; size = m .size; rank = n }
 

@@ -9,6 +9,15 @@ use Rattle.facts.specs.Pick.{pick, both, either}
 pub no-second {ℓ} : {A : Type ℓ} {x y z : A} → x ≡ z → y ≡ z → x ≡ y
 no-second p q = p ∙ sym q
 
+-- a test that cannot hold, and one that cannot fail
+pub refuted : (b : Bool) → (b ≡ true → ⊥) → false ≡ b
+refuted true h = absurd (h refl)
+refuted false h = refl
+
+pub upheld : (b : Bool) → (b ≡ false → ⊥) → b ≡ true
+upheld true h = refl
+upheld false h = absurd (h refl)
+
 -- which of the two it was
 pub pick-cases {ℓ} : {A : Type ℓ} {t : Bool} {x y z : A} → pick t x y ≡ z → ((t ≡ true) × (x ≡ z)) ⊎ ((t ≡ false) × (y ≡ z))
 unfolding pick

@@ -1,40 +1,24 @@
--- A table is its pieces and what lies behind the last whole one; a piece that is put leaves that rest alone, since it lies before it.
+-- A table is its pieces and what lies behind the last whole one, and its size is good by three tests of numbers.
 -- Assumes nothing.
-use mathlib.Core.Path.{_≡_, refl, sym, _∙_}
+use mathlib.Core.Path.{_≡_, sym, _∙_}
+use mathlib.Core.Bool.{true}
 use mathlib.Core.List.{List, [], _∷_, _++_, append-assoc}
 use Prim.Native.Nat.{ℕ, zero, suc, _+_, _*_, _/_, _%_, _≤_, _<_}
-use native.Mathlib.Nat.{mul-suc, mul-le-mul-left, div-add-mod}
+use native.Mathlib.Nat.{div-add-mod}
 use native.Mathlib.Omega.{arith}
-use lib.ListN.{length, set, take, drop, take-append-drop, drop-of-length-le}
-use lib.Seq.{sets, sets-eq, drop-drop, drop-set-lt}
-use lib.Dec.{ltb}
-use borrow.Author.Tests.{ltb-true}
+use lib.ListN.{length, set, take, drop, drop-of-length-le}
+use lib.Seq.{sets-eq, drop-drop}
+use lib.Dec.{leb, eqb}
+use borrow.Author.Tests.{le-leb, eq-eqb, leb-true, eqb-true}
+use Rattle.facts.specs.Pick.{both}
 use Rattle.facts.specs.Pieces.{pieces, join, putPiece}
-use Rattle.facts.proofs.Picks.{pick-ind}
-use Rattle.facts.proofs.PieceLaws.{Wide, join-cut, piece-fits, length-put, put-in, pieces-put}
+use Rattle.facts.proofs.Picks.{both-true}
+use Rattle.facts.proofs.PieceLaws.{Wide, piece-fits, length-put, put-in, pieces-put, join-rest, rest-put}
 
 module _ {A : Type 0} where
-  pub join-rest : (w : ℕ) (t : List A) → join (pieces w t) ++ drop (w * (length t / w)) t ≡ t
-  unfolding pieces
-  join-rest w t = rw (join-cut w (length t / w) t) (take-append-drop (w * (length t / w)) t)
-
   -- whole pieces leave no rest
   pub no-rest : (w : ℕ) (t : List A) → length t % w ≡ 0 → drop (w * (length t / w)) t ≡ []
   no-rest w t h = drop-of-length-le t {i = w * (length t / w)} (omega (arith, div-add-mod (length t) w))
-
-  drop-past : (n : ℕ) (t : List A) (i : ℕ) (s : List A) → i + length s ≤ n → drop n (sets t i s) ≡ drop n t
-  drop-past n t i [] h = refl
-  drop-past n t i (x ∷ s) h = drop-past n (set t i x) (suc i) s (omega arith) ∙ drop-set-lt n t i x (omega arith)
-
-  pub rest-put : (w : ℕ) (t : List A) (i : ℕ) (s : List A) → length s ≡ w → drop (w * (length t / w)) (putPiece w t i s) ≡ drop (w * (length t / w)) t
-  unfolding putPiece
-  rest-put w t i s l =
-      pick-ind (λ (u : List A). drop (w * (length t / w)) u ≡ drop (w * (length t / w)) t) (ltb i (length t / w)) _ _
-      (λ e.
-      let m = mul-suc w i in
-      let n = mul-le-mul-left w (ltb-true i (length t / w) e) in
-      drop-past (w * (length t / w)) t (w * i) s (omega arith))
-      (λ e. refl)
 
   -- a piece put into any list
   pub put-join-rest : (w : ℕ) (t : List A) (i : ℕ) (s : List A) → length s ≡ w → putPiece w t i s ≡ join (set (pieces w t) i s) ++ drop (w * (length t / w)) t
@@ -51,3 +35,18 @@ module _ {A : Type 0} where
   wide-set w [] i s l h = tt
   wide-set w (x ∷ xs) zero s l h = (l, h .1)
   wide-set w (x ∷ xs) (suc i) s l h = (h .0, wide-set w xs i s l (h .1))
+
+-- ---- a size of 1 to m whole pieces
+abbrev pub Fits : ℕ → ℕ → ℕ → Type 0
+Fits w m n = (1 ≤ n / w) × (n / w ≤ m) × (n % w ≡ 0)
+
+module _ (w m n : ℕ) where
+  pub good-fits : both (eqb (n % w) 0) (both (leb 1 (n / w)) (leb (n / w) m)) ≡ true → Fits w m n
+  good-fits e =
+      let a = both-true e in
+      let b = both-true (a .1) in
+      (leb-true _ _ (b .0), leb-true _ _ (b .1), eqb-true _ _ (a .0))
+
+  pub fits-good : Fits w m n → both (eqb (n % w) 0) (both (leb 1 (n / w)) (leb (n / w) m)) ≡ true
+  unfolding both
+  fits-good h = simp (eq-eqb _ _ (h .2), le-leb _ _ (h .0), le-leb _ _ (h .1))

@@ -3,7 +3,7 @@
 use mathlib.Core.Path.{_≡_, refl, ap, sym, _∙_}
 use mathlib.Core.List.{List, [], _∷_}
 use mathlib.Core.Bool.{true}
-use mathlib.Core.Logic.{inl, inr}
+use mathlib.Core.Logic.{_⊎_, inl, inr}
 use Prim.Native.Nat.{ℕ, zero, suc, _+_, _≤_, _<_}
 use native.Mathlib.Omega.{arith}
 use borrow.Author.Tests.{leb-true}
@@ -14,8 +14,8 @@ use Rattle.facts.specs.Pick.{both}
 use Rattle.facts.proofs.Picks.{pick-ind, pick-cases, both-true}
 use Rattle.fields.specs.Fields.{refusal}
 use Rattle.fields.specs.declared.Refusal.{Refusal}
-use Rattle.packet.specs.Record.{Rec, headOf, bodyOf, recOf, readRecord}
-use Rattle.packet.specs.Packet.{Framing, bad, records, before, behind, framesFrom, framing, told, readPacket}
+use Rattle.packet.specs.Record.{Rec, headOf, bodyOf, recOf, readRecord, recordNumber}
+use Rattle.packet.specs.Packet.{Framing, bad, records, before, behind, framesFrom, framing, told, readPacket, packetNumber}
 use Rattle.packet.specs.declared.Head.{Head}
 use Rattle.packet.specs.declared.Record.{Record}
 use Rattle.packet.specs.declared.Packet.{Packet}
@@ -126,6 +126,21 @@ outcome p = go (framing p) refl (framing-fine p)
     go : (x : Framing) → framing p ≡ x → Fine x → Outcome p
     go (bad r) e f = refused r e (ap told e) (f .0) (f .1)
     go (records cs) e f = good cs e (ap told e) (some-records p cs e) f
+
+-- the numbers of a record's and of a packet's answer: 0, or one of 2 to 5; 0, or one of 1 to 5
+pub record-numbers : (t : List ℕ) → (recordNumber (readRecord t) ≡ 0) ⊎ ((2 ≤ recordNumber (readRecord t)) × (recordNumber (readRecord t) ≤ 5))
+record-numbers t = go (readRecord t) (record-held t)
+  where
+    go : (r : Record) → Held r t → (recordNumber r ≡ 0) ⊎ ((2 ≤ recordNumber r) × (recordNumber r ≤ 5))
+    go (Record.Good h) g = inl refl
+    go (Record.Refused r) g = inr g
+
+pub packet-numbers : (p : List ℕ) → (packetNumber (readPacket p) ≡ 0) ⊎ ((1 ≤ packetNumber (readPacket p)) × (packetNumber (readPacket p) ≤ 5))
+packet-numbers p = go (outcome p)
+  where
+    go : Outcome p → (packetNumber (readPacket p) ≡ 0) ⊎ ((1 ≤ packetNumber (readPacket p)) × (packetNumber (readPacket p) ≤ 5))
+    go (good cs f e n g) = inl (ap packetNumber e)
+    go (refused r f e a b) = inr (rw e (a, b))
 
 -- the records of a framing, none of a refused one
 unfoldable pub recordsIn : Framing → List Rec

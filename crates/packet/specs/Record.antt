@@ -46,3 +46,8 @@ readRecord t =
     (pick (numberOk (field t 0 8))
     (bodyJudged (numberOf (readBody (bodyOf t))) (Record.Good (headOf t)))
     (refused 5)))
+
+-- document 01's number of each answer, 0 for a good record
+abbrev pub recordNumber : Record → ℕ
+recordNumber (Record.Good h) = 0
+recordNumber (Record.Refused r) = r .number

@@ -86,7 +86,7 @@ rxOf k = rx (k .state .next) (k .state .second) (k .orders) (k .symbols) (k .she
 abbrev pub lentOf : Rx → ℕ → Lent
 lentOf r stop = lent (r .book .orders) (r .book .symbols) (r .shelf) (record { next = r .next; second = r .book .second; stop = stop })
 
--- "The packet's answer tells how many records got each of 10 to 14, the next number, how many messages were applied, the highest number on the shelf, and the stop"
+-- "The packet's answer tells how many records got each of 10 to 14, the next number, how many messages were applied (the growth of next), the highest number on the shelf (0 if none), and the stop"
 abbrev pub account : theory.Told → Account
 account t = record { tally = tallyOf (t .counts); next = t .next-number; applied = t .applied; highest = t .top; stop = t .stopped }
 
@@ -138,6 +138,11 @@ begun a o s h = record { answer = a; orders = o; symbols = s; shelf = h }
 -- a receiver as an answer of a start
 abbrev pub ready : Lent → Begun
 ready k = begun (Started.Ready (k .state)) (k .orders) (k .symbols) (k .shelf)
+
+-- document 01's number of each answer to a start, 0 for a receiver
+abbrev pub startNumber : Started → ℕ
+startNumber (Started.Ready s) = 0
+startNumber (Started.Refused r) = r .number
 
 unfoldable pub started : List ℕ → List ℕ → List ℕ → Begun
 started o s h =

@@ -10,6 +10,8 @@ ghost use Rattle.arbitration.proofs.Tallies.{working, work as workAll, counted 
 ghost use Rattle.shelf.specs.Shelf.{slotAt};
 ghost use Rattle.shelf.specs.Store.{shelfStore};
 ghost use Rattle.receiver.specs.Rules.{bookEngine};
+ghost use lib.ListN.{length};
+ghost use Rattle.receiver.specs.Play.{packetsOf, plays, played, Demanded};
 ghost use Rattle.receiver.specs.Lent.{rx, rec, answerOf, countsIn, noTally, sizesOk, nextOk, workingOf, GoodPacket, lent, outcome, framed, received, begun, started};
 
 // What a receiver keeps between packets: the next number, the second, and the stop of the last accepted packet.
@@ -352,4 +354,41 @@ pub fn start(orders: &mut [u64], symbols: &mut [u8], shelf: &mut [u8]) -> Starte
         second: 0,
         stop: 0,
     })
+}
+
+// The packets of a recording, one after another; what is left of a cut one at its end is dropped.
+pub fn play_on(
+    orders: &mut [u64],
+    symbols: &mut [u8],
+    shelf: &mut [u8],
+    state: State,
+    t: &[u8],
+) -> State
+    ensures { λ r. ⌜ lent (now (orders .exit)) (now (symbols .exit)) (now (shelf .exit)) r ≡ plays (packetsOf (now (t .entry))) (lent (now (orders .entry)) (now (symbols .entry)) (now (shelf .entry)) state) ⌝ }
+{
+    let mut s = state;
+    let mut at: usize = 0;
+    while 2 <= t.len() - at {
+        let n = wire::u16_at(t, at) as usize;
+        let from = at + 2;
+        if t.len() - from < n {
+            return s;
+        }
+        let to = from + n;
+        let r = receive(orders, symbols, shelf, s, &t[from..to]);
+        s = r.state;
+        at = to;
+    }
+    s
+}
+
+// A receiver started and given a recording: demand 3 is what it ensures of the tables that it leaves.
+pub fn play(orders: &mut [u64], symbols: &mut [u8], shelf: &mut [u8], t: &[u8]) -> Started
+    ensures outcome { λ r. ⌜ begun r (now (orders .exit)) (now (symbols .exit)) (now (shelf .exit)) ≡ played (now (orders .entry)) (now (symbols .entry)) (now (shelf .entry)) (now (t .entry)) ⌝ }
+    ensures demand { λ r. ⌜ Demanded (length (now (orders .entry))) (length (now (symbols .entry))) (length (now (shelf .entry))) (now (t .entry)) (begun r (now (orders .exit)) (now (symbols .exit)) (now (shelf .exit))) ⌝ }
+{
+    match start(orders, symbols, shelf) {
+        Started::Refused(r) => Started::Refused(r),
+        Started::Ready(s) => Started::Ready(play_on(orders, symbols, shelf, s, t)),
+    }
 }

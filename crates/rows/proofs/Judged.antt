@@ -2,23 +2,19 @@
 -- Assumes nothing.
 use mathlib.Core.Path.{_≡_, refl, sym, _∙_}
 use mathlib.Core.Bool.{Bool, true, false, true≢false}
-use Prim.Native.Nat.{ℕ, _/_, _%_, _≤_, _<_}
+use Prim.Native.Nat.{ℕ, _≤_, _<_}
 use native.Mathlib.Omega.{arith}
 use lib.Dec.{eqb}
 use borrow.Author.Tests.{le-leb, lt-ltb, eq-eqb, ne-eqb, leb-true, ltb-true, eqb-true}
 use Rattle.facts.specs.Pick.{both, either}
-use Rattle.facts.proofs.Picks.{both-true}
+use Rattle.facts.proofs.Picks.{refuted, both-true}
+use Rattle.facts.proofs.TableLaws.{Fits, good-fits, fits-good}
 use Rattle.rows.specs.declared.Row.{Row}
 use Rattle.rows.specs.Rows.{zeroRow, symbolOf, free, live, spoiled, maxRows, goodRows}
 use Rattle.rows.specs.Find.{isOrder, ofSymbol, ofKey}
 use Rattle.rows.proofs.Tables.{row-eq}
 
 -- ---- free
--- a test that cannot hold
-refuted : (b : Bool) → (b ≡ true → ⊥) → false ≡ b
-refuted true h = absurd (h refl)
-refuted false h = refl
-
 pub record Zeros (r : Row) : Type 0 where
   pub order : r .order ≡ 0
   pub key : r .key ≡ 0
@@ -117,18 +113,15 @@ spoiled-not-live r e = go (one-kind r)
 
 -- ---- sizes of tables
 abbrev pub Good : ℕ → Type 0
-Good n = (1 ≤ n / 5) × (n / 5 ≤ maxRows) × (n % 5 ≡ 0)
+Good = Fits 5 maxRows
 
 pub good-rows : (n : ℕ) → goodRows n ≡ true → Good n
 unfolding goodRows
-good-rows n e =
-    let a = both-true e in
-    let b = both-true (a .1) in
-    (leb-true _ _ (b .0), leb-true _ _ (b .1), eqb-true _ _ (a .0))
+good-rows n e = good-fits 5 maxRows n e
 
 pub rows-good : (n : ℕ) → Good n → goodRows n ≡ true
-unfolding goodRows both
-rows-good n h = simp (eq-eqb _ _ (h .2), le-leb _ _ (h .0), le-leb _ _ (h .1))
+unfolding goodRows
+rows-good n h = fits-good 5 maxRows n h
 
 pub not-good : (n : ℕ) → (Good n → ⊥) → false ≡ goodRows n
 not-good n h = refuted (goodRows n) (λ e. h (good-rows n e))

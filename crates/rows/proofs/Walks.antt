@@ -12,7 +12,8 @@ use Rattle.facts.specs.Sums.{sumBy, onlyIf, countBy}
 use Rattle.facts.specs.declared.Found.the-variants.{At, Nothing}
 use Rattle.facts.proofs.Lists.{mapTo, map-more, map-all}
 use Rattle.facts.proofs.Searches.{first-hit, first-miss, first-end, first-at}
-use Rattle.facts.proofs.SumLaws.{sum-step, sum-end, sum-bound, only-bound, only-yes, only-no}
+use Rattle.facts.proofs.SumLaws.{sum-step, sum-end, sum-bound, only-bound}
+use Rattle.facts.proofs.CountLaws as counts
 use Rattle.rows.specs.declared.Row.{Row}
 use Rattle.rows.specs.Rows.{rows, putRow, zeroRow, free, live}
 use Rattle.rows.specs.Find.{isOrder, findOrder, findFree}
@@ -51,16 +52,13 @@ module _ (f : Row → ℕ) (t : List ℕ) (i : ℕ) where
 
 module _ (p : Row → Bool) (t : List ℕ) (i : ℕ) where
   pub count-yes : i < length t / 5 → p (getD (rows t) i zeroRow) ≡ true → countBy p (drop i (rows t)) ≡ 1 + countBy p (drop (i + 1) (rows t))
-  unfolding countBy
-  count-yes h e = rw (sum-row (onlyIf p (λ r. 1)) t i h, only-yes p (λ r. 1) (getD (rows t) i zeroRow) e)
+  count-yes h e = counts.count-yes p (rows t) i zeroRow (rw length-rows h) e
 
   pub count-no : i < length t / 5 → p (getD (rows t) i zeroRow) ≡ false → countBy p (drop i (rows t)) ≡ countBy p (drop (i + 1) (rows t))
-  unfolding countBy
-  count-no h e = rw (sum-row (onlyIf p (λ r. 1)) t i h, only-no p (λ r. 1) (getD (rows t) i zeroRow) e) (omega arith)
+  count-no h e = counts.count-no p (rows t) i zeroRow (rw length-rows h) e
 
   pub count-past : length t / 5 ≤ i → countBy p (drop i (rows t)) ≡ 0
-  unfolding countBy
-  count-past h = sum-past (onlyIf p (λ r. 1)) t i h
+  count-past h = counts.count-end p (rows t) i (rw length-rows h)
 
 -- shares of live rows
 pub shares-bound : (p : Row → Bool) → ((r : Row) → p r ≡ true → live r ≡ true) → (rs : List Row) → sumBy (onlyIf p (λ r. r .size)) rs ≤ 4294967295 * length rs

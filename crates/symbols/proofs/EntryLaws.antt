@@ -7,12 +7,12 @@ use Prim.Native.Nat.{ℕ, _+_, _-_, _*_, _/_, _%_, _≤_, _<_}
 use native.Mathlib.Omega.{arith}
 use lib.ListN.{length, getD, set, take, drop, replicate, length-replicate, getD-replicate, List·getD-eq-default}
 use lib.Dec.{ltb}
-use borrow.Author.Tests.{le-leb, eq-eqb, ne-eqb, leb-true, eqb-true, ltb-true, ltb-false}
-use Rattle.facts.specs.Pick.{pick, both, either}
+use borrow.Author.Tests.{eq-eqb, ne-eqb, eqb-true, ltb-true, ltb-false}
+use Rattle.facts.specs.Pick.{pick, either}
 use Rattle.facts.specs.Pieces.{join}
-use Rattle.facts.proofs.Picks.{both-true}
-use Rattle.facts.proofs.PieceLaws.{Wide, length-pieces, getD-pieces, piece-fits, length-piece, length-put, put-out, pieces-put, join-pieces, wide-pieces, pieces-join, pieces-replicate}
-use Rattle.facts.proofs.TableLaws.{join-rest, no-rest, put-join-rest, part-put}
+use Rattle.facts.proofs.Picks.{refuted}
+use Rattle.facts.proofs.PieceLaws.{Wide, length-pieces, getD-pieces, piece-fits, length-piece, length-put, put-out, pieces-put, join-pieces, wide-pieces, pieces-join, pieces-replicate, join-rest}
+use Rattle.facts.proofs.TableLaws.{no-rest, put-join-rest, part-put, Fits, good-fits, fits-good}
 use Rattle.wire.specs.Le.{padded}
 use Rattle.wire.proofs.Laws.{length-padded, getD-padded, field-padded, padded-whole}
 use Rattle.kinds.specs.Table.{table, lookup, lengthOf, typeOf, kindLength}
@@ -40,25 +40,18 @@ entries-fit = omega arith
 
 -- ---- sizes of tables
 abbrev pub Good : ℕ → Type 0
-Good n = (1 ≤ n / entrySize) × (n / entrySize ≤ maxEntries) × (n % entrySize ≡ 0)
+Good = Fits entrySize maxEntries
 
 pub good-entries : (n : ℕ) → goodEntries n ≡ true → Good n
 unfolding goodEntries
-good-entries n e =
-    let a = both-true e in
-    let b = both-true (a .1) in
-    (leb-true _ _ (b .0), leb-true _ _ (b .1), eqb-true _ _ (a .0))
+good-entries n e = good-fits entrySize maxEntries n e
 
 pub entries-good : (n : ℕ) → Good n → goodEntries n ≡ true
-unfolding goodEntries both
-entries-good n h = simp (eq-eqb _ _ (h .2), le-leb _ _ (h .0), le-leb _ _ (h .1))
+unfolding goodEntries
+entries-good n h = fits-good entrySize maxEntries n h
 
 pub not-good : (n : ℕ) → (Good n → ⊥) → false ≡ goodEntries n
-not-good n h = go (goodEntries n) refl
-  where
-    go : (b : Bool) → goodEntries n ≡ b → false ≡ b
-    go true e = absurd (h (good-entries n e))
-    go false e = refl
+not-good n h = refuted (goodEntries n) (λ e. h (good-entries n e))
 
 -- ---- tables and their entries
 pub length-entries : (t : List ℕ) → length (entries t) ≡ length t / entrySize

@@ -152,7 +152,7 @@ fn put_level(out: &mut [u64], j: usize, l: Level)
 }
 
 // The ladder of a key, for a caller that knows its symbol. Levels times rows steps, and no memory but the run.
-pub fn ladder_of(orders: &[u64], key: u64, out: &mut [u64]) -> usize
+fn ladder_of(orders: &[u64], key: u64, out: &mut [u64]) -> usize
     ensures { λ r. ⌜ laidOut r (now (out .exit)) ≡ ladderRun key (now (orders .entry)) (now (out .entry)) ⌝ }
 {
     if !rows::good_rows(orders.len()) {
@@ -180,7 +180,7 @@ fn minus(a: u64, b: u64) -> i64
 }
 
 // The spread of a symbol, for a caller that knows it; never Refused.
-pub fn spread_of(orders: &[u64], symbol: u32) -> SpreadAnswer
+fn spread_of(orders: &[u64], symbol: u32) -> SpreadAnswer
     ensures { λ r. ⌜ r ≡ spreadOf symbol (rows (now (orders .entry))) ⌝ }
 {
     let bid = nearest(orders, key_of(symbol, Side::Buy), 0);
