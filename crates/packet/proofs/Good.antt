@@ -142,11 +142,6 @@ packet-numbers p = go (outcome p)
     go (good cs f e n g) = inl (ap packetNumber e)
     go (refused r f e a b) = inr (rw e (a, b))
 
--- the records of a framing, none of a refused one
-unfoldable pub recordsIn : Framing → List Rec
-recordsIn (bad r) = []
-recordsIn (records cs) = cs
-
 -- what the answer to a packet says of its framing
 pub bad-framing : (p : List ℕ) (r : Refusal) → readPacket p ≡ Packet.Refused r → framing p ≡ bad r
 unfolding readPacket told
@@ -156,10 +151,10 @@ bad-framing p r e = go (framing p) refl
     go (bad q) f = let g : Packet.Refused q ≡ Packet.Refused r = sym (ap told f) ∙ e in f ∙ cc
     go (records cs) f = let g : Packet.Good (length cs) ≡ Packet.Refused r = sym (ap told f) ∙ e in let z : _≡_ {A = ℕ} 0 1 = cc in absurd (omega arith)
 
-pub good-framing : (p : List ℕ) (n : ℕ) → readPacket p ≡ Packet.Good n → framing p ≡ records (recordsIn (framing p))
-unfolding readPacket told recordsIn
+pub good-framing : (p : List ℕ) (n : ℕ) → readPacket p ≡ Packet.Good n → (cs : List Rec) × (framing p ≡ records cs)
+unfolding readPacket told
 good-framing p n e = go (framing p) refl
   where
-    go : (x : Framing) → framing p ≡ x → framing p ≡ records (recordsIn (framing p))
+    go : (x : Framing) → framing p ≡ x → (cs : List Rec) × (framing p ≡ records cs)
     go (bad q) f = let g : Packet.Refused q ≡ Packet.Good n = sym (ap told f) ∙ e in let z : _≡_ {A = ℕ} 0 1 = cc in absurd (omega arith)
-    go (records cs) f = f ∙ ap records (sym (ap recordsIn f))
+    go (records cs) f = (cs, f)

@@ -1,15 +1,15 @@
 -- A receiver that was started and left its tables to itself is never refused with 6: its sizes stay, its next stays within 1 to 10^12 + 1.
 -- Assumes nothing.
-use Prim.Native.Nat.{ℕ, _+_, _%_, _≤_, _<_}
+use Prim.Native.Nat.{ℕ, _+_, _%_, _≤_}
 use mathlib.Core.Path.{_≡_, refl, sym, ap, subst, _∙_}
 use mathlib.Core.Logic.{_⊎_, inl, inr}
 use mathlib.Core.Bool.{true, false}
 use mathlib.Core.List.{List, [], _∷_}
 use native.Mathlib.Omega.{arith}
-use lib.ListN.{length, replicate, length-replicate}
-use lib.Dec.{eqb, leb}
+use lib.ListN.{length, length-replicate}
+use lib.Dec.{eqb}
 use borrow.Author.Tests.{le-leb}
-use Rattle.facts.specs.Pick.{pick, both}
+use Rattle.facts.specs.Pick.{both}
 use Rattle.facts.proofs.Picks.{pick-cases, pick-ind, both-true}
 use Rattle.fields.specs.Fields.{refusal}
 use Rattle.body.specs.Read.{goodBody}
@@ -21,13 +21,13 @@ use Rattle.book.proofs.Steps.{lengths-kept}
 use Rattle.arbitration.specs.Slots.{emptySlot, slotFor, slotBody}
 use Rattle.arbitration.specs.Engine.{Applied, ok, broke}
 use Rattle.arbitration.specs.Demand3.{Every, Started, WellFormed, Copies}
-use Rattle.arbitration.specs.Receive.{recordsOf, drain, shelved, turned, after, run, worked, receives, told, stop}
+use Rattle.arbitration.specs.Receive.{recordsOf, shelved, turned, after, run, worked, receives, told, stop}
 use Rattle.arbitration.proofs.Turns.{Went, drain-keeps, try-empty, stop-nothing}
 use Rattle.arbitration.proofs.Halves.{agree}
 use Rattle.arbitration.proofs.Answers.{after-cases, after-next, run-keeps}
 use Rattle.arbitration.proofs.Range.{Bounded, framing-bounded, Below, after-below, start-below}
 use Rattle.arbitration.proofs.Packets.{framing-numbered, halves}
-use Rattle.shelf.specs.Shelf.{goodShelf, shelfSize}
+use Rattle.shelf.specs.Shelf.{goodShelf}
 use Rattle.shelf.specs.Store.{shelfStore, length-put-slot}
 use Rattle.shelf.proofs.Laws.{good-size, zeros-empty}
 use Rattle.rows.specs.Rows.{goodRows}

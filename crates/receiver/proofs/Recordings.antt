@@ -2,7 +2,6 @@
 -- Assumes nothing.
 use Prim.Native.Nat.{ℕ, zero, suc, _+_, _-_, _≤_, _<_}
 use mathlib.Core.Path.{_≡_, refl, sym, ap, _∙_}
-use mathlib.Core.Bool.{true, false}
 use mathlib.Core.List.{List, [], _∷_}
 use native.Mathlib.Nat.{add-sub-cancel-left}
 use native.Mathlib.Omega.{arith}
@@ -11,12 +10,9 @@ use lib.Seq.{drop-drop}
 use lib.Dec.{ltb}
 use borrow.Author.Tests.{lt-ltb, le-ltb}
 use Rattle.facts.specs.Pick.{pick}
-use Rattle.fields.specs.Fields.{refusal}
 use Rattle.wire.specs.Le.{field}
-use Rattle.receiver.specs.Lent.{Lent, Outcome, received, sizesOk, fresh, Begun, begun, ready, started}
-use Rattle.receiver.specs.Play.{packetsIn, packetsOf, plays, played, Demanded}
-use Rattle.receiver.specs.declared.State.{State}
-use Rattle.receiver.specs.declared.Started.{Started}
+use Rattle.receiver.specs.Lent.{Lent, Outcome, received}
+use Rattle.receiver.specs.Play.{packetsIn, plays}
 
 packets-short : (f : ℕ) (t : List ℕ) → length t < 2 → packetsIn f t ≡ []
 unfolding packetsIn pick

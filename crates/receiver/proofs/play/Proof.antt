@@ -1,60 +1,45 @@
-use mathlib.Core.Path.{_≡_}
+-- A refused start is the answer; else the start, and then the packets, make what is played, and demand 3 holds of it.
+-- Assumes nothing.
 use Prim.Native.Nat.{ℕ}
 use native.Mathlib.Omega.{arith}
 use Rattle.receiver.proofs.Plays.{start-refused, played-all, played-demand}
 use borrow.Author.Needs.{needs}
 use Rattle.receiver.proofs.play.Statement.{statement}
 use Rattle.receiver.proofs.play.Tie as tie
-use Rattle.receiver.proofs.play.Reads as reads
-use Rattle.receiver.proofs.play.Lts as lts
-use Rattle.receiver.proofs.play_on.Reads as play-on-reads
-use Rattle.receiver.proofs.start.Reads as start-reads
 
--- src/lib.rt:390:11
 start-requires : tie.Need-start-requires
 start-requires c κs = search needs
 
--- src/lib.rt:391:26
 enum-known-r : tie.Need-enum-known-r
 enum-known-r c = search needs
 
--- src/lib.rt:392:24
 enum-known-s : tie.Need-enum-known-s
 enum-known-s c = search needs
 
--- src/lib.rt:392:45
 play-on-requires : tie.Need-play-on-requires
 play-on-requires c κs = search needs
 
--- src/lib.rt:386:1
 same-length : tie.Need-same-length
 same-length c = search needs
 
--- src/lib.rt:386:1
 same-length-2 : tie.Need-same-length-2
 same-length-2 c = search needs
 
--- src/lib.rt:386:1
 same-length-3 : tie.Need-same-length-3
 same-length-3 c = search needs
 
--- src/lib.rt:386:1
 returns : tie.Need-returns
 returns c = (start-refused (c .before .before .before .before .before .before .before .before .before .before .before .before .before .before .before .before .before .args .orders .now) (c .before .before .before .before .before .before .before .before .before .before .before .before .before .before .before .before .before .args .symbols .now) (c .before .before .before .before .before .before .before .before .before .before .before .before .before .before .before .before .before .args .shelf .now) (c .before .before .before .before .before .before .before .before .before .before .before .before .before .before .before .before .before .args .t .now) (c .before .before .before .before .before .before .before .before .before .start .result) _ _ _ (c .before .before .before .before .before .before .before .before .before .start .ensures) _ (c .before .r .given .1), λ q a. (let z : _≡_ {A = ℕ} 0 1 = cc in absurd (omega arith)))
 
--- src/lib.rt:386:1
 same-length-4 : tie.Need-same-length-4
 same-length-4 c = search needs
 
--- src/lib.rt:386:1
 same-length-5 : tie.Need-same-length-5
 same-length-5 c = search needs
 
--- src/lib.rt:386:1
 same-length-6 : tie.Need-same-length-6
 same-length-6 c = search needs
 
--- src/lib.rt:386:1
 returns-2 : tie.Need-returns-2
 returns-2 c = (played-all (c .before .before .before .before .before .before .before .before .before .before .before .before .before .before .before .before .before .before .before .before .before .before .before .before .before .before .before .args .orders .now) (c .before .before .before .before .before .before .before .before .before .before .before .before .before .before .before .before .before .before .before .before .before .before .before .before .before .before .before .args .symbols .now) (c .before .before .before .before .before .before .before .before .before .before .before .before .before .before .before .before .before .before .before .before .before .before .before .before .before .before .before .args .shelf .now) (c .before .before .before .before .before .before .before .before .before .before .before .before .before .before .before .before .before .before .before .before .before .before .before .before .before .before .before .args .t .now) (c .before .before .before .before .before .before .before .before .before .before .before .before .before .before .before .before .before .before .before .start .result) _ _ _ (c .before .before .before .before .before .before .before .before .before .before .before .before .before .before .before .before .before .before .before .start .ensures) _ (c .before .before .before .before .before .before .before .before .before .before .before .s .given .1) _ _ _ (c .before .before .before .before .before .before .play-on .result) (c .before .before .before .before .before .before .play-on .ensures), played-demand (c .before .before .before .before .before .before .before .before .before .before .before .before .before .before .before .before .before .before .before .before .before .before .before .before .before .before .before .args .orders .now) (c .before .before .before .before .before .before .before .before .before .before .before .before .before .before .before .before .before .before .before .before .before .before .before .before .before .before .before .args .symbols .now) (c .before .before .before .before .before .before .before .before .before .before .before .before .before .before .before .before .before .before .before .before .before .before .before .before .before .before .before .args .shelf .now) (c .before .before .before .before .before .before .before .before .before .before .before .before .before .before .before .before .before .before .before .before .before .before .before .before .before .before .before .args .t .now) (c .before .before .before .before .before .before .before .before .before .before .before .before .before .before .before .before .before .before .before .start .result) _ _ _ (c .before .before .before .before .before .before .before .before .before .before .before .before .before .before .before .before .before .before .before .start .ensures) _ (c .before .before .before .before .before .before .before .before .before .before .before .s .given .1) _ _ _ (c .before .before .before .before .before .before .play-on .result) (c .before .before .before .before .before .before .play-on .ensures))
 

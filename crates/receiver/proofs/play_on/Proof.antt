@@ -1,3 +1,5 @@
+-- The loop keeps: the packets that are left, from here, give the end of all.
+-- Assumes nothing.
 use mathlib.Core.Path.{_≡_, refl}
 use Prim.Native.Nat.{_-_, _≤_}
 use native.Mathlib.Omega.{arith}
@@ -8,10 +10,6 @@ use Rattle.receiver.specs.Play.{packetsIn, packetsOf, plays}
 use Rattle.receiver.proofs.Recordings.{played-cut, played-next, played-end}
 use Rattle.receiver.proofs.play_on.Statement.{statement}
 use Rattle.receiver.proofs.play_on.Tie as tie
-use Rattle.receiver.proofs.play_on.Reads as reads
-use Rattle.receiver.proofs.play_on.Lts as lts
-use Rattle.receiver.proofs.receive.Reads as receive-reads
-use Rattle.wire.proofs.u16_at.Reads as u16-at-reads
 
 abbrev Inv-loop : tie.InvT-loop
 Inv-loop orders₀ symbols₀ shelf₀ t s₀ at₀ orders symbols shelf s at =
@@ -24,71 +22,54 @@ Inv-loop orders₀ symbols₀ shelf₀ t s₀ at₀ orders symbols shelf s at =
 abbrev μ-loop : tie.MeasureT-loop
 μ-loop orders₀ symbols₀ shelf₀ t s₀ at₀ orders symbols shelf s at = length t - at
 
--- src/lib.rt:371:5
 loop-holds : tie.Need-loop-holds Inv-loop μ-loop
 loop-holds c = (refl, refl, refl, omega arith, refl)
 
--- src/lib.rt:371:16
 sub-loop : tie.Need-sub-loop Inv-loop μ-loop
 sub-loop c = search needs
 
--- src/lib.rt:372:17
 u16-at-requires : tie.Need-u16-at-requires Inv-loop μ-loop
 u16-at-requires c κs = search needs
 
--- src/lib.rt:372:17
 cast-n : tie.Need-cast-n Inv-loop μ-loop
 cast-n c = search needs
 
--- src/lib.rt:373:20
 add-from : tie.Need-add-from Inv-loop μ-loop
 add-from c = search needs
 
--- src/lib.rt:374:12
 sub-if1 : tie.Need-sub-if1 Inv-loop μ-loop
 sub-if1 c = search needs
 
--- src/lib.rt:375:13
 same-length : tie.Need-same-length Inv-loop μ-loop
 same-length c = search needs
 
--- src/lib.rt:375:13
 same-length-2 : tie.Need-same-length-2 Inv-loop μ-loop
 same-length-2 c = search needs
 
--- src/lib.rt:375:13
 same-length-3 : tie.Need-same-length-3 Inv-loop μ-loop
 same-length-3 c = search needs
 
--- src/lib.rt:375:13
 returns : tie.Need-returns Inv-loop μ-loop
 returns c = played-cut (c .before .before .before .before .before .before .before .before .args .t .now) (c .before .before .before .loop .at) (c .before .u16-at .result) (c .before .before .loop-test .taken) (c .before .u16-at .ensures) (lent (c .before .before .before .loop .orders) (c .before .before .before .loop .symbols) (c .before .before .before .loop .shelf) (c .before .before .before .loop .s)) (plays (packetsOf (c .before .before .before .before .before .before .before .before .args .t .now)) (lent (c .before .before .before .before .before .before .before .before .args .orders .now) (c .before .before .before .before .before .before .before .before .args .symbols .now) (c .before .before .before .before .before .before .before .before .args .shelf .now) (c .before .before .before .before .before .before .before .before .args .state))) (c .before .before .before .loop .inv .4) (c .if1 .taken)
 
--- src/lib.rt:377:18
 add-to : tie.Need-add-to Inv-loop μ-loop
 add-to c = search needs
 
--- src/lib.rt:378:52
 sub-receive : tie.Need-sub-receive Inv-loop μ-loop
 sub-receive c = search needs
 
--- src/lib.rt:378:52
 part-receive-start : tie.Need-part-receive-start Inv-loop μ-loop
 part-receive-start c = search needs
 
--- src/lib.rt:378:52
 part-receive-end : tie.Need-part-receive-end Inv-loop μ-loop
 part-receive-end c = search needs
 
--- src/lib.rt:378:13
 receive-requires : tie.Need-receive-requires Inv-loop μ-loop
 receive-requires c κs = search needs
 
--- src/lib.rt:371:5
 loop-less : tie.Need-loop-less Inv-loop μ-loop
 loop-less c = search needs
 
--- src/lib.rt:371:5
 loop-again : tie.Need-loop-again Inv-loop μ-loop
 loop-again c = (
   search needs,
@@ -98,19 +79,15 @@ loop-again c = (
   played-next (c .before .before .before .before .before .before .before .before .before .before .before .before .before .before .before .before .before .before .before .before .args .t .now) (c .before .before .before .before .before .before .before .before .before .before .before .before .before .before .before .loop .at) (c .before .before .before .before .before .before .before .before .before .before .before .before .before .u16-at .result) (c .before .before .before .before .before .before .before .before .before .before .before .before .before .before .loop-test .taken) (c .before .before .before .before .before .before .before .before .before .before .before .before .before .u16-at .ensures) (lent (c .before .before .before .before .before .before .before .before .before .before .before .before .before .before .before .loop .orders) (c .before .before .before .before .before .before .before .before .before .before .before .before .before .before .before .loop .symbols) (c .before .before .before .before .before .before .before .before .before .before .before .before .before .before .before .loop .shelf) (c .before .before .before .before .before .before .before .before .before .before .before .before .before .before .before .loop .s)) (plays (packetsOf (c .before .before .before .before .before .before .before .before .before .before .before .before .before .before .before .before .before .before .before .before .args .t .now)) (lent (c .before .before .before .before .before .before .before .before .before .before .before .before .before .before .before .before .before .before .before .before .args .orders .now) (c .before .before .before .before .before .before .before .before .before .before .before .before .before .before .before .before .before .before .before .before .args .symbols .now) (c .before .before .before .before .before .before .before .before .before .before .before .before .before .before .before .before .before .before .before .before .args .shelf .now) (c .before .before .before .before .before .before .before .before .before .before .before .before .before .before .before .before .before .before .before .before .args .state))) (c .before .before .before .before .before .before .before .before .before .before .before .before .before .before .before .loop .inv .4) (c .before .before .before .before .before .before .before .before .before .before .before .before .if1 .left) (outcome (c .before .before .before .before .before .before .before .receive .result .answer) _) (c .before .before .before .before .before .before .before .receive .ensures) _ refl,
 )
 
--- src/lib.rt:360:1
 same-length-4 : tie.Need-same-length-4 Inv-loop μ-loop
 same-length-4 c = search needs
 
--- src/lib.rt:360:1
 same-length-5 : tie.Need-same-length-5 Inv-loop μ-loop
 same-length-5 c = search needs
 
--- src/lib.rt:360:1
 same-length-6 : tie.Need-same-length-6 Inv-loop μ-loop
 same-length-6 c = search needs
 
--- src/lib.rt:360:1
 returns-2 : tie.Need-returns-2 Inv-loop μ-loop
 returns-2 c = played-end (c .before .before .before .before .before .before .args .t .now) (c .before .loop .at) (c .loop-test .left) (lent (c .before .loop .orders) (c .before .loop .symbols) (c .before .loop .shelf) (c .before .loop .s)) (plays (packetsOf (c .before .before .before .before .before .before .args .t .now)) (lent (c .before .before .before .before .before .before .args .orders .now) (c .before .before .before .before .before .before .args .symbols .now) (c .before .before .before .before .before .before .args .shelf .now) (c .before .before .before .before .before .before .args .state))) (c .before .loop .inv .4)
 
