@@ -1,7 +1,7 @@
-use mathlib.Core.Path.{_≡_, ap, sym, _∙_}
-use Rattle.packet.proofs.Laws.{record-judged, judged-good, judged-bad}
 -- The tests on the way to each answer are those of readRecord, with the header's and the body reader's answers put in.
 -- Assumes nothing.
+use mathlib.Core.Path.{_≡_, ap, sym, _∙_}
+use Rattle.packet.proofs.Laws.{record-judged, judged-good, judged-bad}
 use Rattle.wire.specs.Le.{field}
 use borrow.Author.Tests.{lt-ltb, le-ltb, not-true, not-false}
 use lib.ListN.{length}

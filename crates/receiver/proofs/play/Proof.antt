@@ -1,5 +1,6 @@
 -- A refused start is the answer; else the start, and then the packets, make what is played, and demand 3 holds of it.
 -- Assumes nothing.
+use mathlib.Core.Path.{_≡_}
 use Prim.Native.Nat.{ℕ}
 use native.Mathlib.Omega.{arith}
 use Rattle.receiver.proofs.Plays.{start-refused, played-all, played-demand}
