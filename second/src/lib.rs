@@ -5,6 +5,7 @@
 //! Refusals (1 to 6, 30) and broken rules (20 to 27) are document 01's numbers, as plain `u8`.
 #![forbid(unsafe_code)]
 
+pub mod answers;
 pub mod book;
 pub mod examples;
 pub mod morning;

@@ -1,7 +1,7 @@
 //! The sheet, and recordings played into a receiver at full capacities.
 
 use crate::packet::{little, Side};
-use crate::receiver::{receive, start, State, SHELF_BYTES};
+use crate::receiver::{receive, start, Answer, State, SHELF_BYTES};
 use crate::tables::*;
 use crate::views::{ladder, live_orders, spread, used_entries};
 
@@ -101,34 +101,54 @@ pub struct Played {
     pub whole: bool,
 }
 
-/// "packets each behind a 2-byte length. It uses full capacities. A refused packet is counted as
-/// bad and passed over; a recording that ends inside a length or packet gives `recording=cut`,
+/// "packets each behind a 2-byte length": the whole packets in order, and whether the recording
+/// ends behind a packet. "a recording that ends inside a length or packet gives `recording=cut`,
 /// and that last piece is dropped, not bad."
+pub fn packets_of(recording: &[u8]) -> (Vec<&[u8]>, bool) {
+    let mut packets = Vec::new();
+    let mut at = 0;
+    while at < recording.len() {
+        let left = recording.len() - at;
+        if left < 2 {
+            return (packets, false);
+        }
+        let length = little(&recording[at..at + 2]) as usize;
+        if length > left - 2 {
+            return (packets, false);
+        }
+        packets.push(&recording[at + 2..at + 2 + length]);
+        at += 2 + length;
+    }
+    (packets, true)
+}
+
+/// "It uses full capacities. A refused packet is counted as bad and passed over".
 pub fn play(recording: &[u8]) -> Result<Played, u8> {
+    play_telling(recording, |_| ())
+}
+
+/// The same, with what `receive` answers to each whole packet told in order.
+pub fn play_telling(
+    recording: &[u8],
+    mut tell: impl FnMut(Result<Answer, u8>),
+) -> Result<Played, u8> {
     let mut orders = vec![0; MOST_ROWS * ROW_NUMBERS];
     let mut symbols = vec![0; MOST_ENTRIES * ENTRY_BYTES];
     let mut shelf = vec![0; SHELF_BYTES];
     let mut state = start(&mut orders, &mut symbols, &mut shelf)?;
     let mut bad = 0;
-    let mut whole = true;
-    let mut at = 0;
-    while at < recording.len() {
-        let left = recording.len() - at;
-        if left < 2 {
-            whole = false;
-            break;
-        }
-        let length = little(&recording[at..at + 2]) as usize;
-        if length > left - 2 {
-            whole = false;
-            break;
-        }
-        let packet = &recording[at + 2..at + 2 + length];
+    let (packets, whole) = packets_of(recording);
+    for packet in packets {
         match receive(state, &mut orders, &mut symbols, &mut shelf, packet) {
-            Ok((after, _)) => state = after,
-            Err(_) => bad += 1,
+            Ok((after, answer)) => {
+                state = after;
+                tell(Ok(answer));
+            }
+            Err(refusal) => {
+                bad += 1;
+                tell(Err(refusal));
+            }
         }
-        at += 2 + length;
     }
     Ok(Played {
         state,
