@@ -5,31 +5,22 @@ use lib.Seq.{length-take-le}
 use borrow.Author.Needs.{needs}
 use Rattle.receiving.proofs.fill.Statement.{statement}
 use Rattle.receiving.proofs.fill.Tie as tie
-use Rattle.receiving.proofs.fill.Reads as reads
-use Rattle.receiving.proofs.fill.Lts as lts
-use Rattle.io.proofs.read_full.Reads as read-full-reads
 
--- src/main.rt:79:9
 returns : tie.Need-returns
 returns c = search needs
 
--- src/main.rt:81:33
 slice-relend-prefix-read-full : tie.Need-slice-relend-prefix-read-full
 slice-relend-prefix-read-full c = search needs
 
--- src/main.rt:81:33
 slice-aggregate-read-full : tie.Need-slice-aggregate-read-full
 slice-aggregate-read-full c = sym (length-take-le (c .before .before .before .args .n) (c .before .before .before .args .held .now) (c .before .if1 .left))
 
--- src/main.rt:81:5
 read-full-requires : tie.Need-read-full-requires
 read-full-requires c κs = search needs
 
--- src/main.rt:77:1
 same-length : tie.Need-same-length
 same-length c = search needs
 
--- src/main.rt:77:1
 returns-2 : tie.Need-returns-2
 returns-2 c = search needs
 

@@ -5,87 +5,61 @@ use lib.Seq.{length-take-le}
 use borrow.Author.Needs.{needs}
 use Rattle.receiving.proofs.give.Statement.{statement}
 use Rattle.receiving.proofs.give.Tie as tie
-use Rattle.receiving.proofs.give.Reads as reads
-use Rattle.receiving.proofs.give.Lts as lts
-use Rattle.io.proofs.write_all.Reads as write-all-reads
-use Rattle.receiver.proofs.receive.Reads as receive-reads
-use Rattle.receiving.proofs.also.Reads as also-reads
-use Rattle.receiving.proofs.end_line.Reads as end-line-reads
-use Rattle.receiving.proofs.show_account.Reads as show-account-reads
 
--- src/main.rt:94:9
 returns : tie.Need-returns
 returns c = search needs
 
--- src/main.rt:96:58
 slice-aggregate-receive : tie.Need-slice-aggregate-receive
 slice-aggregate-receive c = sym (length-take-le (c .before .before .before .before .before .before .before .before .before .args .n) (c .before .before .before .before .before .before .before .before .before .args .held .now) (c .before .before .before .before .if1 .left))
 
--- src/main.rt:96:9
 receive-requires : tie.Need-receive-requires
 receive-requires c κs = search needs
 
--- src/main.rt:100:27
 enum-known-a : tie.Need-enum-known-a
 enum-known-a c = search needs
 
--- src/main.rt:101:42
 slice-aggregate-write-all : tie.Need-slice-aggregate-write-all
 slice-aggregate-write-all c = search needs
 
--- src/main.rt:101:13
 write-all-requires : tie.Need-write-all-requires
 write-all-requires c κs = search needs
 
--- src/main.rt:102:18
 cast-also : tie.Need-cast-also
 cast-also c = search needs
 
--- src/main.rt:102:13
 also-requires : tie.Need-also-requires
 also-requires c κs = search needs
 
--- src/main.rt:103:13
 end-line-requires : tie.Need-end-line-requires
 end-line-requires c κs = search needs
 
--- src/main.rt:105:28
 enum-known-a-2 : tie.Need-enum-known-a-2
 enum-known-a-2 c = search needs
 
--- src/main.rt:105:34
 show-account-requires : tie.Need-show-account-requires
 show-account-requires c κs = search needs
 
--- src/main.rt:85:1
 same-length : tie.Need-same-length
 same-length c = search needs
 
--- src/main.rt:85:1
 same-length-2 : tie.Need-same-length-2
 same-length-2 c = search needs
 
--- src/main.rt:85:1
 same-length-3 : tie.Need-same-length-3
 same-length-3 c = search needs
 
--- src/main.rt:85:1
 returns-2 : tie.Need-returns-2
 returns-2 c = search needs
 
--- src/main.rt:85:1
 same-length-4 : tie.Need-same-length-4
 same-length-4 c = search needs
 
--- src/main.rt:85:1
 same-length-5 : tie.Need-same-length-5
 same-length-5 c = search needs
 
--- src/main.rt:85:1
 same-length-6 : tie.Need-same-length-6
 same-length-6 c = search needs
 
--- src/main.rt:85:1
 returns-3 : tie.Need-returns-3
 returns-3 c = search needs
 

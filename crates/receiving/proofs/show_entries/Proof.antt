@@ -4,11 +4,6 @@ use Prim.Native.Nat.{_-_, _≤_}
 use borrow.Author.Needs.{needs}
 use Rattle.receiving.proofs.show_entries.Statement.{statement}
 use Rattle.receiving.proofs.show_entries.Tie as tie
-use Rattle.receiving.proofs.show_entries.Reads as reads
-use Rattle.receiving.proofs.show_entries.Lts as lts
-use Rattle.receiving.proofs.show_entry.Reads as show-entry-reads
-use Rattle.symbols.proofs.entry_bytes.Reads as entry-bytes-reads
-use Rattle.symbols.proofs.entry_count.Reads as entry-count-reads
 
 abbrev Inv-loop : tie.InvT-loop
 Inv-loop symbols n i₀ i = i ≤ n
@@ -16,35 +11,27 @@ Inv-loop symbols n i₀ i = i ≤ n
 abbrev μ-loop : tie.MeasureT-loop
 μ-loop symbols n i₀ i = n - i
 
--- src/main.rt:157:9
 entry-count-requires : tie.Need-entry-count-requires Inv-loop μ-loop
 entry-count-requires c κs = search needs
 
--- src/main.rt:159:5
 loop-holds : tie.Need-loop-holds Inv-loop μ-loop
 loop-holds c = search needs
 
--- src/main.rt:160:23
 entry-bytes-requires : tie.Need-entry-bytes-requires Inv-loop μ-loop
 entry-bytes-requires c κs = search needs
 
--- src/main.rt:160:9
 show-entry-requires : tie.Need-show-entry-requires Inv-loop μ-loop
 show-entry-requires c κs = search needs
 
--- src/main.rt:161:13
 add-i : tie.Need-add-i Inv-loop μ-loop
 add-i c = search needs
 
--- src/main.rt:159:5
 loop-less : tie.Need-loop-less Inv-loop μ-loop
 loop-less c = search needs
 
--- src/main.rt:159:5
 loop-again : tie.Need-loop-again Inv-loop μ-loop
 loop-again c = search needs
 
--- src/main.rt:156:1
 returns : tie.Need-returns Inv-loop μ-loop
 returns c = search needs
 

@@ -4,10 +4,6 @@ use Prim.Native.Nat.{_-_, _≤_}
 use borrow.Author.Needs.{needs}
 use Rattle.receiving.proofs.show_rows.Statement.{statement}
 use Rattle.receiving.proofs.show_rows.Tie as tie
-use Rattle.receiving.proofs.show_rows.Reads as reads
-use Rattle.receiving.proofs.show_rows.Lts as lts
-use Rattle.receiving.proofs.show_row.Reads as show-row-reads
-use Rattle.rows.proofs.row_at.Reads as row-at-reads
 
 abbrev Inv-loop : tie.InvT-loop
 Inv-loop orders n i₀ i = i ≤ n
@@ -15,31 +11,24 @@ Inv-loop orders n i₀ i = i ≤ n
 abbrev μ-loop : tie.MeasureT-loop
 μ-loop orders n i₀ i = n - i
 
--- src/main.rt:136:5
 loop-holds : tie.Need-loop-holds Inv-loop μ-loop
 loop-holds c = search needs
 
--- src/main.rt:137:21
 row-at-requires : tie.Need-row-at-requires Inv-loop μ-loop
 row-at-requires c κs = search needs
 
--- src/main.rt:137:9
 show-row-requires : tie.Need-show-row-requires Inv-loop μ-loop
 show-row-requires c κs = search needs
 
--- src/main.rt:138:13
 add-i : tie.Need-add-i Inv-loop μ-loop
 add-i c = search needs
 
--- src/main.rt:136:5
 loop-less : tie.Need-loop-less Inv-loop μ-loop
 loop-less c = search needs
 
--- src/main.rt:136:5
 loop-again : tie.Need-loop-again Inv-loop μ-loop
 loop-again c = search needs
 
--- src/main.rt:133:1
 returns : tie.Need-returns Inv-loop μ-loop
 returns c = search needs
 

@@ -5,23 +5,16 @@ use lib.Seq.{length-take-le}
 use borrow.Author.Needs.{needs}
 use Rattle.receiving.proofs.show_text.Statement.{statement}
 use Rattle.receiving.proofs.show_text.Tie as tie
-use Rattle.receiving.proofs.show_text.Reads as reads
-use Rattle.receiving.proofs.show_text.Lts as lts
-use Rattle.io.proofs.write_all.Reads as write-all-reads
 
--- src/main.rt:232:9
 returns : tie.Need-returns
 returns c = search needs
 
--- src/main.rt:234:34
 slice-aggregate-write-all : tie.Need-slice-aggregate-write-all
 slice-aggregate-write-all c = sym (length-take-le (c .before .before .before .args .n) (c .before .before .before .args .t .now) (c .before .if1 .left))
 
--- src/main.rt:234:5
 write-all-requires : tie.Need-write-all-requires
 write-all-requires c κs = search needs
 
--- src/main.rt:230:1
 returns-2 : tie.Need-returns-2
 returns-2 c = search needs
 

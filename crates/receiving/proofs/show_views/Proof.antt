@@ -6,10 +6,6 @@ use lib.ListN.{length}
 use borrow.Author.Needs.{needs}
 use Rattle.receiving.proofs.show_views.Statement.{statement}
 use Rattle.receiving.proofs.show_views.Tie as tie
-use Rattle.receiving.proofs.show_views.Reads as reads
-use Rattle.receiving.proofs.show_views.Lts as lts
-use Rattle.receiving.proofs.show_used.Reads as show-used-reads
-use Rattle.symbols.proofs.entry_count.Reads as entry-count-reads
 
 abbrev Inv-loop : tie.InvT-loop
 Inv-loop orders symbols levels₀ n i₀ levels i = (length levels ≡ length levels₀) × (i ≤ n)
@@ -17,35 +13,27 @@ Inv-loop orders symbols levels₀ n i₀ levels i = (length levels ≡ length le
 abbrev μ-loop : tie.MeasureT-loop
 μ-loop orders symbols levels₀ n i₀ levels i = n - i
 
--- src/main.rt:180:9
 entry-count-requires : tie.Need-entry-count-requires Inv-loop μ-loop
 entry-count-requires c κs = search needs
 
--- src/main.rt:182:5
 loop-holds : tie.Need-loop-holds Inv-loop μ-loop
 loop-holds c = search needs
 
--- src/main.rt:183:9
 show-used-requires : tie.Need-show-used-requires Inv-loop μ-loop
 show-used-requires c κs = search needs
 
--- src/main.rt:184:13
 add-i : tie.Need-add-i Inv-loop μ-loop
 add-i c = search needs
 
--- src/main.rt:182:5
 loop-less : tie.Need-loop-less Inv-loop μ-loop
 loop-less c = search needs
 
--- src/main.rt:182:5
 loop-again : tie.Need-loop-again Inv-loop μ-loop
 loop-again c = search needs
 
--- src/main.rt:179:1
 same-length : tie.Need-same-length Inv-loop μ-loop
 same-length c = search needs
 
--- src/main.rt:179:1
 returns : tie.Need-returns Inv-loop μ-loop
 returns c = search needs
 
