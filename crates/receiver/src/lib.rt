@@ -347,8 +347,8 @@ pub fn start(orders: &mut [u64], symbols: &mut [u8], shelf: &mut [u8]) -> Starte
         return Started::Refused(Refusal { number: 6 });
     }
     rows::wipe_rows(orders);
-    symbols::wipe(symbols);
-    shelf::wipe(shelf);
+    wire::wipe(symbols);
+    wire::wipe(shelf);
     Started::Ready(State {
         next: 1,
         second: 0,

@@ -2,7 +2,7 @@
 // Each function answers for a slice of any length, any slot and any body; a slot that is not there reads as an empty one and is not written.
 ghost use mathlib.Core.Path.{_≡_};
 ghost use mathlib.Core.List.{[]};
-ghost use lib.ListN.{length, getD, replicate};
+ghost use lib.ListN.{length, getD};
 ghost use Rattle.facts.specs.Pieces.{pieces};
 ghost use Rattle.wire.specs.Le.{padded};
 ghost use Rattle.arbitration.specs.Slots.{emptySlot, slotFor, slotBody, sameBytes, sameSlot};
@@ -122,18 +122,6 @@ pub fn put(s: &mut [u8], i: usize, number: u64, body: &[u8])
     fill(&mut s[at..at + SLOT], number, body);
 }
 
-// Every byte of a slice of any length.
-pub fn wipe(s: &mut [u8])
-    ensures { λ _. ⌜ now (s .exit) ≡ replicate (length (now (s .entry))) 0 ⌝ }
-{
-    let n = s.len();
-    let mut k: usize = 0;
-    while k < n {
-        s[k] = 0;
-        k += 1;
-    }
-}
-
 // Zeroes slot i.
 pub fn empty(s: &mut [u8], i: usize)
     ensures { λ _. ⌜ now (s .exit) ≡ putSlot (now (s .entry)) i emptySlot ⌝ }
@@ -142,7 +130,7 @@ pub fn empty(s: &mut [u8], i: usize)
         return;
     }
     let at = SLOT * i;
-    wipe(&mut s[at..at + SLOT]);
+    wire::wipe(&mut s[at..at + SLOT]);
 }
 
 // The largest number in any of the 64 slots, 0 if none.

@@ -2,7 +2,7 @@
 // only `entry_count`, `entry_in` and `put_entry` know where an entry lies.
 ghost use mathlib.Core.Path.{_≡_};
 ghost use Prim.Native.Nat.{_<_};
-ghost use lib.ListN.{length, getD, replicate};
+ghost use lib.ListN.{length, getD};
 ghost use mathlib.Core.List.{[]};
 ghost use Rattle.fields.specs.Fields.{symbolOf};
 ghost use Rattle.symbols.specs.Entries.{goodEntries, entries, putEntry, used, freeEntry};
@@ -190,16 +190,4 @@ pub fn count_used(t: &[u8]) -> usize
         i += 1;
     }
     count
-}
-
-// Every byte of a table of any length.
-pub fn wipe(t: &mut [u8])
-    ensures { λ _. ⌜ now (t .exit) ≡ replicate (length (now (t .entry))) 0 ⌝ }
-{
-    let n = t.len();
-    let mut i = 0;
-    while i < n {
-        t[i] = 0;
-        i += 1;
-    }
 }

@@ -2,7 +2,7 @@
 // A byte past the end counts as 0, so that every function here answers for any slice and any place.
 ghost use mathlib.Core.Path.{_≡_};
 ghost use Prim.Native.Nat.{_+_};
-ghost use lib.ListN.{length, getD};
+ghost use lib.ListN.{length, getD, replicate};
 ghost use Rattle.wire.specs.Le.{field, padded};
 
 pub fn u8_at(b: &[u8], at: usize) -> u8
@@ -79,4 +79,16 @@ pub fn eleven_at(b: &[u8], at: usize) -> [u8; 11]
     let mut out = [0u8; 11];
     copy_at(b, at, &mut out);
     out
+}
+
+// Every byte of a slice of any length, zeroed.
+pub fn wipe(t: &mut [u8])
+    ensures { λ _. ⌜ now (t .exit) ≡ replicate (length (now (t .entry))) 0 ⌝ }
+{
+    let n = t.len();
+    let mut i = 0;
+    while i < n {
+        t[i] = 0;
+        i += 1;
+    }
 }

@@ -7,8 +7,8 @@ use lib.ListN.{length, getD, replicate, length-set}
 use borrow.Author.Needs.{needs}
 use Rattle.facts.proofs.Lists.{write-more}
 use Rattle.facts.proofs.PieceLaws.{is-replicate}
-use Rattle.symbols.proofs.wipe.Statement.{statement}
-use Rattle.symbols.proofs.wipe.Tie as tie
+use Rattle.wire.proofs.wipe.Statement.{statement}
+use Rattle.wire.proofs.wipe.Tie as tie
 
 abbrev Inv-loop : tie.InvT-loop
 Inv-loop t₀ n i₀ t i = (i ≤ n) × (n ≡ length t₀) × (length t ≡ n) × ((k : ℕ) → k < i → getD t k 0 ≡ 0)
