@@ -7,6 +7,7 @@
 
 pub mod answers;
 pub mod book;
+pub mod command;
 pub mod examples;
 pub mod morning;
 pub mod packet;
