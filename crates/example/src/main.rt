@@ -1,0 +1,78 @@
+// The shortest way from a recording to its sheet, for who starts with the library: lend tables, start a receiver, feed it, print.
+use answer_sheet::Recording;
+use answer_sheet::SheetAnswer;
+use libc::STDIN_FILENO;
+use libc::STDOUT_FILENO;
+use receiver::Started;
+use receiver::State;
+use recording::Fed;
+use recording::Stream;
+
+// Three rows and one entry: what document 01's example needs.
+fn main() {
+    let mut orders = [0u64; 15];
+    let mut symbols = [0u8; 42];
+    let mut shelf = [0u8; 4736];
+    let mut hold = [0u8; 1502];
+    let mut block = [0u8; 4096];
+    let mut text = [0u8; 4096];
+    play(
+        &mut orders,
+        &mut symbols,
+        &mut shelf,
+        &mut hold,
+        &mut block,
+        &mut text,
+    );
+}
+
+fn play(
+    orders: &mut [u64],
+    symbols: &mut [u8],
+    shelf: &mut [u8],
+    hold: &mut [u8],
+    block: &mut [u8],
+    text: &mut [u8],
+) {
+    match receiver::start(orders, symbols, shelf) {
+        Started::Refused(_) => refused(),
+        Started::Ready(s) => {
+            let n = io::read_full(STDIN_FILENO, block);
+            feed(orders, symbols, shelf, hold, s, &block[..n], text);
+        }
+    }
+}
+
+fn feed(
+    orders: &mut [u64],
+    symbols: &mut [u8],
+    shelf: &mut [u8],
+    hold: &mut [u8],
+    s: State,
+    chunk: &[u8],
+    text: &mut [u8],
+) {
+    match recording::feed(orders, symbols, shelf, hold, recording::open(s), chunk) {
+        Fed::Refused(_) => refused(),
+        Fed::Took(t) => print(orders, symbols, t, text),
+    }
+}
+
+fn print(orders: &[u64], symbols: &[u8], t: Stream, text: &mut [u8]) {
+    let state = t.receiver;
+    match answer_sheet::sheet(text, orders, symbols, state, t.bad, Recording::Whole) {
+        SheetAnswer::Refused(_) => refused(),
+        SheetAnswer::Written(n) => show(text, n),
+    }
+}
+
+fn show(text: &[u8], n: usize) {
+    if text.len() < n {
+        return;
+    }
+    io::write_all(STDOUT_FILENO, &text[..n]);
+}
+
+fn refused() {
+    io::write_all(STDOUT_FILENO, b"refused\n");
+}

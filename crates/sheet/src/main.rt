@@ -1,0 +1,229 @@
+// Reads a recording from standard input and prints its answer sheet on standard output. Nothing that matters lives here: packets are
+// carved out by `recording`, and the sheet is what `answer_sheet` writes.
+use answer_sheet::Recording;
+use answer_sheet::SheetAnswer;
+use libc::STDERR_FILENO;
+use libc::STDIN_FILENO;
+use libc::STDOUT_FILENO;
+use receiver::Started;
+use recording::Fed;
+use recording::Stream;
+
+// What the program is asked for.
+pub enum Asked {
+    Sheet,
+    Help,
+    Version,
+    Unknown,
+}
+
+// What came of reading once.
+pub enum Turn {
+    More(Stream),
+    End(Stream),
+    Failed,
+    Refused,
+}
+
+// Each array is lent once, and no element of one is read or stored here.
+fn main() {
+    let mut orders = [0u64; 8000];
+    let mut symbols = [0u8; 42000];
+    let mut shelf = [0u8; 4736];
+    let mut hold = [0u8; 1502];
+    let mut block = [0u8; 65536];
+    let mut text = [0u8; 1500000];
+    lend(
+        &mut orders,
+        &mut symbols,
+        &mut shelf,
+        &mut hold,
+        &mut block,
+        &mut text,
+    );
+}
+
+// The arrays become slices here: at an array's reference no length is asked, however long it is.
+fn lend(
+    orders: &mut [u64; 8000],
+    symbols: &mut [u8; 42000],
+    shelf: &mut [u8; 4736],
+    hold: &mut [u8; 1502],
+    block: &mut [u8; 65536],
+    text: &mut [u8; 1500000],
+) {
+    answer(orders, symbols, shelf, hold, block, text);
+}
+
+fn answer(
+    orders: &mut [u64],
+    symbols: &mut [u8],
+    shelf: &mut [u8],
+    hold: &mut [u8],
+    block: &mut [u8],
+    text: &mut [u8],
+) {
+    match asked() {
+        Asked::Help => help(),
+        Asked::Version => say(STDOUT_FILENO, b"rimeheath 1.0, for DoM 1.3.b\n"),
+        Asked::Unknown => say(
+            STDERR_FILENO,
+            b"rimeheath: sheet takes no word but --help and --version; the recording comes on standard input\n",
+        ),
+        Asked::Sheet => work(orders, symbols, shelf, hold, block, text),
+    }
+}
+
+fn say(fd: i32, words: &[u8]) {
+    io::write_all(fd, words);
+}
+
+fn help() {
+    say(
+        STDOUT_FILENO,
+        b"Reads a recording from standard input, packets each behind a 2-byte length,\n",
+    );
+    say(
+        STDOUT_FILENO,
+        b"and prints the order book that it leaves as an answer sheet.\n",
+    );
+    say(
+        STDOUT_FILENO,
+        b"  --help     prints this\n  --version  prints the program's version\n",
+    );
+}
+
+// One word is understood; a second makes both unknown.
+fn asked() -> Asked {
+    let count = os::arg_count();
+    if count <= 1 {
+        return Asked::Sheet;
+    }
+    if 2 < count {
+        return Asked::Unknown;
+    }
+    let mut word = [0u8; 16];
+    let n = os::arg(1, &mut word);
+    if os::errno() != 0 {
+        return Asked::Unknown;
+    }
+    if check::same(&word[..n], b"--help") {
+        return Asked::Help;
+    }
+    if check::same(&word[..n], b"--version") {
+        return Asked::Version;
+    }
+    Asked::Unknown
+}
+
+fn work(
+    orders: &mut [u64],
+    symbols: &mut [u8],
+    shelf: &mut [u8],
+    hold: &mut [u8],
+    block: &mut [u8],
+    text: &mut [u8],
+) {
+    match receiver::start(orders, symbols, shelf) {
+        Started::Refused(_) => refused(),
+        Started::Ready(s) => {
+            let end = read_all(orders, symbols, shelf, hold, block, recording::open(s));
+            match end {
+                Turn::End(t) => print(orders, symbols, text, t),
+                Turn::More(_) => refused(),
+                Turn::Failed => os::fail(b"rimeheath: standard input"),
+                Turn::Refused => refused(),
+            }
+        }
+    }
+}
+
+// Never reached with this program's tables; said rather than a wrong sheet printed.
+fn refused() {
+    say(STDERR_FILENO, b"rimeheath: the tables were refused\n");
+}
+
+// A proved loop has to end, so it counts its turns down from a number that no recording uses up.
+fn read_all(
+    orders: &mut [u64],
+    symbols: &mut [u8],
+    shelf: &mut [u8],
+    hold: &mut [u8],
+    block: &mut [u8],
+    start: Stream,
+) -> Turn {
+    let watched = libc::isatty(STDERR_FILENO) != 0;
+    let mut s = start;
+    let mut turns = u64::MAX;
+    while 0 < turns {
+        let t = turn(orders, symbols, shelf, hold, block, s);
+        let Turn::More(next) = t else {
+            return t;
+        };
+        s = next;
+        turns = turns - 1;
+        if watched {
+            show_progress(u64::MAX - turns);
+        }
+    }
+    Turn::More(s)
+}
+
+// Reads once and feeds what came. A read that a signal broke off is tried again.
+fn turn(
+    orders: &mut [u64],
+    symbols: &mut [u8],
+    shelf: &mut [u8],
+    hold: &mut [u8],
+    block: &mut [u8],
+    s: Stream,
+) -> Turn {
+    let got = libc::read(STDIN_FILENO, block);
+    if got < 0 {
+        return if os::errno() == libc::EINTR {
+            Turn::More(s)
+        } else {
+            Turn::Failed
+        };
+    }
+    if got == 0 {
+        return Turn::End(s);
+    }
+    let n = io::count(got, block);
+    match recording::feed(orders, symbols, shelf, hold, s, &block[..n]) {
+        Fed::Took(t) => Turn::More(t),
+        Fed::Refused(_) => Turn::Refused,
+    }
+}
+
+// A line for who watches a long recording, now and then.
+fn show_progress(blocks: u64) {
+    if blocks % 1024 != 0 {
+        return;
+    }
+    say(STDERR_FILENO, b"rimeheath: blocks read: ");
+    io::print_decimal(STDERR_FILENO, blocks);
+    say(STDERR_FILENO, b"\n");
+}
+
+fn print(orders: &[u64], symbols: &[u8], text: &mut [u8], s: Stream) {
+    let word = if recording::is_cut(s) {
+        Recording::Cut
+    } else {
+        Recording::Whole
+    };
+    let state = s.receiver;
+    match answer_sheet::sheet(text, orders, symbols, state, s.bad, word) {
+        SheetAnswer::Written(n) => show(text, n),
+        SheetAnswer::Refused(_) => refused(),
+    }
+}
+
+fn show(text: &[u8], n: usize) {
+    if text.len() < n {
+        return;
+    }
+    if !io::write_all(STDOUT_FILENO, &text[..n]) {
+        os::fail(b"rimeheath: standard output");
+    }
+}
