@@ -1,8 +1,8 @@
--- Every known result of P1 to P12 is what the definitions answer, because both lists compute to the same numbers.
+-- The definitions answer every question of the table with its known result, because both sides compute to the same numbers: the lines after
+-- `unfolding` name the definitions on the way from a packet's bytes to an answer, and `refl` runs them on the whole shelf.
 -- Assumes nothing.
-use Prim.Native.Nat.{ℕ}
 use mathlib.Core.Path.{_≡_, refl}
-use mathlib.Core.List.{List, [], _∷_, map}
+use mathlib.Core.List.{[], _∷_, map}
 use Rattle.facts.specs.Pick.{pick, both, either}
 use Rattle.facts.specs.Search.{first}
 use Rattle.facts.specs.Pieces.{cut, pieces, join, putPiece}
@@ -41,6 +41,7 @@ pub all-there : map (λ e. e .P) table ≡ 1 ∷ 2 ∷ 3 ∷ 4 ∷ 5 ∷ 6 ∷ 7
 unfolding table
 all-there = refl
 
+-- the one test, of the whole table
 pub all-right : exercises.tableAnswers table ≡ exercises.tableResults table
 unfolding table
     exercises.begins exercises.goesOn exercises.ofAccount exercises.differ exercises.changes exercises.rankIn exercises.rankOf exercises.aheadIn exercises.aheadOf

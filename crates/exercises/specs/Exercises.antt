@@ -1,7 +1,7 @@
 -- What an exercise is: a receiver is started, gets packets and is asked, and each question stands with its known result. What the definitions of the
 -- other crates answer is worked out beside it.
 use Prim.Native.Nat.{ℕ, suc, _+_, _*_}
-use mathlib.Core.List.{List, [], _∷_, _++_}
+use mathlib.Core.List.{List, [], _∷_}
 use lib.Dec.{ltb}
 use lib.IntN.{ℤ, pos, negsuc}
 use lib.ListN.{getD}
@@ -162,7 +162,7 @@ known (start orders symbols ∷ ss) = known ss
 known (gets p ∷ ss) = known ss
 known (result a t ∷ ss) = t ∷ known ss
 
--- of a whole table; before its first start there is a receiver without room
+-- exercise by exercise; until an exercise starts a receiver, there is one without room
 unfoldable pub tableAnswers : List Exercise → List (List Told)
 tableAnswers [] = []
 tableAnswers (e ∷ es) = answers (e .steps) (begins 0 0) ∷ tableAnswers es

@@ -35,6 +35,13 @@ unfoldable pub addOrder : ℕ → ℕ → ℕ → ℕ → ℕ → List ℕ
 addOrder symbol order side price size =
     20 ∷ nanoseconds ++ (toLe 4 symbol ++ (toLe 8 order ++ (side ∷ toLe 8 price ++ (toLe 4 size ++ replicate 4 32))))
 
+-- "in flags, bit 0 tells the position"
+abbrev pub bit0Clear : ℕ
+bit0Clear = 0
+
+abbrev pub bit0Set : ℕ
+bit0Set = 1
+
 -- "Modify Order": symbol 5-8, order 9-16, price 17-24, size 25-28, flags 29
 unfoldable pub modifyOrder : ℕ → ℕ → ℕ → ℕ → ℕ → List ℕ
 modifyOrder symbol order price size flags =

@@ -1,8 +1,9 @@
--- Document 01, "Exercises with known results": P1 to P12, one table of what is given and what is told. That the definitions tell all of it is
--- proofs/Right.antt.
+-- Document 01, "Exercises with known results": P1 to P12 as one table, each with its sentence, what a receiver gets, and the results. That the
+-- definitions answer just so is `all-right` of proofs/Right.antt. Prices are in millionths. Where the paper names no capacity there is room for 4
+-- orders and 1 symbol, which is all that is needed.
 use mathlib.Core.List.{List, [], _∷_, _++_}
 use lib.ListN.{replicate}
-use Rattle.exercises.specs.Messages.{numbered, systemTime, symbolUpdate, addOrder, modifyOrder, execution, buy, sell, abc, ofExample, wholeExample}
+use Rattle.exercises.specs.Messages.{numbered, systemTime, symbolUpdate, addOrder, modifyOrder, bit0Set, bit0Clear, execution, buy, sell, abc, ofExample, wholeExample}
 use Rattle.exercises.specs.Exercises.{Exercise, exercise, start, gets, _is_, _isMinus_, gone, taken, old, tooFar, applied, next, stop, refused, changed, rank, ahead, spread, price}
 
 unfoldable pub table : List Exercise
@@ -37,13 +38,13 @@ table =
     ∷ exercise 5
     (start 4 1
     ∷ gets wholeExample ∷ applied is 5 ∷ rank 500 is 3 ∷ rank 502 is 5 ∷ ahead 500 502 is 500
-    ∷ gets (numbered 6 (modifyOrder 7 500 10000000 80 1)) ∷ applied is 1 ∷ rank 500 is 6 ∷ ahead 500 502 is 502
+    ∷ gets (numbered 6 (modifyOrder 7 500 10000000 80 bit0Set)) ∷ applied is 1 ∷ rank 500 is 6 ∷ ahead 500 502 is 502
     ∷ [])
     -- "bit 0 clear: rank 3, ahead"
     ∷ exercise 6
     (start 4 1
     ∷ gets wholeExample
-    ∷ gets (numbered 6 (modifyOrder 7 500 10000000 80 0)) ∷ applied is 1 ∷ rank 500 is 3 ∷ ahead 500 502 is 500
+    ∷ gets (numbered 6 (modifyOrder 7 500 10000000 80 bit0Clear)) ∷ applied is 1 ∷ rank 500 is 3 ∷ ahead 500 502 is 500
     ∷ [])
     -- "execution of 100 on 500: gone; a new Add of 500 is good"
     ∷ exercise 7
@@ -56,7 +57,7 @@ table =
     ∷ exercise 8
     (start 4 1
     ∷ gets wholeExample ∷ stop is 0
-    ∷ gets (numbered 6 (execution 7 500 10000000 101)) ∷ applied is 0 ∷ stop is 24 ∷ rank 500 is 3
+    ∷ gets (numbered 6 (execution 7 500 10000000 101)) ∷ applied is 0 ∷ next is 6 ∷ stop is 24
     ∷ [])
     -- "bid 10.020000, offer 10.000000: spread -20000"
     ∷ exercise 9
