@@ -1,0 +1,75 @@
+-- The definitions answer every question of the table with its known result, because both sides compute to the same numbers: the lines after
+-- `unfolding` name the definitions on the way from a packet's bytes to an answer, and `refl` runs them on the whole shelf.
+-- Assumes nothing.
+use mathlib.Core.Path.{_≡_, refl}
+use mathlib.Core.List.{[], _∷_, map}
+use Rattle.facts.specs.Pick.{pick, both, either}
+use Rattle.facts.specs.Search.{first}
+use Rattle.facts.specs.Pieces.{cut, pieces, join, putPiece}
+use Rattle.facts.specs.Sums.{sumBy, onlyIf, countBy}
+use Rattle.wire.specs.Le.{le, field, padded}
+use Rattle.kinds.specs.Table as kinds
+use Rattle.fields.specs.Fields as fields
+use Rattle.body.specs.Ranges as ranges
+use Rattle.body.specs.Faults as faults
+use Rattle.body.specs.Read as read
+use Rattle.packet.specs.Record as head
+use Rattle.packet.specs.Packet as packet
+use Rattle.rows.specs.Rows as rows
+use Rattle.rows.specs.Find as find-row
+use Rattle.ascend.specs.Ascend as ascend
+use Rattle.symbols.specs.Entries as entries
+use Rattle.symbols.specs.Find as find-entry
+use Rattle.symbols.specs.Update as update
+use Rattle.orders.specs.Rules as orders
+use Rattle.book.specs.Rules as rules
+use Rattle.book.specs.Book as book
+use Rattle.views.specs.Ladder as ladder
+use Rattle.views.specs.Spread as spread
+use Rattle.views.specs.Views as views
+use Rattle.arbitration.specs.Slots as slots
+use Rattle.arbitration.specs.Receive as theory
+use Rattle.shelf.specs.Shelf as shelf
+use Rattle.receiver.specs.Rules as engine
+use Rattle.receiver.specs.Lent as receiver
+use Rattle.exercises.specs.Messages as messages
+use Rattle.exercises.specs.Exercises as exercises
+use Rattle.exercises.specs.Table.{table}
+
+-- P1 to P12, each once
+pub all-there : map (λ e. e .P) table ≡ 1 ∷ 2 ∷ 3 ∷ 4 ∷ 5 ∷ 6 ∷ 7 ∷ 8 ∷ 9 ∷ 10 ∷ 11 ∷ 12 ∷ []
+unfolding table
+all-there = refl
+
+-- the one test, of the whole table
+pub all-right : exercises.tableAnswers table ≡ exercises.tableResults table
+unfolding table
+    exercises.begins exercises.goesOn exercises.ofAccount exercises.differ exercises.changes exercises.rankIn exercises.rankOf exercises.aheadIn exercises.aheadOf
+    exercises.signed exercises.ofSpread exercises.answerTo exercises.answers exercises.known exercises.tableAnswers exercises.tableResults
+    messages.numbered messages.systemTime messages.symbolUpdate messages.addOrder messages.modifyOrder messages.execution messages.example messages.ofExample messages.wholeExample
+    pick both either first cut pieces join putPiece sumBy onlyIf countBy le field padded
+    kinds.table kinds.lookup kinds.lengthOf kinds.kindOf
+    fields.decoded
+    ranges.oneOf ranges.sideOk ranges.priceOk ranges.sizeOk ranges.testOk ranges.marketOk ranges.flagsOk
+    faults.faultAt faults.firstOf faults.dealFault faults.faultOf
+    read.framed read.judged read.readBody read.goodBody
+    head.numberOk head.bodyOf head.bodyJudged head.readRecord
+    packet.before packet.behind packet.framesFrom packet.framing
+    rows.rowOf rows.numbersOf rows.rows rows.putRow rows.zeroRow rows.free rows.live rows.maxRows rows.goodRows
+    find-row.isOrder find-row.findOrder find-row.findFree find-row.ofKey
+    ascend.ins ascend.places
+    entries.entrySize entries.maxEntries entries.goodEntries entries.entries entries.rest entries.entryOf entries.used entries.freeEntry
+    find-entry.isSymbol find-entry.findSymbol find-entry.findFreeEntry find-entry.knownSymbol find-entry.placeFor
+    update.updatedAt update.updated update.onEntries
+    orders.roomIn orders.roomFor orders.targetIn orders.target orders.fillIn orders.fillOf orders.remade orders.reduced orders.upon orders.added orders.modified orders.executed
+    rules.sideOf rules.moves rules.rowFor rules.ofKnown rules.addRule rules.modifyRule rules.executionRule rules.symbolRule
+    book.appliedBy book.applied
+    ladder.keyOf ladder.far ladder.placesOf ladder.prices
+    spread.between spread.spreadOf
+    views.goodTables views.viewFault views.spreadView
+    slots.sameBytes slots.sameSlot
+    theory.judge theory.goodSlot theory.highest theory.count theory.countsOf theory.try theory.stop theory.drain theory.after theory.run theory.said theory.told
+    shelf.shelfSize shelf.goodShelf shelf.toLe shelf.slotOf shelf.bytesOf shelf.slotAt shelf.putSlot
+    engine.appliedTo
+    receiver.received receiver.framed receiver.sizesOk receiver.nextOk
+all-right = refl
