@@ -174,8 +174,9 @@ fn ticker_line(buf: &mut [u8], at: usize, t: [u8; 11]) -> usize
 fn symbol_lines(buf: &mut [u8], at: usize, e: Symbol) -> usize
     ensures { λ r. ⌜ Wrote (now (buf .entry)) at (symbolLines e) (now (buf .exit)) r ⌝ }
 {
+    let ticker = e.ticker;
     let o = text::line(buf, at, b"symbol=", e.id as u64);
-    let p = ticker_line(buf, o, e.ticker);
+    let p = ticker_line(buf, o, ticker);
     text::line(buf, p, b"lot=", e.lot as u64)
 }
 

@@ -1,43 +1,40 @@
+-- A spread and a ladder without a fault are those of the rows, and three appends follow one another.
+-- Assumes nothing.
+use mathlib.Core.Path.{sym, ap, _∙_}
+use Rattle.views.proofs.ViewLaws.{spread-shown}
+use Rattle.answer_sheet.specs.Keys.{bidKey, askKey}
+use Rattle.answer_sheet.specs.Sheet.{spreadLine, bookLines}
+use Rattle.text.proofs.Laws.{wrote-as, wrote-then}
 use borrow.Author.Needs.{needs}
 use Rattle.answer_sheet.proofs.book_lines.Statement.{statement}
 use Rattle.answer_sheet.proofs.book_lines.Tie as tie
-use Rattle.answer_sheet.proofs.book_lines.Reads as reads
-use Rattle.answer_sheet.proofs.book_lines.Lts as lts
-use Rattle.answer_sheet.proofs.side_lines.Reads as side-lines-reads
-use Rattle.answer_sheet.proofs.spread_line.Reads as spread-line-reads
-use Rattle.views.proofs.spread.Reads as spread-reads
 
--- src/lib.rt:161:34
 spread-requires : tie.Need-spread-requires
 spread-requires c κs = search needs
 
--- src/lib.rt:161:9
 spread-line-requires : tie.Need-spread-line-requires
 spread-line-requires c κs = search needs
 
--- src/lib.rt:162:32
 slice-aggregate-side-lines : tie.Need-slice-aggregate-side-lines
 slice-aggregate-side-lines c = search needs
 
--- src/lib.rt:162:9
 side-lines-requires : tie.Need-side-lines-requires
 side-lines-requires c κs = search needs
 
--- src/lib.rt:163:24
 slice-aggregate-side-lines-2 : tie.Need-slice-aggregate-side-lines-2
 slice-aggregate-side-lines-2 c = search needs
 
--- src/lib.rt:163:5
 side-lines-requires-2 : tie.Need-side-lines-requires-2
 side-lines-requires-2 c κs = search needs
 
--- src/lib.rt:157:1
 same-length : tie.Need-same-length
 same-length c = search needs
 
--- src/lib.rt:157:1
 returns : tie.Need-returns
-returns c = ?
+unfolding bookLines bidKey askKey
+returns c =
+    let a = c .before .before .before .before .before .before .before .before .before .before .before .before .before .before .before .before .before .before .args in
+      wrote-then (wrote-as (ap spreadLine (c .before .before .before .before .before .before .before .before .before .before .before .before .before .spread .ensures ∙ sym (spread-shown (a .id) (a .orders .now) (a .symbols .now) (c .before .before .before .before .before .before .before .before .before .before .before .before .before .before .before .before .before .before .pre)))) (c .before .before .before .before .before .before .before .before .before .before .before .before .spread-line .ensures)) (wrote-then (c .before .before .before .before .before .before .before .side-lines .ensures) (c .before .before .side-lines2 .ensures))
 
 pub book-lines-spec : {M : Type 1} → statement M
 book-lines-spec =

@@ -1,39 +1,32 @@
+-- The run holds the first ten levels (level-stands), and their lines are those of the side.
+-- Assumes nothing.
+use mathlib.Core.Path.{refl}
+use Rattle.text.proofs.Laws.{wrote-as}
+use Rattle.answer_sheet.proofs.Views.{ladder-lines, ladder-fits}
 use borrow.Author.Needs.{needs}
 use Rattle.answer_sheet.proofs.side_lines.Statement.{statement}
 use Rattle.answer_sheet.proofs.side_lines.Tie as tie
-use Rattle.answer_sheet.proofs.side_lines.Reads as reads
-use Rattle.answer_sheet.proofs.side_lines.Lts as lts
-use Rattle.answer_sheet.proofs.levels.Reads as levels-reads
-use Rattle.answer_sheet.proofs.levels_shown.Reads as levels-shown-reads
-use Rattle.views.proofs.ladder.Reads as ladder-reads
 
--- src/lib.rt:134:54
 slice-aggregate-ladder : tie.Need-slice-aggregate-ladder
 slice-aggregate-ladder c = search needs
 
--- src/lib.rt:134:9
 ladder-requires : tie.Need-ladder-requires
 ladder-requires c κs = search needs
 
--- src/lib.rt:135:26
 slice-aggregate-levels : tie.Need-slice-aggregate-levels
 slice-aggregate-levels c = search needs
 
--- src/lib.rt:135:32
 levels-shown-requires : tie.Need-levels-shown-requires
 levels-shown-requires c κs = search needs
 
--- src/lib.rt:135:5
 levels-requires : tie.Need-levels-requires
-levels-requires c κs = ?
+levels-requires c κs = let a = c .before .before .before .before .before .before .before .before .before .before .args in ladder-fits (a .side) (a .id) (a .orders .now) (a .symbols .now) _ (c .before .before .before .before .before .before .before .before .before .before .pre) _ _ (c .before .before .before .before .ladder .ensures) _ refl (c .levels-shown .ensures)
 
--- src/lib.rt:121:1
 same-length : tie.Need-same-length
 same-length c = search needs
 
--- src/lib.rt:121:1
 returns : tie.Need-returns
-returns c = ?
+returns c = let a = c .before .before .before .before .before .before .before .before .before .before .before .before .before .args in wrote-as (ladder-lines (a .side) (a .id) (a .orders .now) (a .symbols .now) _ (c .before .before .before .before .before .before .before .before .before .before .before .before .before .pre) _ _ (c .before .before .before .before .before .before .before .ladder .ensures) (a .key .now) _ refl (c .before .before .before .levels-shown .ensures)) (c .before .before .levels .ensures)
 
 pub side-lines-spec : {M : Type 1} → statement M
 side-lines-spec =

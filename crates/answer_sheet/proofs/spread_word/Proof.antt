@@ -37,7 +37,7 @@ same-length c = search needs
 
 returns : tie.Need-returns
 unfolding spreadWord
-returns c = rw (c .before .before .before .before .before .a .given .1) (wrote-as (ap signedOf (toZ-ofZ w64 (c .before .before .before .before .before .a .given .0 .0) (c .before .before .before .before .known-told .given .0))) (c .before .before .signed .ensures))
+returns c = rw (c .before .before .before .before .before .a .given .1) (wrote-as (ap signedOf (toZ-ofZ w64 (c .before .before .before .before .before .a .given .0 .0) (record { sfits = c .before .before .before .before .known-told .given .0 .1 }))) (c .before .before .signed .ensures))
 
 same-length-2 : tie.Need-same-length-2
 same-length-2 c = search needs
