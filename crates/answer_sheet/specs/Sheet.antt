@@ -2,6 +2,7 @@
 use Prim.Native.Nat.{ℕ, _+_, _*_, min}
 use mathlib.Core.List.{List, [], _∷_, _++_, map}
 use mathlib.Core.Bool.{Bool}
+use mathlib.Core.Path.{_≡_}
 use lib.ListN.{length, getD, take}
 use lib.Seq.{sets}
 use Rattle.facts.specs.Pick.{pick, both}
@@ -15,11 +16,13 @@ use Rattle.symbols.specs.Entries.{entries, used}
 use Rattle.symbols.specs.Find.{countUsed}
 use Rattle.views.specs.Ladder.{keyOf, ladder}
 use Rattle.views.specs.Spread.{spreadOf}
-use Rattle.views.specs.Views.{goodTables}
+use Rattle.views.specs.Views.{goodTables, countsView}
 use Rattle.views.specs.declared.Level.{Level}
 use Rattle.views.specs.declared.Side.{Side}
 use Rattle.views.specs.declared.LadderAnswer.{LadderAnswer}
 use Rattle.views.specs.declared.SpreadAnswer.{SpreadAnswer}
+use Rattle.views.specs.declared.Sizes.{Sizes}
+use Rattle.views.specs.declared.CountsAnswer.{CountsAnswer}
 use Rattle.receiver.specs.Lent.{nextOk}
 use Rattle.receiver.specs.declared.State.{State}
 use Rattle.text.specs.Text.{decimalOf, signedOf, tickerOf, lineOf}
@@ -129,6 +132,10 @@ sheetNumber (SheetAnswer.Refused r) = r .number
 unfoldable pub levelCount : LadderAnswer → ℕ
 levelCount (LadderAnswer.Levels n) = n
 levelCount (LadderAnswer.Refused r) = 0
+
+-- what a view of good tables counted
+abbrev pub Counted : Sizes → List ℕ → List ℕ → Type 0
+Counted z orders symbols = CountsAnswer.Are z ≡ countsView orders symbols
 
 -- level i of a run of numbers, three to a level
 unfoldable pub levelAt : List ℕ → ℕ → Level

@@ -6,12 +6,10 @@ ghost use lib.ListN.{length, getD};
 ghost use mathlib.Core.List.{[]};
 ghost use Rattle.rows.specs.Rows.{rows};
 ghost use Rattle.symbols.specs.Entries.{entries};
-ghost use Rattle.symbols.specs.Find.{countUsed};
-ghost use Rattle.rows.specs.Find.{countLive};
 ghost use Rattle.views.specs.Ladder.{keyOf, ladder};
 ghost use Rattle.views.specs.Views.{goodTables, viewFault};
 ghost use Rattle.text.specs.Text.{Wrote, each};
-ghost use Rattle.answer_sheet.specs.Sheet.{recordingLine, headOf, totalsOf, valueOf, levelLine, levelsShown, levelAt, levelCount, sideLines, spreadWord, spreadLine, tickerLine, symbolLines, bookLines, entryText, blocksOf, sheetOf, sheetOk, sheetAnd, sheetView};
+ghost use Rattle.answer_sheet.specs.Sheet.{recordingLine, headOf, totalsOf, valueOf, levelLine, levelsShown, levelAt, levelCount, sideLines, spreadWord, spreadLine, tickerLine, symbolLines, bookLines, entryText, blocksOf, sheetOf, sheetAnd, sheetView, Counted};
 use fields::Refusal;
 use fields::Symbol;
 use receiver::State;
@@ -217,7 +215,7 @@ fn all_lines(
     word: Recording,
     sizes: Sizes,
 ) -> usize
-    requires { ⌜ (goodTables (now orders) (now symbols) ≡ true) × (sizes .symbols ≡ countUsed (entries (now symbols))) × (sizes .orders ≡ countLive (rows (now orders))) ⌝ }
+    requires { ⌜ Counted sizes (now orders) (now symbols) ⌝ }
     ensures { λ r. ⌜ Wrote (now (buf .entry)) 0 (sheetOf word bad state (now (orders .entry)) (now (symbols .entry))) (now (buf .exit)) r ⌝ }
 {
     let o = head(buf, 0, word, bad, state);

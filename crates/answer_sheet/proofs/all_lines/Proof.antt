@@ -1,31 +1,29 @@
+-- Three appends, each where the one before ended, with the counts that were handed in.
+-- Assumes nothing.
+use Rattle.text.proofs.Laws.{wrote-as, wrote-then}
+use Rattle.answer_sheet.specs.Sheet.{sheetOf}
+use Rattle.answer_sheet.proofs.Exits.{counted-good, counted-totals}
 use borrow.Author.Needs.{needs}
 use Rattle.answer_sheet.proofs.all_lines.Statement.{statement}
 use Rattle.answer_sheet.proofs.all_lines.Tie as tie
-use Rattle.answer_sheet.proofs.all_lines.Reads as reads
-use Rattle.answer_sheet.proofs.all_lines.Lts as lts
-use Rattle.answer_sheet.proofs.blocks.Reads as blocks-reads
-use Rattle.answer_sheet.proofs.head.Reads as head-reads
-use Rattle.answer_sheet.proofs.totals.Reads as totals-reads
 
--- src/lib.rt:223:9
 head-requires : tie.Need-head-requires
 head-requires c κs = search needs
 
--- src/lib.rt:224:9
 totals-requires : tie.Need-totals-requires
 totals-requires c κs = search needs
 
--- src/lib.rt:225:5
 blocks-requires : tie.Need-blocks-requires
-blocks-requires c κs = search needs
+blocks-requires c κs = let a = c .before .before .before .before .before .before .before .before .before .before .before .before .args in counted-good (a .orders .now) (a .symbols .now) (a .sizes) (c .before .before .before .before .before .before .before .before .before .before .before .before .pre)
 
--- src/lib.rt:211:1
 same-length : tie.Need-same-length
 same-length c = search needs
 
--- src/lib.rt:211:1
 returns : tie.Need-returns
-returns c = ?
+unfolding sheetOf
+returns c =
+    let a = c .before .before .before .before .before .before .before .before .before .before .before .before .before .before .before .args in
+    wrote-then (c .before .before .before .before .before .before .before .before .before .before .head .ensures) (wrote-then (wrote-as (counted-totals (a .orders .now) (a .symbols .now) _ (a .sizes) (c .before .before .before .before .before .before .before .before .before .before .before .before .before .before .before .pre)) (c .before .before .before .before .before .before .totals .ensures)) (c .before .before .blocks2 .ensures))
 
 pub all-lines-spec : {M : Type 1} → statement M
 all-lines-spec =

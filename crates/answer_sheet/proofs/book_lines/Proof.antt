@@ -34,7 +34,7 @@ returns : tie.Need-returns
 unfolding bookLines bidKey askKey
 returns c =
     let a = c .before .before .before .before .before .before .before .before .before .before .before .before .before .before .before .before .before .before .args in
-      wrote-then (wrote-as (ap spreadLine (c .before .before .before .before .before .before .before .before .before .before .before .before .before .spread .ensures ∙ sym (spread-shown (a .id) (a .orders .now) (a .symbols .now) (c .before .before .before .before .before .before .before .before .before .before .before .before .before .before .before .before .before .before .pre)))) (c .before .before .before .before .before .before .before .before .before .before .before .before .spread-line .ensures)) (wrote-then (c .before .before .before .before .before .before .before .side-lines .ensures) (c .before .before .side-lines2 .ensures))
+    wrote-then (wrote-as (ap spreadLine (c .before .before .before .before .before .before .before .before .before .before .before .before .before .spread .ensures ∙ sym (spread-shown (a .id) (a .orders .now) (a .symbols .now) (c .before .before .before .before .before .before .before .before .before .before .before .before .before .before .before .before .before .before .pre)))) (c .before .before .before .before .before .before .before .before .before .before .before .before .spread-line .ensures)) (wrote-then (c .before .before .before .before .before .before .before .side-lines .ensures) (c .before .before .side-lines2 .ensures))
 
 pub book-lines-spec : {M : Type 1} → statement M
 book-lines-spec =

@@ -23,7 +23,7 @@ is-used-at-requires c κs = search needs
 returns : tie.Need-returns
 returns c =
     let a = c .before .before .before .before .before .args in
-      wrote-as (unused-text (rows (a .orders .now)) (getD (entries (a .symbols .now)) (a .i) []) (sym (c .before .is-used-at .ensures) ∙ not-true _ (c .if1 .taken))) (wrote-none _ _)
+    wrote-as (unused-text (rows (a .orders .now)) (getD (entries (a .symbols .now)) (a .i) []) (sym (c .before .is-used-at .ensures) ∙ not-true _ (c .if1 .taken))) (wrote-none _ _)
 
 entry-at-requires : tie.Need-entry-at-requires
 entry-at-requires c κs = search needs
@@ -34,8 +34,8 @@ symbol-lines-requires c κs = search needs
 book-lines-requires : tie.Need-book-lines-requires
 book-lines-requires c κs =
     let a = c .before .before .before .before .before .before .before .before .before .before .before .args in
-      ap (λ (s : Symbol). viewFault (s .id) (a .orders .now) (a .symbols .now)) (c .before .before .before .before .before .entry-at .ensures)
-      ∙ used-shown (a .orders .now) (a .symbols .now) (a .i) (c .before .before .before .before .before .before .before .before .before .before .before .pre) (sym (c .before .before .before .before .before .before .before .is-used-at .ensures) ∙ not-false _ (c .before .before .before .before .before .before .if1 .left))
+    ap (λ (s : Symbol). viewFault (s .id) (a .orders .now) (a .symbols .now)) (c .before .before .before .before .before .entry-at .ensures)
+    ∙ used-shown (a .orders .now) (a .symbols .now) (a .i) (c .before .before .before .before .before .before .before .before .before .before .before .pre) (sym (c .before .before .before .before .before .before .before .is-used-at .ensures) ∙ not-false _ (c .before .before .before .before .before .before .if1 .left))
 
 same-length : tie.Need-same-length
 same-length c = search needs
@@ -44,8 +44,8 @@ returns-2 : tie.Need-returns-2
 unfolding blockOf
 returns-2 c =
     let a = c .before .before .before .before .before .before .before .before .before .before .before .before .before .before .args in
-      wrote-as (ap (blockOf (rows (a .orders .now))) (c .before .before .before .before .before .before .before .before .entry-at .ensures) ∙ used-text (rows (a .orders .now)) (getD (entries (a .symbols .now)) (a .i) []) (sym (c .before .before .before .before .before .before .before .before .before .before .is-used-at .ensures) ∙ not-false _ (c .before .before .before .before .before .before .before .before .before .if1 .left)))
-      (wrote-then (c .before .before .before .before .before .before .symbol-lines .ensures) (c .before .before .book-lines .ensures))
+    wrote-as (ap (blockOf (rows (a .orders .now))) (c .before .before .before .before .before .before .before .before .entry-at .ensures) ∙ used-text (rows (a .orders .now)) (getD (entries (a .symbols .now)) (a .i) []) (sym (c .before .before .before .before .before .before .before .before .before .before .is-used-at .ensures) ∙ not-false _ (c .before .before .before .before .before .before .before .before .before .if1 .left)))
+    (wrote-then (c .before .before .before .before .before .before .symbol-lines .ensures) (c .before .before .book-lines .ensures))
 
 pub entry-text-spec : {M : Type 1} → statement M
 entry-text-spec =

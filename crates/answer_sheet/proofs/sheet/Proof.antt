@@ -1,47 +1,44 @@
+-- A bad size or next number is refused with the buffer as it was; else the whole text is stored as far as the buffer reaches.
+-- Assumes nothing.
+use mathlib.Core.Path.{sym, _∙_}
+use borrow.Author.Tests.{not-true, not-false}
+use Rattle.answer_sheet.proofs.Exits.{counted-good, uncounted-bad, sizes-refused, next-refused, sheet-stored}
 use borrow.Author.Needs.{needs}
 use Rattle.answer_sheet.proofs.sheet.Statement.{statement}
 use Rattle.answer_sheet.proofs.sheet.Tie as tie
-use Rattle.answer_sheet.proofs.sheet.Reads as reads
-use Rattle.answer_sheet.proofs.sheet.Lts as lts
-use Rattle.answer_sheet.proofs.all_lines.Reads as all-lines-reads
-use Rattle.receiver.proofs.next_ok.Reads as next-ok-reads
-use Rattle.views.proofs.counts.Reads as counts-reads
 
--- src/lib.rt:239:9
 counts-requires : tie.Need-counts-requires
 counts-requires c κs = search needs
 
--- src/lib.rt:240:27
 enum-known-c : tie.Need-enum-known-c
 enum-known-c c = search needs
 
--- src/lib.rt:241:37
 enum-told : tie.Need-enum-told
 enum-told c = search needs
 
--- src/lib.rt:241:9
 returns : tie.Need-returns
-returns c = ?
+returns c =
+    let a = c .before .before .before .before .before .before .args in
+    sizes-refused (a .word) (a .bad) (a .state) (a .orders .now) (a .symbols .now) (a .buf .now) (uncounted-bad (a .orders .now) (a .symbols .now) _ (sym (c .enum-told .given .1) ∙ c .before .before .counts .ensures))
 
--- src/lib.rt:243:9
 next-ok-requires : tie.Need-next-ok-requires
 next-ok-requires c κs = search needs
 
--- src/lib.rt:244:9
 returns-2 : tie.Need-returns-2
-returns-2 c = ?
+returns-2 c =
+    let a = c .before .before .before .before .before .before .before .before .before .args in
+    next-refused (a .word) (a .bad) (a .state) (a .orders .now) (a .symbols .now) (a .buf .now) (counted-good (a .orders .now) (a .symbols .now) _ (sym (c .before .before .before .c .given .1) ∙ c .before .before .before .before .before .counts .ensures)) (sym (c .before .next-ok .ensures) ∙ not-true _ (c .if1 .taken))
 
--- src/lib.rt:246:26
 all-lines-requires : tie.Need-all-lines-requires
-all-lines-requires c κs = ?
+all-lines-requires c κs = sym (c .before .before .before .before .c .given .1) ∙ c .before .before .before .before .before .before .counts .ensures
 
--- src/lib.rt:229:1
 same-length : tie.Need-same-length
 same-length c = search needs
 
--- src/lib.rt:229:1
 returns-3 : tie.Need-returns-3
-returns-3 c = ?
+returns-3 c =
+    let a = c .before .before .before .before .before .before .before .before .before .before .before .before .before .args in
+    sheet-stored (a .word) (a .bad) (a .state) (a .orders .now) (a .symbols .now) (a .buf .now) (counted-good (a .orders .now) (a .symbols .now) _ (sym (c .before .before .before .before .before .before .before .c .given .1) ∙ c .before .before .before .before .before .before .before .before .before .counts .ensures)) (sym (c .before .before .before .before .before .next-ok .ensures) ∙ not-false _ (c .before .before .before .before .if1 .left)) _ _ (c .before .before .all-lines .ensures)
 
 pub sheet-spec : {M : Type 1} → statement M
 sheet-spec =
