@@ -1,7 +1,7 @@
 -- No number of a sheet has more than twenty digits, no side more than ten lines, no table more than a thousand entries.
 -- Assumes nothing.
 use Prim.Native.Nat.{ℕ, zero, suc, _+_, _*_, _/_, _^_, _≤_, _<_}
-use mathlib.Core.Path.{_≡_, refl, sym, ap, _∙_}
+use mathlib.Core.Path.{_≡_, refl}
 use mathlib.Core.Bool.{true}
 use mathlib.Core.List.{List, [], _∷_, _++_, map}
 use native.Mathlib.Nat.{suc-mul}
@@ -12,7 +12,7 @@ use Rattle.facts.specs.Pick.{pick}
 use Rattle.facts.specs.Pieces.{cut, pieces, join}
 use Rattle.facts.proofs.Picks.{pick-ind, both-true}
 use Rattle.facts.proofs.SumLaws.{count-bound}
-use Rattle.wire.specs.Le.{Bytes, padded}
+use Rattle.wire.specs.Le.{Bytes}
 use Rattle.wire.proofs.Laws.{field-below, length-padded}
 use Rattle.fields.specs.Fields.{symbolOf}
 use Rattle.rows.specs.Rows.{rows, goodRows, maxRows, live}
@@ -27,7 +27,7 @@ use Rattle.symbols.specs.Find.{countUsed}
 use Rattle.symbols.proofs.EntryLaws.{good-entries, length-entries}
 use Rattle.views.specs.Ladder.{keyOf, prices, levelOf, ladder}
 use Rattle.views.specs.Spread.{spreadOf}
-use Rattle.views.specs.Views.{goodTables, spreadNumber}
+use Rattle.views.specs.Views.{goodTables}
 use Rattle.views.specs.declared.Level.{Level}
 use Rattle.views.specs.declared.Side.{Side}
 use Rattle.views.specs.declared.SpreadAnswer.{SpreadAnswer}

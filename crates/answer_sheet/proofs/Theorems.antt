@@ -1,16 +1,14 @@
 -- What a sheet promises besides its definition: each answer's number, that a refusal leaves the buffer, that a large buffer holds the whole, and that the book and the views mean the same key.
 -- Assumes nothing.
 use Prim.Native.Nat.{ℕ, _≤_, min}
-use mathlib.Core.Path.{_≡_, refl, sym, ap, _∙_}
+use mathlib.Core.Path.{_≡_, ap, _∙_}
 use mathlib.Core.Bool.{true, false}
 use mathlib.Core.List.{List}
 use native.Mathlib.Omega.{arith}
 use lib.ListN.{length, take, drop}
 use lib.Seq.{sets}
-use borrow.Author.Tests.{eq-eqb}
 use Rattle.facts.specs.Pick.{pick}
 use Rattle.facts.proofs.Picks.{no-second, pick-map}
-use Rattle.fields.specs.Fields.{refusal}
 use Rattle.fields.specs.declared.AddOrder.{AddOrder}
 use Rattle.book.specs.Rules.{sideOf, rowFor}
 use Rattle.views.specs.Ladder.{keyOf}
@@ -45,9 +43,6 @@ module _ (word : Recording) (bad : ℕ) (s : State) (orders symbols b : List ℕ
   sheet-one a a' c c' p q = no-second p q
 
   module _ (a : SheetAnswer) (b' : List ℕ) (e : sheetAnd a b' ≡ sheetView word bad s orders symbols b) where
-    t : List ℕ
-    t = sheetOf word bad s orders symbols
-
     -- an accepted sheet is an append of its text
     pub sheet-wrote : sheetOk s orders symbols ≡ true → (a ≡ SheetAnswer.Written (min (length (sheetOf word bad s orders symbols)) (length b))) × Wrote b 0 (sheetOf word bad s orders symbols) b' (min (length (sheetOf word bad s orders symbols)) (length b))
     unfolding sheetView stored pick

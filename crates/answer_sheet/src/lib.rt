@@ -20,7 +20,10 @@ use views::Side;
 use views::Sizes;
 use views::SpreadAnswer;
 
-// The numbers of ten levels.
+// The most levels of a side on a sheet.
+const LEVELS_SHOWN: usize = 10;
+
+// Three numbers for each of them.
 const RUN_SIZE: usize = 30;
 
 // A recording that ends inside a length or packet is cut.
@@ -105,12 +108,12 @@ fn levels(buf: &mut [u8], at: usize, key: &[u8], run: &[u64], n: usize) -> usize
     o
 }
 
-// How many levels a sheet shows.
+// How many of a ladder's levels a sheet shows.
 fn levels_shown(a: LadderAnswer) -> usize
     ensures { λ r. ⌜ r ≡ min levelsShown (levelCount a) ⌝ }
 {
     match a {
-        LadderAnswer::Levels(n) => { if n < 10 { n } else { 10 } }
+        LadderAnswer::Levels(n) => { if n < LEVELS_SHOWN { n } else { LEVELS_SHOWN } }
         LadderAnswer::Refused(_) => 0,
     }
 }

@@ -22,8 +22,12 @@ same-length c = search needs
 returns : tie.Need-returns
 unfolding sheetOf
 returns c =
-    let a = c .before .before .before .before .before .before .before .before .before .before .before .before .before .before .before .args in
-    wrote-then (c .before .before .before .before .before .before .before .before .before .before .head .ensures) (wrote-then (wrote-as (counted-totals (a .orders .now) (a .symbols .now) _ (a .sizes) (c .before .before .before .before .before .before .before .before .before .before .before .before .before .before .before .pre)) (c .before .before .before .before .before .before .totals .ensures)) (c .before .before .blocks2 .ensures))
+    let summed = c .before .before .before .before .before .before in
+    let first = summed .before .before .before .before in
+    let start = first .before .before .before .before .before in
+    let a = start .args in
+    let e = counted-totals (a .orders .now) (a .symbols .now) _ (a .sizes) (start .pre) in
+    wrote-then (first .head .ensures) (wrote-then (wrote-as e (summed .totals .ensures)) (c .before .before .blocks2 .ensures))
 
 pub all-lines-spec : {M : Type 1} → statement M
 all-lines-spec =

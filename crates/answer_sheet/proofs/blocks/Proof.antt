@@ -41,7 +41,9 @@ same-length : tie.Need-same-length Inv-loop μ-loop
 same-length c = wrote-kept (c .before .loop .inv .1)
 
 returns : tie.Need-returns Inv-loop μ-loop
-returns c = let a = c .before .before .before .before .before .before .args in wrote-as (blocks-are (a .orders .now) (a .symbols .now) _ (c .before .before .entry-count .ensures)) (each-all _ (c .before .loop .inv .0) (c .loop-test .left) (c .before .loop .inv .1))
+returns c =
+    let a = c .before .before .before .before .before .before .args in
+    wrote-as (blocks-are (a .orders .now) (a .symbols .now) _ (c .before .before .entry-count .ensures)) (each-all _ (c .before .loop .inv .0) (c .loop-test .left) (c .before .loop .inv .1))
 
 pub blocks-spec : {M : Type 1} → statement M
 blocks-spec =

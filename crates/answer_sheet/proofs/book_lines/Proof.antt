@@ -33,8 +33,12 @@ same-length c = search needs
 returns : tie.Need-returns
 unfolding bookLines bidKey askKey
 returns c =
-    let a = c .before .before .before .before .before .before .before .before .before .before .before .before .before .before .before .before .before .before .args in
-    wrote-then (wrote-as (ap spreadLine (c .before .before .before .before .before .before .before .before .before .before .before .before .before .spread .ensures ∙ sym (spread-shown (a .id) (a .orders .now) (a .symbols .now) (c .before .before .before .before .before .before .before .before .before .before .before .before .before .before .before .before .before .before .pre)))) (c .before .before .before .before .before .before .before .before .before .before .before .before .spread-line .ensures)) (wrote-then (c .before .before .before .before .before .before .before .side-lines .ensures) (c .before .before .side-lines2 .ensures))
+    let bids = c .before .before .before .before .before .before .before in
+    let top = bids .before .before .before .before .before in
+    let start = top .before .before .before .before .before .before in
+    let a = start .args in
+    let e = top .before .spread .ensures ∙ sym (spread-shown (a .id) (a .orders .now) (a .symbols .now) (start .pre)) in
+    wrote-then (wrote-as (ap spreadLine e) (top .spread-line .ensures)) (wrote-then (bids .side-lines .ensures) (c .before .before .side-lines2 .ensures))
 
 pub book-lines-spec : {M : Type 1} → statement M
 book-lines-spec =

@@ -1,8 +1,6 @@
 -- A used entry's symbol is known, so no view of it is refused; an entry not in use has no text.
 -- Assumes nothing.
-use Prim.Native.Nat.{ℕ}
-use mathlib.Core.Path.{_≡_, sym, ap, _∙_}
-use mathlib.Core.Bool.{true, false}
+use mathlib.Core.Path.{sym, ap, _∙_}
 use mathlib.Core.List.{[]}
 use lib.ListN.{getD}
 use borrow.Author.Tests.{not-true, not-false}
@@ -33,9 +31,11 @@ symbol-lines-requires c κs = search needs
 
 book-lines-requires : tie.Need-book-lines-requires
 book-lines-requires c κs =
-    let a = c .before .before .before .before .before .before .before .before .before .before .before .args in
-    ap (λ (s : Symbol). viewFault (s .id) (a .orders .now) (a .symbols .now)) (c .before .before .before .before .before .entry-at .ensures)
-    ∙ used-shown (a .orders .now) (a .symbols .now) (a .i) (c .before .before .before .before .before .before .before .before .before .before .before .pre) (sym (c .before .before .before .before .before .before .before .is-used-at .ensures) ∙ not-false _ (c .before .before .before .before .before .before .if1 .left))
+    let read = c .before .before .before .before .before in
+    let start = read .before .before .before .before .before .before in
+    let a = start .args in
+    let u = sym (read .before .before .is-used-at .ensures) ∙ not-false _ (read .before .if1 .left) in
+    ap (λ (s : Symbol). viewFault (s .id) (a .orders .now) (a .symbols .now)) (read .entry-at .ensures) ∙ used-shown (a .orders .now) (a .symbols .now) (a .i) (start .pre) u
 
 same-length : tie.Need-same-length
 same-length c = search needs
@@ -43,8 +43,10 @@ same-length c = search needs
 returns-2 : tie.Need-returns-2
 unfolding blockOf
 returns-2 c =
-    let a = c .before .before .before .before .before .before .before .before .before .before .before .before .before .before .args in
-    wrote-as (ap (blockOf (rows (a .orders .now))) (c .before .before .before .before .before .before .before .before .entry-at .ensures) ∙ used-text (rows (a .orders .now)) (getD (entries (a .symbols .now)) (a .i) []) (sym (c .before .before .before .before .before .before .before .before .before .before .is-used-at .ensures) ∙ not-false _ (c .before .before .before .before .before .before .before .before .before .if1 .left)))
+    let read = c .before .before .before .before .before .before .before .before in
+    let a = read .before .before .before .before .before .before .args in
+    let u = sym (read .before .before .is-used-at .ensures) ∙ not-false _ (read .before .if1 .left) in
+    wrote-as (ap (blockOf (rows (a .orders .now))) (read .entry-at .ensures) ∙ used-text (rows (a .orders .now)) (getD (entries (a .symbols .now)) (a .i) []) u)
     (wrote-then (c .before .before .before .before .before .before .symbol-lines .ensures) (c .before .before .book-lines .ensures))
 
 pub entry-text-spec : {M : Type 1} → statement M

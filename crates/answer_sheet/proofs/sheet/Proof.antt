@@ -26,19 +26,27 @@ next-ok-requires c κs = search needs
 
 returns-2 : tie.Need-returns-2
 returns-2 c =
-    let a = c .before .before .before .before .before .before .before .before .before .args in
-    next-refused (a .word) (a .bad) (a .state) (a .orders .now) (a .symbols .now) (a .buf .now) (counted-good (a .orders .now) (a .symbols .now) _ (sym (c .before .before .before .c .given .1) ∙ c .before .before .before .before .before .counts .ensures)) (sym (c .before .next-ok .ensures) ∙ not-true _ (c .if1 .taken))
+    let told = c .before .before .before in
+    let a = told .before .before .before .before .before .before .args in
+    let g = counted-good (a .orders .now) (a .symbols .now) _ (sym (told .c .given .1) ∙ told .before .before .counts .ensures) in
+    next-refused (a .word) (a .bad) (a .state) (a .orders .now) (a .symbols .now) (a .buf .now) g (sym (c .before .next-ok .ensures) ∙ not-true _ (c .if1 .taken))
 
 all-lines-requires : tie.Need-all-lines-requires
-all-lines-requires c κs = sym (c .before .before .before .before .c .given .1) ∙ c .before .before .before .before .before .before .counts .ensures
+all-lines-requires c κs =
+    let told = c .before .before .before .before in
+    sym (told .c .given .1) ∙ told .before .before .counts .ensures
 
 same-length : tie.Need-same-length
 same-length c = search needs
 
 returns-3 : tie.Need-returns-3
 returns-3 c =
-    let a = c .before .before .before .before .before .before .before .before .before .before .before .before .before .args in
-    sheet-stored (a .word) (a .bad) (a .state) (a .orders .now) (a .symbols .now) (a .buf .now) (counted-good (a .orders .now) (a .symbols .now) _ (sym (c .before .before .before .before .before .before .before .c .given .1) ∙ c .before .before .before .before .before .before .before .before .before .counts .ensures)) (sym (c .before .before .before .before .before .next-ok .ensures) ∙ not-false _ (c .before .before .before .before .if1 .left)) _ _ (c .before .before .all-lines .ensures)
+    let tried = c .before .before .before .before in
+    let told = tried .before .before .before in
+    let a = told .before .before .before .before .before .before .args in
+    let g = counted-good (a .orders .now) (a .symbols .now) _ (sym (told .c .given .1) ∙ told .before .before .counts .ensures) in
+    let n = sym (tried .before .next-ok .ensures) ∙ not-false _ (tried .if1 .left) in
+    sheet-stored (a .word) (a .bad) (a .state) (a .orders .now) (a .symbols .now) (a .buf .now) g n _ _ (c .before .before .all-lines .ensures)
 
 pub sheet-spec : {M : Type 1} → statement M
 sheet-spec =

@@ -20,13 +20,21 @@ levels-shown-requires : tie.Need-levels-shown-requires
 levels-shown-requires c κs = search needs
 
 levels-requires : tie.Need-levels-requires
-levels-requires c κs = let a = c .before .before .before .before .before .before .before .before .before .before .args in ladder-fits (a .side) (a .id) (a .orders .now) (a .symbols .now) _ (c .before .before .before .before .before .before .before .before .before .before .pre) _ _ (c .before .before .before .before .ladder .ensures) _ refl (c .levels-shown .ensures)
+levels-requires c κs =
+    let laid = c .before .before .before .before in
+    let start = laid .before .before .before .before .before .before in
+    let a = start .args in
+    ladder-fits (a .side) (a .id) (a .orders .now) (a .symbols .now) _ (start .pre) _ _ (laid .ladder .ensures) _ refl (c .levels-shown .ensures)
 
 same-length : tie.Need-same-length
 same-length c = search needs
 
 returns : tie.Need-returns
-returns c = let a = c .before .before .before .before .before .before .before .before .before .before .before .before .before .args in wrote-as (ladder-lines (a .side) (a .id) (a .orders .now) (a .symbols .now) _ (c .before .before .before .before .before .before .before .before .before .before .before .before .before .pre) _ _ (c .before .before .before .before .before .before .before .ladder .ensures) (a .key .now) _ refl (c .before .before .before .levels-shown .ensures)) (c .before .before .levels .ensures)
+returns c =
+    let laid = c .before .before .before .before .before .before .before in
+    let start = laid .before .before .before .before .before .before in
+    let a = start .args in
+    wrote-as (ladder-lines (a .side) (a .id) (a .orders .now) (a .symbols .now) _ (start .pre) _ _ (laid .ladder .ensures) (a .key .now) _ refl (c .before .before .before .levels-shown .ensures)) (c .before .before .levels .ensures)
 
 pub side-lines-spec : {M : Type 1} → statement M
 side-lines-spec =
