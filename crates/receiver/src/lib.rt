@@ -290,7 +290,8 @@ fn accept(orders: &mut [u64], symbols: &mut [u8], shelf: &mut [u8], state: State
     }
 }
 
-fn sizes_ok(orders: usize, symbols: usize, shelf: usize) -> bool
+// Table sizes that a receiver works with.
+pub fn sizes_ok(orders: usize, symbols: usize, shelf: usize) -> bool
     ensures { λ r. ⌜ r ≡ sizesOk orders symbols shelf ⌝ }
 {
     if !rows::good_rows(orders) {
@@ -302,7 +303,8 @@ fn sizes_ok(orders: usize, symbols: usize, shelf: usize) -> bool
     shelf::good_shelf(shelf)
 }
 
-fn next_ok(next: u64) -> bool
+// A next number that a receiver works with.
+pub fn next_ok(next: u64) -> bool
     ensures { λ r. ⌜ r ≡ nextOk next ⌝ }
 {
     1 <= next && next <= 1000000000001
