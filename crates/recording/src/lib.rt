@@ -102,7 +102,10 @@ fn pass(k: Stream, at: usize, end: usize) -> Moved
     if skip <= left {
         stream.bad = more(k.bad, 1);
         stream.skip = 0;
-        return Moved { at: at + skip, stream };
+        return Moved {
+            at: at + skip,
+            stream,
+        };
     }
     stream.skip = skip - left;
     Moved { at: end, stream }
@@ -203,8 +206,9 @@ fn step(
     if held == 0 {
         let n = whole(chunk, at);
         if n != 0 {
+            let to = at + n;
             let stream = give(orders, symbols, shelf, k, chunk, at, n);
-            return Moved { at: at + n, stream };
+            return Moved { at: to, stream };
         }
     }
     let stream = push(orders, symbols, shelf, hold, k, chunk[at]);

@@ -1,17 +1,15 @@
+-- Something held, or else something to pass over.
+-- Assumes nothing.
 use borrow.Author.Tests.{lt-ltb, le-ltb}
 use Rattle.facts.specs.Pick.{either}
 use Rattle.recording.specs.Stream.{cut}
 use Rattle.recording.proofs.is_cut.Statement.{statement}
 use Rattle.recording.proofs.is_cut.Tie as tie
-use Rattle.recording.proofs.is_cut.Reads as reads
-use Rattle.recording.proofs.is_cut.Lts as lts
 
--- src/lib.rt:274:1
 returns : tie.Need-returns
 unfolding cut either
 returns c = simp (lt-ltb _ _ (c .if1 .taken))
 
--- src/lib.rt:274:1
 returns-2 : tie.Need-returns-2
 unfolding cut either
 returns-2 c = simp (le-ltb _ _ (c .before .if1 .left))

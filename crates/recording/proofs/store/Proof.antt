@@ -1,24 +1,20 @@
+-- Past the end nothing is stored, as `set` does nothing there.
+-- Assumes nothing.
 use mathlib.Core.Path.{sym}
 use lib.Seq.{set-out}
 use borrow.Author.Needs.{needs}
 use Rattle.recording.proofs.store.Statement.{statement}
 use Rattle.recording.proofs.store.Tie as tie
-use Rattle.recording.proofs.store.Reads as reads
-use Rattle.recording.proofs.store.Lts as lts
 
--- src/lib.rt:107:9
 returns : tie.Need-returns
 returns c = sym (set-out _ _ _ (c .if1 .taken))
 
--- src/lib.rt:109:5
 slice-write-hold : tie.Need-slice-write-hold
 slice-write-hold c = search needs
 
--- src/lib.rt:103:1
 same-length : tie.Need-same-length
 same-length c = search needs
 
--- src/lib.rt:103:1
 returns-2 : tie.Need-returns-2
 returns-2 c = search needs
 
