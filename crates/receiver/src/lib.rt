@@ -290,7 +290,8 @@ fn accept(orders: &mut [u64], symbols: &mut [u8], shelf: &mut [u8], state: State
     }
 }
 
-fn sizes_ok(orders: usize, symbols: usize, shelf: usize) -> bool
+// Table sizes that a receiver works with.
+pub fn sizes_ok(orders: usize, symbols: usize, shelf: usize) -> bool
     ensures { λ r. ⌜ r ≡ sizesOk orders symbols shelf ⌝ }
 {
     if !rows::good_rows(orders) {

@@ -1,0 +1,34 @@
+-- The tests, one after another.
+-- Assumes nothing.
+use borrow.Author.Tests.{not-true, not-false, le-leb, lt-leb}
+use Rattle.facts.specs.Pick.{both}
+use Rattle.recording.specs.Stream.{feedable}
+use borrow.Author.Needs.{needs}
+use Rattle.recording.proofs.can_feed.Statement.{statement}
+use Rattle.recording.proofs.can_feed.Tie as tie
+
+sizes-ok-requires : tie.Need-sizes-ok-requires
+sizes-ok-requires c κs = search needs
+
+returns : tie.Need-returns
+unfolding feedable both
+returns c = simp (← c .before .sizes-ok .ensures, not-true (c .before .sizes-ok .result) (c .if1 .taken))
+
+next-ok-requires : tie.Need-next-ok-requires
+next-ok-requires c κs = search needs
+
+returns-2 : tie.Need-returns-2
+unfolding feedable both
+returns-2 c = simp (← c .before .before .before .before .sizes-ok .ensures, not-false (c .before .before .before .before .sizes-ok .result) (c .before .before .before .if1 .left), ← c .before .next-ok .ensures, not-true (c .before .next-ok .result) (c .if2 .taken))
+
+returns-3 : tie.Need-returns-3
+unfolding feedable both
+returns-3 c = simp (← c .before .before .before .before .before .before .sizes-ok .ensures, not-false (c .before .before .before .before .before .before .sizes-ok .result) (c .before .before .before .before .before .if1 .left), ← c .before .before .before .next-ok .ensures, not-false (c .before .before .before .next-ok .result) (c .before .before .if2 .left), le-leb _ _ (c .before .if3 .taken))
+
+returns-4 : tie.Need-returns-4
+unfolding feedable both
+returns-4 c = simp (← c .before .before .before .before .before .sizes-ok .ensures, not-false (c .before .before .before .before .before .sizes-ok .result) (c .before .before .before .before .if1 .left), ← c .before .before .next-ok .ensures, not-false (c .before .before .next-ok .result) (c .before .if2 .left), lt-leb _ _ (c .if3 .left))
+
+pub can-feed-spec : {M : Type 1} → statement M
+can-feed-spec =
+    tie.close (tie.spec sizes-ok-requires returns next-ok-requires returns-2 returns-3 returns-4)

@@ -1,0 +1,81 @@
+-- One law for each exit: bytes passed over, a whole packet, one byte.
+-- Assumes nothing.
+use native.Mathlib.Omega.{arith}
+use Rattle.recording.proofs.Exits.{step-passes, step-gives, step-pushes}
+use Rattle.recording.specs.Stream.{hearingOf}
+use borrow.Author.Needs.{needs}
+use Rattle.recording.proofs.step.Statement.{statement}
+use Rattle.recording.proofs.step.Tie as tie
+
+add-next : tie.Need-add-next
+add-next c = search needs
+
+pass-requires : tie.Need-pass-requires
+pass-requires c κs = search needs
+
+returns : tie.Need-returns
+returns c = step-passes (c .before .before .before .before .before .before .before .before .args .k) (c .before .before .before .before .before .before .before .before .args .orders .now) (c .before .before .before .before .before .before .before .before .args .symbols .now) (c .before .before .before .before .before .before .before .before .args .shelf .now) (c .before .before .before .before .before .before .before .before .args .hold .now) (c .before .before .before .before .before .before .before .before .args .chunk .now) (c .before .before .before .before .before .before .before .before .args .at) (c .pass .result) (omega arith) (c .before .before .before .before .before .before .before .before .pre .1) (c .pass .ensures)
+
+whole-requires : tie.Need-whole-requires
+whole-requires c κs = search needs
+
+add-to : tie.Need-add-to
+add-to c = omega (arith, c .before .whole .ensures (omega arith) .fits)
+
+give-requires : tie.Need-give-requires
+give-requires c κs = c .before .before .before .before .whole .ensures (omega arith)
+
+same-length : tie.Need-same-length
+same-length c = search needs
+
+same-length-2 : tie.Need-same-length-2
+same-length-2 c = search needs
+
+same-length-3 : tie.Need-same-length-3
+same-length-3 c = search needs
+
+returns-2 : tie.Need-returns-2
+returns-2 c = step-gives (c .before .before .before .before .before .before .before .before .before .before .before .before .before .before .before .before .before .before .before .before .args .k) (c .before .before .before .before .before .before .before .before .before .before .before .before .before .before .before .before .before .before .before .before .args .orders .now) (c .before .before .before .before .before .before .before .before .before .before .before .before .before .before .before .before .before .before .before .before .args .symbols .now) (c .before .before .before .before .before .before .before .before .before .before .before .before .before .before .before .before .before .before .before .before .args .shelf .now) (c .before .before .before .before .before .before .before .before .before .before .before .before .before .before .before .before .before .before .before .before .args .hold .now) (c .before .before .before .before .before .before .before .before .before .before .before .before .before .before .before .before .before .before .before .before .args .chunk .now) (c .before .before .before .before .before .before .before .before .before .before .before .before .before .before .before .before .before .before .before .before .args .at) (c .before .before .before .before .before .before .before .before .before .before .before .whole .result) (omega arith) (c .before .before .before .before .before .before .before .before .before .before .before .before .if2 .taken) (omega arith) (c .before .before .before .before .before .before .before .before .before .before .before .whole .ensures (omega arith)) (c .before .before .before .before .before .before .give .result) _ _ _ (c .before .before .before .before .before .before .give .ensures .0) (c .before .before .before .before .before .before .give .ensures .1) (c .before .before .before .before .before .before .give .ensures .2)
+
+shared-slice-read-push : tie.Need-shared-slice-read-push
+shared-slice-read-push c = search needs
+
+push-requires : tie.Need-push-requires
+push-requires c κs = search needs
+
+same-length-4 : tie.Need-same-length-4
+same-length-4 c = search needs
+
+same-length-5 : tie.Need-same-length-5
+same-length-5 c = search needs
+
+same-length-6 : tie.Need-same-length-6
+same-length-6 c = search needs
+
+same-length-7 : tie.Need-same-length-7
+same-length-7 c = search needs
+
+returns-3 : tie.Need-returns-3
+returns-3 c = step-pushes (c .before .before .before .before .before .before .before .before .before .before .before .before .before .before .before .before .before .before .before .before .before .before .args .chunk .now) (c .before .before .before .before .before .before .before .before .before .before .before .before .before .before .before .before .before .before .before .before .before .before .args .at) (hearingOf (c .before .before .before .before .before .before .before .before .before .before .before .before .before .before .before .before .before .before .before .before .before .before .args .k) (c .before .before .before .before .before .before .before .before .before .before .before .before .before .before .before .before .before .before .before .before .before .before .args .orders .now) (c .before .before .before .before .before .before .before .before .before .before .before .before .before .before .before .before .before .before .before .before .before .before .args .symbols .now) (c .before .before .before .before .before .before .before .before .before .before .before .before .before .before .before .before .before .before .before .before .before .before .args .shelf .now) (c .before .before .before .before .before .before .before .before .before .before .before .before .before .before .before .before .before .before .before .before .before .before .args .hold .now)) (c .before .before .before .before .before .before .before .before .push .result) _ _ _ _ (c .before .before .before .before .before .before .before .before .before .before .before .before .before .before .before .before .before .before .before .before .before .before .pre .0) (c .before .before .before .before .before .before .before .before .push .ensures)
+
+pub step-spec : {M : Type 1} → statement M
+step-spec =
+    tie.close
+    (tie.spec
+    add-next
+    pass-requires
+    returns
+    whole-requires
+    add-to
+    give-requires
+    same-length
+    same-length-2
+    same-length-3
+    returns-2
+    shared-slice-read-push
+    push-requires
+    same-length-4
+    same-length-5
+    same-length-6
+    same-length-7
+    returns-3)

@@ -1,0 +1,114 @@
+-- A recording, byte by byte (document 01, "The sheet": "packets each behind a 2-byte length"; request 13: "chunks cut anywhere, even inside the 2-byte length").
+use Prim.Native.Nat.{ℕ, _+_, _-_, min}
+use mathlib.Core.Bool.{Bool}
+use mathlib.Core.List.{List, [], _∷_, _++_}
+use lib.ListN.{length, take, drop, replicate}
+use lib.Dec.{leb, ltb, eqb}
+use Rattle.facts.specs.Pick.{pick, both, either}
+use Rattle.wire.specs.Le.{field}
+use Rattle.fields.specs.Fields.{refusal}
+use Rattle.arbitration.specs.Stream.{feed as each}
+use Rattle.receiver.specs.Lent.{Lent, lent, received, sizesOk, nextOk}
+use Rattle.receiver.specs.declared.State.{State}
+use Rattle.receiver.specs.declared.Tally.{Tally}
+use Rattle.receiver.specs.declared.Received.{Received}
+use Rattle.recording.specs.declared.Totals.{Totals}
+use Rattle.recording.specs.declared.Stream.{Stream}
+use Rattle.recording.specs.declared.Fed.{Fed}
+
+-- a count of 64 bits: one that would pass 2^64 - 1 stays there
+unfoldable pub more : ℕ → ℕ → ℕ
+more a b = min (a + b) 18446744073709551615
+
+-- "the totals of each record answer"
+abbrev pub noTotals : Totals
+noTotals = record { taken = 0; old = 0; far = 0; repeated = 0; differing = 0 }
+
+unfoldable pub added : Tally → Totals → Totals
+added t n = record { taken = more (n .taken) (t .taken); old = more (n .old) (t .old); far = more (n .far) (t .far); repeated = more (n .repeated) (t .repeated); differing = more (n .differing) (t .differing) }
+
+-- what packets change: the counts, and the receiver with its tables
+pub record Kept : Type 0 where
+  pub bad : ℕ
+  pub totals : Totals
+  pub lent : Lent
+
+abbrev pub kept : ℕ → Totals → Lent → Kept
+kept b n k = record { bad = b; totals = n; lent = k }
+
+-- "A refused packet is counted as bad and passed over"
+unfoldable pub counted : Received → Lent → Kept → Kept
+counted (Received.Accepted a) after k = kept (k .bad) (added (a .tally) (k .totals)) after
+counted (Received.Refused r) after k = kept (more (k .bad) 1) (k .totals) after
+
+unfoldable pub heard : List ℕ → Kept → Kept
+heard p k = counted (received (k .lent) p .answer) (received (k .lent) p .after) k
+
+-- between two bytes: the bytes of an unfinished length and packet, and how many bytes of an over-long packet are still to come
+pub record Hearing : Type 0 where
+  pub unfinished : List ℕ
+  pub skip : ℕ
+  pub kept : Kept
+
+abbrev pub hearing : List ℕ → ℕ → Kept → Hearing
+hearing u n k = record { unfinished = u; skip = n; kept = k }
+
+-- "A packet is 1 to 1,500 bytes": a longer one is passed over, n bytes of it at once, and is bad when its last byte has come
+unfoldable pub passed : ℕ → Hearing → Hearing
+passed n x = hearing (x .unfinished) (x .skip - n) (kept (pick (eqb n (x .skip)) (more (x .kept .bad) 1) (x .kept .bad)) (x .kept .totals) (x .kept .lent))
+
+-- the bytes of a length and its packet, one more than before: kept until they are all there
+unfoldable pub grown : List ℕ → Kept → Hearing
+grown u k =
+    pick (ltb (length u) 2) (hearing u 0 k)
+    (pick (ltb 1500 (field u 0 2)) (hearing [] (field u 0 2) k)
+    (pick (ltb (length u) (2 + field u 0 2)) (hearing u 0 k)
+    (hearing [] 0 (heard (take (field u 0 2) (drop 2 u)) k))))
+
+-- what one byte does
+unfoldable pub byte : ℕ → Hearing → Hearing
+byte b x = pick (eqb (x .skip) 0) (grown (x .unfinished ++ (b ∷ [])) (x .kept)) (passed 1 x)
+
+-- ---- the stream of the code: its state by value, the tables and the lent buffer
+abbrev pub keptOf : Stream → List ℕ → List ℕ → List ℕ → Kept
+keptOf k o s h = kept (k .bad) (k .totals) (lent o s h (k .receiver))
+
+abbrev pub hearingOf : Stream → List ℕ → List ℕ → List ℕ → List ℕ → Hearing
+hearingOf k o s h w = hearing (take (k .held) w) (k .skip) (keptOf k o s h)
+
+-- nothing held, nothing to pass over, nothing counted
+abbrev pub opened : State → Stream
+opened q = record { receiver = q; held = 0; skip = 0; bad = 0; totals = noTotals }
+
+-- "a recording that ends inside a length or packet gives `recording=cut`"
+unfoldable pub cut : Stream → Bool
+cut k = either (ltb 0 (k .held)) (ltb 0 (k .skip))
+
+-- "a lent buffer of 1,502 bytes or more for the unfinished packet (else 6, as also when the state claims more bytes held than the buffer has)"; 6 also where a receiver is refused by 6
+unfoldable pub feedable : Stream → ℕ → ℕ → ℕ → ℕ → Bool
+feedable k o s h w = both (both (sizesOk o s h) (nextOk (k .receiver .next))) (both (leb 1502 w) (leb (k .held) w))
+
+-- an answer, and what was lent after it
+pub record Outcome : Type 0 where
+  pub answer : Fed
+  pub orders : List ℕ
+  pub symbols : List ℕ
+  pub shelf : List ℕ
+  pub hold : List ℕ
+
+abbrev pub outcome : Fed → List ℕ → List ℕ → List ℕ → List ℕ → Outcome
+outcome a o s h w = record { answer = a; orders = o; symbols = s; shelf = h; hold = w }
+
+-- the stream after a chunk: in a buffer of w bytes the unfinished ones, and zeros behind them
+unfoldable pub took : ℕ → Hearing → Outcome
+took w x =
+    outcome (Fed.Took (record { receiver = x .kept .lent .state; held = length (x .unfinished); skip = x .skip; bad = x .kept .bad; totals = x .kept .totals }))
+    (x .kept .lent .orders) (x .kept .lent .symbols) (x .kept .lent .shelf)
+    (x .unfinished ++ replicate (w - length (x .unfinished)) 0)
+
+-- a chunk of any size, and a stream of any state with anything lent
+unfoldable pub fed : Stream → List ℕ → List ℕ → List ℕ → List ℕ → List ℕ → Outcome
+fed k o s h w chunk =
+    pick (feedable k (length o) (length s) (length h) (length w))
+    (took (length w) (each byte chunk (hearingOf k o s h w)))
+    (outcome (Fed.Refused (refusal 6)) o s h w)
