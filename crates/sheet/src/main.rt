@@ -6,11 +6,12 @@ use libc::STDERR_FILENO;
 use libc::STDIN_FILENO;
 use libc::STDOUT_FILENO;
 use receiver::Started;
+use receiver::State;
 use recording::Fed;
 use recording::Stream;
 
 // What the program is asked for.
-pub enum Asked {
+pub enum Task {
     Sheet,
     Help,
     Version,
@@ -18,7 +19,7 @@ pub enum Asked {
 }
 
 // What came of reading once.
-pub enum Turn {
+pub enum Outcome {
     More(Stream),
     End(Stream),
     Failed,
@@ -63,14 +64,14 @@ fn answer(
     block: &mut [u8],
     text: &mut [u8],
 ) {
-    match asked() {
-        Asked::Help => help(),
-        Asked::Version => say(STDOUT_FILENO, b"rimeheath 1.0, for DoM 1.3.b\n"),
-        Asked::Unknown => say(
+    match task_asked() {
+        Task::Help => help(),
+        Task::Version => say(STDOUT_FILENO, b"rimeheath 1.0, for DoM 1.3.b\n"),
+        Task::Unknown => say(
             STDERR_FILENO,
             b"rimeheath: sheet takes no word but --help and --version; the recording comes on standard input\n",
         ),
-        Asked::Sheet => work(orders, symbols, shelf, hold, block, text),
+        Task::Sheet => work(orders, symbols, shelf, hold, block, text),
     }
 }
 
@@ -94,26 +95,26 @@ fn help() {
 }
 
 // One word is understood; a second makes both unknown.
-fn asked() -> Asked {
+fn task_asked() -> Task {
     let count = os::arg_count();
     if count <= 1 {
-        return Asked::Sheet;
+        return Task::Sheet;
     }
     if 2 < count {
-        return Asked::Unknown;
+        return Task::Unknown;
     }
     let mut word = [0u8; 16];
     let n = os::arg(1, &mut word);
     if os::errno() != 0 {
-        return Asked::Unknown;
+        return Task::Unknown;
     }
     if check::same(&word[..n], b"--help") {
-        return Asked::Help;
+        return Task::Help;
     }
     if check::same(&word[..n], b"--version") {
-        return Asked::Version;
+        return Task::Version;
     }
-    Asked::Unknown
+    Task::Unknown
 }
 
 fn work(
@@ -126,15 +127,29 @@ fn work(
 ) {
     match receiver::start(orders, symbols, shelf) {
         Started::Refused(_) => refused(),
-        Started::Ready(s) => {
-            let end = read_all(orders, symbols, shelf, hold, block, recording::open(s));
-            match end {
-                Turn::End(t) => print(orders, symbols, text, t),
-                Turn::More(_) => refused(),
-                Turn::Failed => os::fail(b"rimeheath: standard input"),
-                Turn::Refused => refused(),
-            }
-        }
+        Started::Ready(s) => follow(orders, symbols, shelf, hold, block, s, text),
+    }
+}
+
+fn follow(
+    orders: &mut [u64],
+    symbols: &mut [u8],
+    shelf: &mut [u8],
+    hold: &mut [u8],
+    block: &mut [u8],
+    s: State,
+    text: &mut [u8],
+) {
+    let end = read_all(orders, symbols, shelf, hold, block, recording::open(s));
+    finish(orders, symbols, text, end);
+}
+
+fn finish(orders: &[u64], symbols: &[u8], text: &mut [u8], end: Outcome) {
+    match end {
+        Outcome::End(t) => print(orders, symbols, text, t),
+        Outcome::More(_) => refused(),
+        Outcome::Failed => os::fail(b"rimeheath: standard input"),
+        Outcome::Refused => refused(),
     }
 }
 
@@ -143,7 +158,7 @@ fn refused() {
     say(STDERR_FILENO, b"rimeheath: the tables were refused\n");
 }
 
-// A proved loop has to end, so it counts its turns down from a number that no recording uses up.
+// A proved loop has to end, so it counts its blocks up to a number that no recording reaches.
 fn read_all(
     orders: &mut [u64],
     symbols: &mut [u8],
@@ -151,22 +166,20 @@ fn read_all(
     hold: &mut [u8],
     block: &mut [u8],
     start: Stream,
-) -> Turn {
+) -> Outcome {
     let watched = libc::isatty(STDERR_FILENO) != 0;
     let mut s = start;
-    let mut turns = u64::MAX;
-    while 0 < turns {
+    let mut blocks: u64 = 0;
+    while blocks < u64::MAX {
         let t = turn(orders, symbols, shelf, hold, block, s);
-        let Turn::More(next) = t else {
+        let Outcome::More(next) = t else {
             return t;
         };
         s = next;
-        turns = turns - 1;
-        if watched {
-            show_progress(u64::MAX - turns);
-        }
+        blocks = blocks + 1;
+        show_progress(watched, blocks);
     }
-    Turn::More(s)
+    Outcome::More(s)
 }
 
 // Reads once and feeds what came. A read that a signal broke off is tried again.
@@ -177,31 +190,34 @@ fn turn(
     hold: &mut [u8],
     block: &mut [u8],
     s: Stream,
-) -> Turn {
+) -> Outcome {
     let got = libc::read(STDIN_FILENO, block);
     if got < 0 {
         return if os::errno() == libc::EINTR {
-            Turn::More(s)
+            Outcome::More(s)
         } else {
-            Turn::Failed
+            Outcome::Failed
         };
     }
     if got == 0 {
-        return Turn::End(s);
+        return Outcome::End(s);
     }
     let n = io::count(got, block);
     match recording::feed(orders, symbols, shelf, hold, s, &block[..n]) {
-        Fed::Took(t) => Turn::More(t),
-        Fed::Refused(_) => Turn::Refused,
+        Fed::Took(t) => Outcome::More(t),
+        Fed::Refused(_) => Outcome::Refused,
     }
 }
 
-// A line for who watches a long recording, now and then.
-fn show_progress(blocks: u64) {
+// A line now and then for who watches a long recording.
+fn show_progress(watched: bool, blocks: u64) {
+    if !watched {
+        return;
+    }
     if blocks % 1024 != 0 {
         return;
     }
-    say(STDERR_FILENO, b"rimeheath: blocks read: ");
+    say(STDERR_FILENO, b"rimeheath: reading, blocks so far: ");
     io::print_decimal(STDERR_FILENO, blocks);
     say(STDERR_FILENO, b"\n");
 }
