@@ -1,14 +1,15 @@
 -- What a sheet promises besides its definition: each answer's number, that a refusal leaves the buffer, that a large buffer holds the whole, and that the book and the views mean the same key.
 -- Assumes nothing.
 use Prim.Native.Nat.{ℕ, _≤_, min}
-use mathlib.Core.Path.{_≡_, ap, _∙_}
-use mathlib.Core.Bool.{true, false}
+use mathlib.Core.Path.{_≡_, refl, ap, _∙_}
+use mathlib.Core.Bool.{Bool, true, false}
 use mathlib.Core.List.{List}
 use native.Mathlib.Omega.{arith}
 use lib.ListN.{length, take, drop}
 use lib.Seq.{sets}
 use Rattle.facts.specs.Pick.{pick}
 use Rattle.facts.proofs.Picks.{no-second, pick-map}
+use Rattle.fields.specs.Fields.{refusal}
 use Rattle.fields.specs.declared.AddOrder.{AddOrder}
 use Rattle.book.specs.Rules.{sideOf, rowFor}
 use Rattle.views.specs.Ladder.{keyOf}
@@ -61,10 +62,22 @@ module _ (word : Recording) (bad : ℕ) (s : State) (orders symbols b : List ℕ
         let v = wrote-whole (w .1) h in
         record { answer-is = w .0 ∙ ap SheetAnswer.Written n; text-stands = rw n at (v .1); rest-stands = rw n at (v .2) }
 
+  -- only a sheet that is not refused is written
+  pub written-ok : (n : ℕ) (b' : List ℕ) → sheetAnd (SheetAnswer.Written n) b' ≡ sheetView word bad s orders symbols b → sheetOk s orders symbols ≡ true
+  unfolding sheetView pick
+  written-ok n b' e = go (sheetOk s orders symbols) e
+    where
+      go : (g : Bool) → sheetAnd (SheetAnswer.Written n) b' ≡ pick g (stored (sheetOf word bad s orders symbols) b) (sheetAnd (SheetAnswer.Refused (refusal 6)) b) → g ≡ true
+      go true e = refl
+      go false e =
+          let a : SheetAnswer.Written n ≡ SheetAnswer.Refused (refusal 6) = ap (λ (y : Sheet). y .answer) e in
+          let z : _≡_ {A = ℕ} 0 1 = cc in
+          absurd (omega arith)
+
   -- the two facts that a caller's `&buf[..n]` asks
-  pub written-counts : (n : ℕ) (b' : List ℕ) → sheetOk s orders symbols ≡ true → sheetAnd (SheetAnswer.Written n) b' ≡ sheetView word bad s orders symbols b → (n ≤ length b') × (n ≡ length (take n b'))
-  written-counts n b' ok e =
-      let w = sheet-wrote (SheetAnswer.Written n) b' e ok in
+  pub written-counts : (n : ℕ) (b' : List ℕ) → sheetAnd (SheetAnswer.Written n) b' ≡ sheetView word bad s orders symbols b → (n ≤ length b') × (n ≡ length (take n b'))
+  written-counts n b' e =
+      let w = sheet-wrote (SheetAnswer.Written n) b' e (written-ok n b' e) in
       let k : n ≡ min (length (sheetOf word bad s orders symbols)) (length b) = cc in
       rw k (wrote-counts (w .1) (omega arith))
 
