@@ -62,15 +62,10 @@ fn print(orders: &[u64], symbols: &[u8], t: Stream, text: &mut [u8]) {
     let state = t.receiver;
     match answer_sheet::sheet(text, orders, symbols, state, t.bad, Recording::Whole) {
         SheetAnswer::Refused(_) => refused(),
-        SheetAnswer::Written(n) => show(text, n),
+        SheetAnswer::Written(n) => {
+            io::write_all(STDOUT_FILENO, text::front(text, n));
+        }
     }
-}
-
-fn show(text: &[u8], n: usize) {
-    if text.len() < n {
-        return;
-    }
-    io::write_all(STDOUT_FILENO, &text[..n]);
 }
 
 fn refused() {

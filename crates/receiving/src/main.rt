@@ -229,14 +229,7 @@ fn show_signed(z: i64) {
     let mut t = [0u8; 24];
     let n = text::signed(&mut t, 0, z);
     io::write_all(STDOUT_FILENO, b" ");
-    show_text(&t, n);
-}
-
-fn show_text(t: &[u8], n: usize) {
-    if t.len() < n {
-        return;
-    }
-    io::write_all(STDOUT_FILENO, &t[..n]);
+    io::write_all(STDOUT_FILENO, text::front(&t, n));
 }
 
 fn show_side(orders: &[u64], symbols: &[u8], levels: &mut [u64], id: u32, side: Side, key: &[u8]) {

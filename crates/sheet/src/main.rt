@@ -236,10 +236,7 @@ fn print(orders: &[u64], symbols: &[u8], text: &mut [u8], s: Stream) {
 }
 
 fn show(text: &[u8], n: usize) {
-    if text.len() < n {
-        return;
-    }
-    if !io::write_all(STDOUT_FILENO, &text[..n]) {
+    if !io::write_all(STDOUT_FILENO, text::front(text, n)) {
         os::fail(b"rimeheath: standard output");
     }
 }

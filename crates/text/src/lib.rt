@@ -28,6 +28,16 @@ pub fn bytes(buf: &mut [u8], at: usize, s: &[u8]) -> usize
     o
 }
 
+// The first n bytes, or all where there are fewer: what has been written of a buffer.
+pub fn front(s: &[u8], n: usize) -> &[u8]
+    ensures { λ r. ⌜ now r ≡ take n (now (s .entry)) ⌝ }
+{
+    if s.len() < n {
+        return s;
+    }
+    &s[..n]
+}
+
 // The byte that shows the lowest digit of n.
 fn digit(n: u64) -> u8
     ensures { λ r. ⌜ r ≡ 48 + n % 10 ⌝ }
