@@ -1,61 +1,48 @@
+-- A refused start leaves the state; another tells it.
+-- Assumes nothing.
+use Rattle.api.proofs.Handing.{start-refused, start-ready}
 use borrow.Author.Needs.{needs}
 use Rattle.api.proofs.rimeheath_start.Statement.{statement}
 use Rattle.api.proofs.rimeheath_start.Tie as tie
-use Rattle.api.proofs.rimeheath_start.Reads as reads
-use Rattle.api.proofs.rimeheath_start.Lts as lts
-use Rattle.receiver.proofs.start.Reads as start-reads
 
--- src/lib.rt:18:11
 start-requires : tie.Need-start-requires
 start-requires c κs = search needs
 
--- src/lib.rt:19:26
 enum-known-r : tie.Need-enum-known-r
 enum-known-r c = search needs
 
--- src/lib.rt:20:24
 enum-known-s : tie.Need-enum-known-s
 enum-known-s c = search needs
 
--- src/lib.rt:21:31
 cast-t15 : tie.Need-cast-t15
 cast-t15 c = search needs
 
--- src/lib.rt:21:48
 cast-t16 : tie.Need-cast-t16
 cast-t16 c = search needs
 
--- src/lib.rt:9:1
 same-length : tie.Need-same-length
 same-length c = search needs
 
--- src/lib.rt:9:1
 same-length-2 : tie.Need-same-length-2
 same-length-2 c = search needs
 
--- src/lib.rt:9:1
 same-length-3 : tie.Need-same-length-3
 same-length-3 c = search needs
 
--- src/lib.rt:9:1
 returns : tie.Need-returns
-returns c = ?
+returns c = start-refused (c .before .before .before .before .before .before .before .before .before .start .result) _ _ _ _ (c .before .before .before .before .before .before .before .before .before .start .ensures) _ _ (c .before .r .given .1)
 
--- src/lib.rt:9:1
 same-length-4 : tie.Need-same-length-4
 same-length-4 c = search needs
 
--- src/lib.rt:9:1
 same-length-5 : tie.Need-same-length-5
 same-length-5 c = search needs
 
--- src/lib.rt:9:1
 same-length-6 : tie.Need-same-length-6
 same-length-6 c = search needs
 
--- src/lib.rt:9:1
 returns-2 : tie.Need-returns-2
-returns-2 c = ?
+returns-2 c = start-ready (c .before .before .before .before .before .before .before .before .before .before .before .before .start .result) _ _ _ _ (c .before .before .before .before .before .before .before .before .before .before .before .before .start .ensures) _ _ (c .before .before .before .before .s .given .1)
 
 pub rimeheath-start-spec : {M : Type 1} → statement M
 rimeheath-start-spec =
