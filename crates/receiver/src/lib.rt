@@ -302,7 +302,8 @@ fn sizes_ok(orders: usize, symbols: usize, shelf: usize) -> bool
     shelf::good_shelf(shelf)
 }
 
-fn next_ok(next: u64) -> bool
+// A next number from 1 to 10^12 + 1.
+pub fn next_ok(next: u64) -> bool
     ensures { λ r. ⌜ r ≡ nextOk next ⌝ }
 {
     1 <= next && next <= 1000000000001

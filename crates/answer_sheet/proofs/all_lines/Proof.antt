@@ -1,0 +1,30 @@
+-- Three appends, each where the one before ended, with the counts that were handed in.
+-- Assumes nothing.
+use Rattle.text.proofs.Laws.{wrote-as, wrote-then}
+use Rattle.answer_sheet.specs.Sheet.{sheetOf}
+use Rattle.answer_sheet.proofs.Exits.{counted-good, counted-totals}
+use borrow.Author.Needs.{needs}
+use Rattle.answer_sheet.proofs.all_lines.Statement.{statement}
+use Rattle.answer_sheet.proofs.all_lines.Tie as tie
+
+head-requires : tie.Need-head-requires
+head-requires c κs = search needs
+
+totals-requires : tie.Need-totals-requires
+totals-requires c κs = search needs
+
+blocks-requires : tie.Need-blocks-requires
+blocks-requires c κs = let a = c .before .before .before .before .before .before .before .before .before .before .before .before .args in counted-good (a .orders .now) (a .symbols .now) (a .sizes) (c .before .before .before .before .before .before .before .before .before .before .before .before .pre)
+
+same-length : tie.Need-same-length
+same-length c = search needs
+
+returns : tie.Need-returns
+unfolding sheetOf
+returns c =
+    let a = c .before .before .before .before .before .before .before .before .before .before .before .before .before .before .before .args in
+    wrote-then (c .before .before .before .before .before .before .before .before .before .before .head .ensures) (wrote-then (wrote-as (counted-totals (a .orders .now) (a .symbols .now) _ (a .sizes) (c .before .before .before .before .before .before .before .before .before .before .before .before .before .before .before .pre)) (c .before .before .before .before .before .before .totals .ensures)) (c .before .before .blocks2 .ensures))
+
+pub all-lines-spec : {M : Type 1} → statement M
+all-lines-spec =
+    tie.close (tie.spec head-requires totals-requires blocks-requires same-length returns)

@@ -1,0 +1,60 @@
+-- A used entry's symbol is known, so no view of it is refused; an entry not in use has no text.
+-- Assumes nothing.
+use Prim.Native.Nat.{ℕ}
+use mathlib.Core.Path.{_≡_, sym, ap, _∙_}
+use mathlib.Core.Bool.{true, false}
+use mathlib.Core.List.{[]}
+use lib.ListN.{getD}
+use borrow.Author.Tests.{not-true, not-false}
+use Rattle.fields.specs.declared.Symbol.{Symbol}
+use Rattle.rows.specs.Rows.{rows}
+use Rattle.symbols.specs.Entries.{entries}
+use Rattle.views.specs.Views.{viewFault}
+use Rattle.text.proofs.Laws.{wrote-as, wrote-none, wrote-then}
+use Rattle.answer_sheet.specs.Sheet.{blockOf}
+use Rattle.answer_sheet.proofs.Views.{used-shown, unused-text, used-text}
+use borrow.Author.Needs.{needs}
+use Rattle.answer_sheet.proofs.entry_text.Statement.{statement}
+use Rattle.answer_sheet.proofs.entry_text.Tie as tie
+
+is-used-at-requires : tie.Need-is-used-at-requires
+is-used-at-requires c κs = search needs
+
+returns : tie.Need-returns
+returns c =
+    let a = c .before .before .before .before .before .args in
+    wrote-as (unused-text (rows (a .orders .now)) (getD (entries (a .symbols .now)) (a .i) []) (sym (c .before .is-used-at .ensures) ∙ not-true _ (c .if1 .taken))) (wrote-none _ _)
+
+entry-at-requires : tie.Need-entry-at-requires
+entry-at-requires c κs = search needs
+
+symbol-lines-requires : tie.Need-symbol-lines-requires
+symbol-lines-requires c κs = search needs
+
+book-lines-requires : tie.Need-book-lines-requires
+book-lines-requires c κs =
+    let a = c .before .before .before .before .before .before .before .before .before .before .before .args in
+    ap (λ (s : Symbol). viewFault (s .id) (a .orders .now) (a .symbols .now)) (c .before .before .before .before .before .entry-at .ensures)
+    ∙ used-shown (a .orders .now) (a .symbols .now) (a .i) (c .before .before .before .before .before .before .before .before .before .before .before .pre) (sym (c .before .before .before .before .before .before .before .is-used-at .ensures) ∙ not-false _ (c .before .before .before .before .before .before .if1 .left))
+
+same-length : tie.Need-same-length
+same-length c = search needs
+
+returns-2 : tie.Need-returns-2
+unfolding blockOf
+returns-2 c =
+    let a = c .before .before .before .before .before .before .before .before .before .before .before .before .before .before .args in
+    wrote-as (ap (blockOf (rows (a .orders .now))) (c .before .before .before .before .before .before .before .before .entry-at .ensures) ∙ used-text (rows (a .orders .now)) (getD (entries (a .symbols .now)) (a .i) []) (sym (c .before .before .before .before .before .before .before .before .before .before .is-used-at .ensures) ∙ not-false _ (c .before .before .before .before .before .before .before .before .before .if1 .left)))
+    (wrote-then (c .before .before .before .before .before .before .symbol-lines .ensures) (c .before .before .book-lines .ensures))
+
+pub entry-text-spec : {M : Type 1} → statement M
+entry-text-spec =
+    tie.close
+    (tie.spec
+    is-used-at-requires
+    returns
+    entry-at-requires
+    symbol-lines-requires
+    book-lines-requires
+    same-length
+    returns-2)

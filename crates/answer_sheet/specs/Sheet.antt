@@ -1,0 +1,142 @@
+-- The sheet (document 01: "The sheet is key=value lines in a fixed order, each ended by one line feed, up to ten levels a side, bids first, symbols in table order").
+use Prim.Native.Nat.{ℕ, _+_, _*_, min}
+use mathlib.Core.List.{List, [], _∷_, _++_, map}
+use mathlib.Core.Bool.{Bool}
+use mathlib.Core.Path.{_≡_}
+use lib.ListN.{length, getD, take}
+use lib.Seq.{sets}
+use Rattle.facts.specs.Pick.{pick, both}
+use Rattle.facts.specs.Pieces.{join}
+use Rattle.fields.specs.Fields.{symbolOf, refusal}
+use Rattle.fields.specs.declared.Symbol.{Symbol}
+use Rattle.rows.specs.Rows.{rows}
+use Rattle.rows.specs.Find.{countLive}
+use Rattle.rows.specs.declared.Row.{Row}
+use Rattle.symbols.specs.Entries.{entries, used}
+use Rattle.symbols.specs.Find.{countUsed}
+use Rattle.views.specs.Ladder.{keyOf, ladder}
+use Rattle.views.specs.Spread.{spreadOf}
+use Rattle.views.specs.Views.{goodTables, countsView}
+use Rattle.views.specs.declared.Level.{Level}
+use Rattle.views.specs.declared.Side.{Side}
+use Rattle.views.specs.declared.LadderAnswer.{LadderAnswer}
+use Rattle.views.specs.declared.SpreadAnswer.{SpreadAnswer}
+use Rattle.views.specs.declared.Sizes.{Sizes}
+use Rattle.views.specs.declared.CountsAnswer.{CountsAnswer}
+use Rattle.receiver.specs.Lent.{nextOk}
+use Rattle.receiver.specs.declared.State.{State}
+use Rattle.text.specs.Text.{decimalOf, signedOf, tickerOf, lineOf}
+use Rattle.answer_sheet.specs.declared.Recording.{Recording}
+use Rattle.answer_sheet.specs.declared.SheetAnswer.{SheetAnswer}
+use Rattle.answer_sheet.specs.Keys.{recordingKey, badKey, nextKey, stopKey, secondKey, symbolsKey, ordersKey, symbolKey, tickerKey, lotKey, spreadKey, bidKey, askKey, wholeWord, cutWord, noneWord}
+
+-- ---- the head
+-- "a recording that ends inside a length or packet gives recording=cut"
+unfoldable pub recordingLine : Recording → List ℕ
+recordingLine Recording.Whole = recordingKey ++ (wholeWord ++ (10 ∷ []))
+recordingLine Recording.Cut = recordingKey ++ (cutWord ++ (10 ∷ []))
+
+-- "recording=whole", "bad=0", "next=6", "stop=0"
+unfoldable pub headOf : Recording → ℕ → State → List ℕ
+headOf word bad s = recordingLine word ++ (lineOf badKey bad ++ (lineOf nextKey (s .next) ++ lineOf stopKey (s .stop)))
+
+-- "second=34200", "symbols=1", "orders=3"
+unfoldable pub totalsOf : ℕ → ℕ → ℕ → List ℕ
+totalsOf second symbols orders = lineOf secondKey second ++ (lineOf symbolsKey symbols ++ lineOf ordersKey orders)
+
+-- ---- a side of a symbol
+-- a number and the byte behind it
+unfoldable pub valueOf : ℕ → ℕ → List ℕ
+valueOf n mark = decimalOf n ++ (mark ∷ [])
+
+-- "bid=10000000 150 2": "price, shares, number of orders"
+unfoldable pub levelLine : List ℕ → Level → List ℕ
+levelLine key l = key ++ (valueOf (l .price) 32 ++ (valueOf (l .shares) 32 ++ valueOf (l .orders) 10))
+
+-- "up to ten levels a side"
+unfoldable pub levelsShown : ℕ
+levelsShown = 10
+
+-- "An empty side has no lines"
+unfoldable pub sideLines : List ℕ → List Level → List ℕ
+sideLines key ls = join (map (levelLine key) (take levelsShown ls))
+
+-- ---- a symbol
+-- "with a side empty the answer is none": "spread=none"; a spread is refused only for an unknown symbol or tables of a bad size, so never on a sheet
+unfoldable pub spreadWord : SpreadAnswer → List ℕ
+spreadWord (SpreadAnswer.Of z) = signedOf z
+spreadWord SpreadAnswer.Empty = noneWord
+spreadWord (SpreadAnswer.Refused r) = []
+
+-- "spread=20000"
+unfoldable pub spreadLine : SpreadAnswer → List ℕ
+spreadLine a = spreadKey ++ (spreadWord a ++ (10 ∷ []))
+
+-- "ticker=ABC"
+unfoldable pub tickerLine : List ℕ → List ℕ
+tickerLine t = tickerKey ++ (tickerOf t ++ (10 ∷ []))
+
+-- "symbol=7", "ticker=ABC", "lot=100"
+unfoldable pub symbolLines : Symbol → List ℕ
+symbolLines e = lineOf symbolKey (e .id) ++ (tickerLine (e .ticker) ++ lineOf lotKey (e .lot))
+
+-- the spread, then the levels, "bids first"
+unfoldable pub bookLines : ℕ → List Row → List ℕ
+bookLines id rs = spreadLine (spreadOf id rs) ++ (sideLines bidKey (ladder (keyOf Side.Buy id) rs) ++ sideLines askKey (ladder (keyOf Side.Sell id) rs))
+
+unfoldable pub blockOf : List Row → Symbol → List ℕ
+blockOf rs e = symbolLines e ++ bookLines (e .id) rs
+
+-- a free or spoiled entry has no lines: "type 1 marks an entry in use"
+unfoldable pub entryText : List Row → List ℕ → List ℕ
+entryText rs e = pick (used e) (blockOf rs (symbolOf e)) []
+
+-- "symbols in table order"
+unfoldable pub blocksOf : List ℕ → List ℕ → List ℕ
+blocksOf orders symbols = join (map (entryText (rows orders)) (entries symbols))
+
+-- ---- the whole
+-- "The sheet is key=value lines in a fixed order": of a receiver's state and its tables, the count of bad packets and the recording's word
+unfoldable pub sheetOf : Recording → ℕ → State → List ℕ → List ℕ → List ℕ
+sheetOf word bad s orders symbols =
+    headOf word bad s ++ (totalsOf (s .second) (countUsed (entries symbols)) (countLive (rows orders)) ++ blocksOf orders symbols)
+
+-- no refusal 6: "a table size outside these limits or not in whole rows, or a next number outside 1 to 10^12 + 1"
+unfoldable pub sheetOk : State → List ℕ → List ℕ → Bool
+sheetOk s orders symbols = both (goodTables orders symbols) (nextOk (s .next))
+
+-- an answer, and every byte of the lent buffer behind it
+pub record Sheet : Type 0 where
+  pub answer : SheetAnswer
+  pub buf : List ℕ
+
+abbrev pub sheetAnd : SheetAnswer → List ℕ → Sheet
+sheetAnd a b = record { answer = a; buf = b }
+
+-- a text in a buffer as far as the buffer reaches, and how many bytes of it that are
+unfoldable pub stored : List ℕ → List ℕ → Sheet
+stored t b = sheetAnd (SheetAnswer.Written (min (length t) (length b))) (sets b 0 t)
+
+-- "Each refusal returns its number alone; tables, output and state keep every byte"
+unfoldable pub sheetView : Recording → ℕ → State → List ℕ → List ℕ → List ℕ → Sheet
+sheetView word bad s orders symbols b =
+    pick (sheetOk s orders symbols) (stored (sheetOf word bad s orders symbols) b) (sheetAnd (SheetAnswer.Refused (refusal 6)) b)
+
+-- document 01's number of each answer, 0 where nothing is refused
+unfoldable pub sheetNumber : SheetAnswer → ℕ
+sheetNumber (SheetAnswer.Written n) = 0
+sheetNumber (SheetAnswer.Refused r) = r .number
+
+-- ---- inside the code's loops and calls
+-- how many levels an answer tells of; none where it is refused
+unfoldable pub levelCount : LadderAnswer → ℕ
+levelCount (LadderAnswer.Levels n) = n
+levelCount (LadderAnswer.Refused r) = 0
+
+-- what a view of good tables counted
+abbrev pub Counted : Sizes → List ℕ → List ℕ → Type 0
+Counted z orders symbols = CountsAnswer.Are z ≡ countsView orders symbols
+
+-- level i of a run of numbers, three to a level
+unfoldable pub levelAt : List ℕ → ℕ → Level
+levelAt run i = record { price = getD run (3 * i) 0; shares = getD run (3 * i + 1) 0; orders = getD run (3 * i + 2) 0 }

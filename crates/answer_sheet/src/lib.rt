@@ -1,0 +1,245 @@
+// The sheet of a receiver: key=value lines, written into lent memory as far as it reaches.
+ghost use mathlib.Core.Path.{_≡_};
+ghost use mathlib.Core.Bool.{true};
+ghost use Prim.Native.Nat.{_+_, _*_, _≤_, min};
+ghost use lib.ListN.{length, getD};
+ghost use mathlib.Core.List.{[]};
+ghost use Rattle.rows.specs.Rows.{rows};
+ghost use Rattle.symbols.specs.Entries.{entries};
+ghost use Rattle.views.specs.Ladder.{keyOf, ladder};
+ghost use Rattle.views.specs.Views.{goodTables, viewFault};
+ghost use Rattle.text.specs.Text.{Wrote, each};
+ghost use Rattle.answer_sheet.specs.Sheet.{recordingLine, headOf, totalsOf, valueOf, levelLine, levelsShown, levelAt, levelCount, sideLines, spreadWord, spreadLine, tickerLine, symbolLines, bookLines, entryText, blocksOf, sheetOf, sheetAnd, sheetView, Counted};
+use fields::Refusal;
+use fields::Symbol;
+use receiver::State;
+use views::CountsAnswer;
+use views::LadderAnswer;
+use views::Level;
+use views::Side;
+use views::Sizes;
+use views::SpreadAnswer;
+
+// The numbers of ten levels.
+const RUN_SIZE: usize = 30;
+
+// A recording that ends inside a length or packet is cut.
+pub enum Recording {
+    Whole,
+    Cut,
+}
+
+// How many bytes of the sheet stand in the buffer.
+pub enum SheetAnswer {
+    Written(usize),
+    Refused(Refusal),
+}
+
+fn recording_line(buf: &mut [u8], at: usize, word: Recording) -> usize
+    ensures { λ r. ⌜ Wrote (now (buf .entry)) at (recordingLine word) (now (buf .exit)) r ⌝ }
+{
+    match word {
+        Recording::Whole => text::bytes(buf, at, b"recording=whole\n"),
+        Recording::Cut => text::bytes(buf, at, b"recording=cut\n"),
+    }
+}
+
+fn head(buf: &mut [u8], at: usize, word: Recording, bad: u64, state: State) -> usize
+    ensures { λ r. ⌜ Wrote (now (buf .entry)) at (headOf word bad state) (now (buf .exit)) r ⌝ }
+{
+    let o = recording_line(buf, at, word);
+    let p = text::line(buf, o, b"bad=", bad);
+    let q = text::line(buf, p, b"next=", state.next);
+    text::line(buf, q, b"stop=", state.stop as u64)
+}
+
+fn totals(buf: &mut [u8], at: usize, second: u32, sizes: Sizes) -> usize
+    ensures { λ r. ⌜ Wrote (now (buf .entry)) at (totalsOf second (sizes .symbols) (sizes .orders)) (now (buf .exit)) r ⌝ }
+{
+    let o = text::line(buf, at, b"second=", second as u64);
+    let p = text::line(buf, o, b"symbols=", sizes.symbols as u64);
+    text::line(buf, p, b"orders=", sizes.orders as u64)
+}
+
+// A number and the byte behind it.
+fn number(buf: &mut [u8], at: usize, n: u64, mark: u8) -> usize
+    ensures { λ r. ⌜ Wrote (now (buf .entry)) at (valueOf n mark) (now (buf .exit)) r ⌝ }
+{
+    let o = text::decimal(buf, at, n);
+    text::byte(buf, o, mark)
+}
+
+fn level_line(buf: &mut [u8], at: usize, key: &[u8], l: Level) -> usize
+    ensures { λ r. ⌜ Wrote (now (buf .entry)) at (levelLine (now (key .entry)) l) (now (buf .exit)) r ⌝ }
+{
+    let o = text::bytes(buf, at, key);
+    let p = number(buf, o, l.price, b' ');
+    let q = number(buf, p, l.shares, b' ');
+    number(buf, q, l.orders, b'\n')
+}
+
+// Level i of a run that holds it whole.
+fn level_in(run: &[u64], i: usize) -> Level
+    requires { ⌜ 3 * i + 3 ≤ length (now run) ⌝ }
+    ensures { λ r. ⌜ r ≡ levelAt (now (run .entry)) i ⌝ }
+{
+    let b = 3 * i;
+    Level {
+        price: run[b],
+        shares: run[b + 1],
+        orders: run[b + 2],
+    }
+}
+
+// The first n levels of a run.
+fn levels(buf: &mut [u8], at: usize, key: &[u8], run: &[u64], n: usize) -> usize
+    requires { ⌜ 3 * n ≤ length (now run) ⌝ }
+    ensures { λ r. ⌜ Wrote (now (buf .entry)) at (each (λ i. levelLine (now (key .entry)) (levelAt (now (run .entry)) i)) n) (now (buf .exit)) r ⌝ }
+{
+    let mut i = 0;
+    let mut o = at;
+    while i < n {
+        o = level_line(buf, o, key, level_in(run, i));
+        i += 1;
+    }
+    o
+}
+
+// How many levels a sheet shows.
+fn levels_shown(a: LadderAnswer) -> usize
+    ensures { λ r. ⌜ r ≡ min levelsShown (levelCount a) ⌝ }
+{
+    match a {
+        LadderAnswer::Levels(n) => { if n < 10 { n } else { 10 } }
+        LadderAnswer::Refused(_) => 0,
+    }
+}
+
+// The levels of a symbol and side, for a caller that knows it.
+fn side_lines(
+    buf: &mut [u8],
+    at: usize,
+    key: &[u8],
+    orders: &[u64],
+    symbols: &[u8],
+    id: u32,
+    side: Side,
+) -> usize
+    requires { ⌜ viewFault id (now orders) (now symbols) ≡ 0 ⌝ }
+    ensures { λ r. ⌜ Wrote (now (buf .entry)) at (sideLines (now (key .entry)) (ladder (keyOf side id) (rows (now (orders .entry))))) (now (buf .exit)) r ⌝ }
+{
+    let mut run = [0u64; RUN_SIZE];
+    let a = views::ladder(orders, symbols, id, side, &mut run);
+    levels(buf, at, key, &run, levels_shown(a))
+}
+
+fn spread_word(buf: &mut [u8], at: usize, a: SpreadAnswer) -> usize
+    ensures { λ r. ⌜ Wrote (now (buf .entry)) at (spreadWord a) (now (buf .exit)) r ⌝ }
+{
+    match a {
+        SpreadAnswer::Of(z) => text::signed(buf, at, z),
+        SpreadAnswer::Empty => text::bytes(buf, at, b"none"),
+        SpreadAnswer::Refused(_) => at,
+    }
+}
+
+fn spread_line(buf: &mut [u8], at: usize, a: SpreadAnswer) -> usize
+    ensures { λ r. ⌜ Wrote (now (buf .entry)) at (spreadLine a) (now (buf .exit)) r ⌝ }
+{
+    let o = text::bytes(buf, at, b"spread=");
+    let p = spread_word(buf, o, a);
+    text::byte(buf, p, b'\n')
+}
+
+// The spread and both sides of a symbol, for a caller that knows it.
+fn book_lines(buf: &mut [u8], at: usize, orders: &[u64], symbols: &[u8], id: u32) -> usize
+    requires { ⌜ viewFault id (now orders) (now symbols) ≡ 0 ⌝ }
+    ensures { λ r. ⌜ Wrote (now (buf .entry)) at (bookLines id (rows (now (orders .entry)))) (now (buf .exit)) r ⌝ }
+{
+    let o = spread_line(buf, at, views::spread(orders, symbols, id));
+    let p = side_lines(buf, o, b"bid=", orders, symbols, id, Side::Buy);
+    side_lines(buf, p, b"ask=", orders, symbols, id, Side::Sell)
+}
+
+fn ticker_line(buf: &mut [u8], at: usize, t: [u8; 11]) -> usize
+    ensures { λ r. ⌜ Wrote (now (buf .entry)) at (tickerLine t) (now (buf .exit)) r ⌝ }
+{
+    let o = text::bytes(buf, at, b"ticker=");
+    let p = text::ticker(buf, o, t);
+    text::byte(buf, p, b'\n')
+}
+
+fn symbol_lines(buf: &mut [u8], at: usize, e: Symbol) -> usize
+    ensures { λ r. ⌜ Wrote (now (buf .entry)) at (symbolLines e) (now (buf .exit)) r ⌝ }
+{
+    let ticker = e.ticker;
+    let o = text::line(buf, at, b"symbol=", e.id as u64);
+    let p = ticker_line(buf, o, ticker);
+    text::line(buf, p, b"lot=", e.lot as u64)
+}
+
+// The lines of entry i; none where it is not in use.
+fn entry_text(buf: &mut [u8], at: usize, orders: &[u64], symbols: &[u8], i: usize) -> usize
+    requires { ⌜ goodTables (now orders) (now symbols) ≡ true ⌝ }
+    ensures { λ r. ⌜ Wrote (now (buf .entry)) at (entryText (rows (now (orders .entry))) (getD (entries (now (symbols .entry))) i [])) (now (buf .exit)) r ⌝ }
+{
+    if !symbols::is_used_at(symbols, i) {
+        return at;
+    }
+    let e = symbols::entry_at(symbols, i);
+    let o = symbol_lines(buf, at, e);
+    book_lines(buf, o, orders, symbols, e.id)
+}
+
+fn blocks(buf: &mut [u8], at: usize, orders: &[u64], symbols: &[u8]) -> usize
+    requires { ⌜ goodTables (now orders) (now symbols) ≡ true ⌝ }
+    ensures { λ r. ⌜ Wrote (now (buf .entry)) at (blocksOf (now (orders .entry)) (now (symbols .entry))) (now (buf .exit)) r ⌝ }
+{
+    let n = symbols::entry_count(symbols);
+    let mut i = 0;
+    let mut o = at;
+    while i < n {
+        o = entry_text(buf, o, orders, symbols, i);
+        i += 1;
+    }
+    o
+}
+
+// The sheet of tables of good sizes, with what they hold.
+fn all_lines(
+    buf: &mut [u8],
+    orders: &[u64],
+    symbols: &[u8],
+    state: State,
+    bad: u64,
+    word: Recording,
+    sizes: Sizes,
+) -> usize
+    requires { ⌜ Counted sizes (now orders) (now symbols) ⌝ }
+    ensures { λ r. ⌜ Wrote (now (buf .entry)) 0 (sheetOf word bad state (now (orders .entry)) (now (symbols .entry))) (now (buf .exit)) r ⌝ }
+{
+    let o = head(buf, 0, word, bad, state);
+    let p = totals(buf, o, state.second, sizes);
+    blocks(buf, p, orders, symbols)
+}
+
+// The sheet of a receiver of any state with any tables, its bad count and the recording's word.
+pub fn sheet(
+    buf: &mut [u8],
+    orders: &[u64],
+    symbols: &[u8],
+    state: State,
+    bad: u64,
+    word: Recording,
+) -> SheetAnswer
+    ensures { λ r. ⌜ sheetAnd r (now (buf .exit)) ≡ sheetView word bad state (now (orders .entry)) (now (symbols .entry)) (now (buf .entry)) ⌝ }
+{
+    let c = views::counts(orders, symbols);
+    let CountsAnswer::Are(sizes) = c else {
+        return SheetAnswer::Refused(Refusal { number: 6 });
+    };
+    if !receiver::next_ok(state.next) {
+        return SheetAnswer::Refused(Refusal { number: 6 });
+    }
+    SheetAnswer::Written(all_lines(buf, orders, symbols, state, bad, word, sizes))
+}
