@@ -25,8 +25,10 @@ use Rattle.facts.specs.Pick.{pick}
 use Rattle.fields.specs.Fields.{numberOf}
 use Rattle.fields.specs.declared.Body.{Body}
 use borrow.Author.Tests.{eq-eqb, ne-eqb}
+use Rattle.answer_sheet.specs.declared.SheetAnswer.{SheetAnswer}
+use Rattle.answer_sheet.specs.Sheet.{Sheet, sheetAnd, sheetNumber}
 use Rattle.api.specs.Messages.{fieldsOf, bodyAnswer}
-use Rattle.api.specs.Calls.{stateNumbers, accountNumbers, startCall, startAnswer, receiveCall, receiveAnswer, ladderCall, ladderAnswer, call, bitsOf, spreadAnswer, countsAnswer, packetAnswer, recordAnswer}
+use Rattle.api.specs.Calls.{stateNumbers, accountNumbers, startCall, startAnswer, receiveCall, receiveAnswer, fillCall, ladderAnswer, call, bitsOf, spreadAnswer, countsAnswer, packetAnswer, recordAnswer, sheetAnswer}
 
 module _ (x : Started) (o s h : List ℕ) (b : Begun) (e : begun x o s h ≡ b) (l : List ℕ) where
   pub start-refused : (r : Refusal) → x ≡ Started.Refused r → startCall (r .number) l o s h ≡ startAnswer b l
@@ -49,11 +51,11 @@ module _ (x : Received) (t : State) (o s h : List ℕ) (u : Outcome) (e : outcom
       ∙ ap (λ (y : Received). receiveAnswer (outcome y (lent o s h t)) l a) (sym q) ∙ ap (λ (y : Outcome). receiveAnswer y l a) e
 
 module _ (x : LadderAnswer) (o : List ℕ) (v : Shown) (e : shown x o ≡ v) (l : List ℕ) where
-  pub ladder-refused : (r : Refusal) → x ≡ LadderAnswer.Refused r → ladderCall (r .number) l o ≡ ladderAnswer v l
+  pub ladder-refused : (r : Refusal) → x ≡ LadderAnswer.Refused r → fillCall (r .number) l o ≡ ladderAnswer v l
   unfolding ladderAnswer ladderNumber
   ladder-refused r q = ap (λ (y : LadderAnswer). ladderAnswer (shown y o) l) (sym q) ∙ ap (λ (y : Shown). ladderAnswer y l) e
 
-  pub ladder-levels : (n : ℕ) → x ≡ LadderAnswer.Levels n → ladderCall 0 (n ∷ []) o ≡ ladderAnswer v l
+  pub ladder-levels : (n : ℕ) → x ≡ LadderAnswer.Levels n → fillCall 0 (n ∷ []) o ≡ ladderAnswer v l
   unfolding ladderAnswer ladderNumber
   ladder-levels n q = ap (λ (y : LadderAnswer). ladderAnswer (shown y o) l) (sym q) ∙ ap (λ (y : Shown). ladderAnswer y l) e
 
@@ -117,3 +119,12 @@ module _ (m v : Body) (e : m ≡ v) (b l : List ℕ) (n : ℕ) (f : n ≡ number
       let o : numberOf m ≡ 0 = sym f ∙ z in
       let a : bodyAnswer m b l ≡ call (numberOf m) (fieldsOf m b) = rw (eq-eqb (numberOf m) 0 o) in
       ap (call 0) g ∙ ap (λ (y : ℕ). call y (fieldsOf m b)) (sym o) ∙ sym a ∙ ap (λ (y : Body). bodyAnswer y b l) e
+
+module _ (x : SheetAnswer) (o : List ℕ) (v : Sheet) (e : sheetAnd x o ≡ v) (l : List ℕ) where
+  pub sheet-refused : (r : Refusal) → x ≡ SheetAnswer.Refused r → fillCall (r .number) l o ≡ sheetAnswer v l
+  unfolding sheetAnswer sheetNumber
+  sheet-refused r q = ap (λ (y : SheetAnswer). sheetAnswer (sheetAnd y o) l) (sym q) ∙ ap (λ (y : Sheet). sheetAnswer y l) e
+
+  pub sheet-written : (n : ℕ) → x ≡ SheetAnswer.Written n → fillCall 0 (n ∷ []) o ≡ sheetAnswer v l
+  unfolding sheetAnswer sheetNumber
+  sheet-written n q = ap (λ (y : SheetAnswer). sheetAnswer (sheetAnd y o) l) (sym q) ∙ ap (λ (y : Sheet). sheetAnswer y l) e

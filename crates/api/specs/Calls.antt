@@ -17,6 +17,9 @@ use Rattle.views.specs.declared.LadderAnswer.{LadderAnswer}
 use Rattle.views.specs.declared.SpreadAnswer.{SpreadAnswer}
 use Rattle.views.specs.declared.CountsAnswer.{CountsAnswer}
 use Rattle.views.specs.Views.{Shown, ladderNumber, spreadNumber, countsNumber}
+use Rattle.answer_sheet.specs.declared.Recording.{Recording}
+use Rattle.answer_sheet.specs.declared.SheetAnswer.{SheetAnswer}
+use Rattle.answer_sheet.specs.Sheet.{Sheet, sheetNumber}
 use Rattle.packet.specs.declared.Packet.{Packet}
 use Rattle.packet.specs.declared.Record.{Record}
 use Rattle.packet.specs.Packet.{packetNumber}
@@ -87,21 +90,23 @@ abbrev pub sideOf : Bool → Side
 sideOf true = Side.Sell
 sideOf false = Side.Buy
 
--- a ladder's number, the number of its levels as lent, and the run
-pub record LadderCall : Type 0 where
+-- a number, what is lent to tell how much there is, and the run or text that is filled
+pub record FillCall : Type 0 where
   pub number : ℕ
-  pub levels : List ℕ
-  pub run : List ℕ
+  pub told : List ℕ
+  pub filled : List ℕ
 
-abbrev pub ladderCall : ℕ → List ℕ → List ℕ → LadderCall
-ladderCall n l o = record { number = n; levels = l; run = o }
+abbrev pub fillCall : ℕ → List ℕ → List ℕ → FillCall
+fillCall n l o = record { number = n; told = l; filled = o }
+
+-- the number of all levels
 
 abbrev pub levelsShown : LadderAnswer → List ℕ → List ℕ
 levelsShown (LadderAnswer.Levels n) l = n ∷ []
 levelsShown (LadderAnswer.Refused r) l = l
 
-unfoldable pub ladderAnswer : Shown → List ℕ → LadderCall
-ladderAnswer v l = ladderCall (ladderNumber (v .answer)) (levelsShown (v .answer) l) (v .run)
+unfoldable pub ladderAnswer : Shown → List ℕ → FillCall
+ladderAnswer v l = fillCall (ladderNumber (v .answer)) (levelsShown (v .answer) l) (v .run)
 
 -- a number, and the one thing lent for writing
 pub record Call : Type 0 where
@@ -148,3 +153,16 @@ recordNumbers (Record.Refused r) l = l
 
 unfoldable pub recordAnswer : Record → List ℕ → Call
 recordAnswer a l = call (recordNumber a) (recordNumbers a l)
+
+-- ---- the sheet
+abbrev pub wordOf : Bool → Recording
+wordOf true = Recording.Cut
+wordOf false = Recording.Whole
+
+-- how many bytes were written
+abbrev pub bytesWritten : SheetAnswer → List ℕ → List ℕ
+bytesWritten (SheetAnswer.Written n) l = n ∷ []
+bytesWritten (SheetAnswer.Refused r) l = l
+
+unfoldable pub sheetAnswer : Sheet → List ℕ → FillCall
+sheetAnswer v l = fillCall (sheetNumber (v .answer)) (bytesWritten (v .answer) l) (v .buf)

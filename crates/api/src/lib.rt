@@ -6,8 +6,11 @@ ghost use Rattle.views.specs.Views.{ladderView, spreadView, countsView};
 ghost use Rattle.packet.specs.Record.{readRecord};
 ghost use Rattle.packet.specs.Packet.{readPacket};
 ghost use Rattle.body.specs.Read.{readBody};
-ghost use Rattle.api.specs.Calls.{stateOf, accountNumbers, sideOf, startCall, startAnswer, receiveCall, receiveAnswer, ladderCall, ladderAnswer, call, bitsOf, spreadAnswer, countsAnswer, packetAnswer, recordAnswer};
+ghost use Rattle.answer_sheet.specs.Sheet.{sheetView};
+ghost use Rattle.api.specs.Calls.{stateOf, accountNumbers, sideOf, startCall, startAnswer, receiveCall, receiveAnswer, fillCall, ladderAnswer, call, bitsOf, spreadAnswer, countsAnswer, packetAnswer, recordAnswer, wordOf, sheetAnswer};
 ghost use Rattle.api.specs.Messages.{symbolFields, stateFields, statusFields, clearFields, addFields, modifyFields, deleteFields, executionFields, tradeFields, cancelFields, fieldsOf, bodyAnswer};
+use answer_sheet::Recording;
+use answer_sheet::SheetAnswer;
 use fields::AddOrder;
 use fields::Body;
 use fields::DeleteOrder;
@@ -119,7 +122,7 @@ pub extern "C" fn rimeheath_ladder(
     run: &mut [u64],
     levels: &mut [u64; 1],
 ) -> u8
-    ensures { λ r. ⌜ ladderCall r (now (levels .exit)) (now (run .exit)) ≡ ladderAnswer (ladderView (sideOf sell) symbol (now (orders .entry)) (now (symbols .entry)) (now (run .entry))) (now (levels .entry)) ⌝ }
+    ensures { λ r. ⌜ fillCall r (now (levels .exit)) (now (run .exit)) ≡ ladderAnswer (ladderView (sideOf sell) symbol (now (orders .entry)) (now (symbols .entry)) (now (run .entry))) (now (levels .entry)) ⌝ }
 {
     match views::ladder(orders, symbols, symbol, side_of(sell), run) {
         LadderAnswer::Refused(r) => r.number,
@@ -362,4 +365,37 @@ pub extern "C" fn rimeheath_body(b: &[u8], numbers: &mut [u64; 8]) -> u8
     }
     *numbers = fields_of(m, b);
     0
+}
+
+fn word_of(cut: bool) -> Recording
+    ensures { λ r. ⌜ r ≡ wordOf cut ⌝ }
+{
+    if cut {
+        Recording::Cut
+    } else {
+        Recording::Whole
+    }
+}
+
+// The answer sheet, as far as the buffer reaches, and how many bytes of it were written.
+#[no_mangle]
+pub extern "C" fn rimeheath_sheet(
+    buf: &mut [u8],
+    orders: &[u64],
+    symbols: &[u8],
+    state: &[u64; 3],
+    bad: u64,
+    cut: bool,
+    written: &mut [u64; 1],
+) -> u8
+    ensures { λ r. ⌜ fillCall r (now (written .exit)) (now (buf .exit)) ≡ sheetAnswer (sheetView (wordOf cut) bad (stateOf (now (state .entry))) (now (orders .entry)) (now (symbols .entry)) (now (buf .entry))) (now (written .entry)) ⌝ }
+{
+    let s = state_of(state);
+    match answer_sheet::sheet(buf, orders, symbols, s, bad, word_of(cut)) {
+        SheetAnswer::Refused(r) => r.number,
+        SheetAnswer::Written(n) => {
+            *written = [n as u64];
+            0
+        }
+    }
 }
