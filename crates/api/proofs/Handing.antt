@@ -7,101 +7,69 @@ use lib.IntN.{ℤ}
 use mir.Syntax.{w64}
 use mir.Val.{SFits, toZ, ofZ}
 use mir.ValLaws.{toZ-ofZ}
-use Rattle.fields.specs.declared.Refusal.{Refusal}
+use borrow.Author.Tests.{eq-eqb, ne-eqb}
+use Rattle.facts.specs.Pick.{pick}
+use Rattle.fields.specs.Fields.{numberOf}
+use Rattle.fields.specs.declared.Body.{Body}
+use Rattle.packet.specs.declared.Packet.{Packet}
+use Rattle.packet.specs.declared.Record.{Record}
+use Rattle.views.specs.declared.LadderAnswer.{LadderAnswer}
+use Rattle.views.specs.declared.SpreadAnswer.{SpreadAnswer}
+use Rattle.views.specs.declared.CountsAnswer.{CountsAnswer}
+use Rattle.views.specs.Views.{Shown, shown, spreadNumber}
 use Rattle.receiver.specs.declared.State.{State}
 use Rattle.receiver.specs.declared.Account.{Account}
 use Rattle.receiver.specs.declared.Received.{Received}
 use Rattle.receiver.specs.declared.Started.{Started}
 use Rattle.receiver.specs.Lent.{Begun, begun, lent, Outcome, outcome}
-use Rattle.views.specs.declared.LadderAnswer.{LadderAnswer}
-use Rattle.views.specs.declared.SpreadAnswer.{SpreadAnswer}
-use Rattle.views.specs.declared.CountsAnswer.{CountsAnswer}
-use Rattle.views.specs.declared.Sizes.{Sizes}
-use Rattle.views.specs.Views.{Shown, shown, ladderNumber, spreadNumber, countsNumber}
-use Rattle.packet.specs.declared.Packet.{Packet}
-use Rattle.packet.specs.declared.Record.{Record}
-use Rattle.packet.specs.declared.Head.{Head}
-use Rattle.facts.specs.Pick.{pick}
-use Rattle.fields.specs.Fields.{numberOf}
-use Rattle.fields.specs.declared.Body.{Body}
-use borrow.Author.Tests.{eq-eqb, ne-eqb}
 use Rattle.answer_sheet.specs.declared.SheetAnswer.{SheetAnswer}
-use Rattle.answer_sheet.specs.Sheet.{Sheet, sheetAnd, sheetNumber}
+use Rattle.answer_sheet.specs.Sheet.{Sheet, sheetAnd}
+use Rattle.api.specs.Calls.{stateNumbers, accountNumbers, startAnswer, receiveCall, receiveAnswer, ladderAnswer, call, bitsOf, spreadAnswer, countsAnswer, packetAnswer, recordAnswer, sheetAnswer}
 use Rattle.api.specs.Messages.{fieldsOf, bodyAnswer}
-use Rattle.api.specs.Calls.{stateNumbers, accountNumbers, startCall, startAnswer, receiveCall, receiveAnswer, fillCall, ladderAnswer, call, bitsOf, spreadAnswer, countsAnswer, packetAnswer, recordAnswer, sheetAnswer}
 
-module _ (x : Started) (o s h : List ℕ) (b : Begun) (e : begun x o s h ≡ b) (l : List ℕ) where
-  pub start-refused : (r : Refusal) → x ≡ Started.Refused r → startCall (r .number) l o s h ≡ startAnswer b l
-  unfolding startAnswer
-  start-refused r q = ap (λ (y : Started). startAnswer (begun y o s h) l) (sym q) ∙ ap (λ (y : Begun). startAnswer y l) e
+-- x is the answer and k its case; g puts it beside what was lent, and f hands that on
+handed : {A B C : Type 0} (f : B → C) (g : A → B) (x k : A) (b : B) → x ≡ k → g x ≡ b → f (g k) ≡ f b
+handed f g x k b q e = ap f (ap g (sym q) ∙ e)
 
-  pub start-ready : (t : State) → x ≡ Started.Ready t → startCall 0 (stateNumbers t) o s h ≡ startAnswer b l
-  unfolding startAnswer
-  start-ready t q = ap (λ (y : Started). startAnswer (begun y o s h) l) (sym q) ∙ ap (λ (y : Begun). startAnswer y l) e
+pub start-handed : (x k : Started) → x ≡ k → (o s h : List ℕ) (b : Begun) → begun x o s h ≡ b → (l : List ℕ) → startAnswer (begun k o s h) l ≡ startAnswer b l
+start-handed x k q o s h b e l = handed (λ y. startAnswer y l) (λ y. begun y o s h) x k b q e
 
-module _ (x : Received) (t : State) (o s h : List ℕ) (u : Outcome) (e : outcome x (lent o s h t) ≡ u) (l a : List ℕ) where
-  pub receive-refused : (r : Refusal) → x ≡ Received.Refused r → receiveCall (r .number) l a o s h ≡ receiveAnswer u l a
-  unfolding receiveAnswer
-  receive-refused r q = ap (λ (y : Received). receiveAnswer (outcome y (lent o s h t)) l a) (sym q) ∙ ap (λ (y : Outcome). receiveAnswer y l a) e
+pub ladder-handed : (x k : LadderAnswer) → x ≡ k → (o : List ℕ) (v : Shown) → shown x o ≡ v → (l : List ℕ) → ladderAnswer (shown k o) l ≡ ladderAnswer v l
+ladder-handed x k q o v e l = handed (λ y. ladderAnswer y l) (λ y. shown y o) x k v q e
 
+pub counts-handed : (x k v : CountsAnswer) → x ≡ k → x ≡ v → (l : List ℕ) → countsAnswer k l ≡ countsAnswer v l
+counts-handed x k v q e l = handed (λ y. countsAnswer y l) (λ y. y) x k v q e
+
+pub packet-handed : (x k v : Packet) → x ≡ k → x ≡ v → (l : List ℕ) → packetAnswer k l ≡ packetAnswer v l
+packet-handed x k v q e l = handed (λ y. packetAnswer y l) (λ y. y) x k v q e
+
+pub record-handed : (x k v : Record) → x ≡ k → x ≡ v → (l : List ℕ) → recordAnswer k l ≡ recordAnswer v l
+record-handed x k v q e l = handed (λ y. recordAnswer y l) (λ y. y) x k v q e
+
+pub sheet-handed : (x k : SheetAnswer) → x ≡ k → (o : List ℕ) (v : Sheet) → sheetAnd x o ≡ v → (l : List ℕ) → sheetAnswer (sheetAnd k o) l ≡ sheetAnswer v l
+sheet-handed x k q o v e l = handed (λ y. sheetAnswer y l) (λ y. sheetAnd y o) x k v q e
+
+-- ---- a packet to a receiver
+module _ (x : Received) (o s h : List ℕ) (t : State) (u : Outcome) (e : outcome x (lent o s h t) ≡ u) (l a : List ℕ) where
+  pub receive-handed : (k : Received) → x ≡ k → receiveAnswer (outcome k (lent o s h t)) l a ≡ receiveAnswer u l a
+  receive-handed k q = handed (λ y. receiveAnswer y l a) (λ y. outcome y (lent o s h t)) x k u q e
+
+  -- the account is what the call that copies it told
   pub receive-accepted : (c : Account) → x ≡ Received.Accepted c → (n : List ℕ) → n ≡ accountNumbers c → receiveCall 0 (stateNumbers t) n o s h ≡ receiveAnswer u l a
   unfolding receiveAnswer
-  receive-accepted c q n f =
-      ap (λ (y : List ℕ). receiveCall 0 (stateNumbers t) y o s h) f
-      ∙ ap (λ (y : Received). receiveAnswer (outcome y (lent o s h t)) l a) (sym q) ∙ ap (λ (y : Outcome). receiveAnswer y l a) e
+  receive-accepted c q n f = ap (λ (y : List ℕ). receiveCall 0 (stateNumbers t) y o s h) f ∙ receive-handed (Received.Accepted c) q
 
-module _ (x : LadderAnswer) (o : List ℕ) (v : Shown) (e : shown x o ≡ v) (l : List ℕ) where
-  pub ladder-refused : (r : Refusal) → x ≡ LadderAnswer.Refused r → fillCall (r .number) l o ≡ ladderAnswer v l
-  unfolding ladderAnswer ladderNumber
-  ladder-refused r q = ap (λ (y : LadderAnswer). ladderAnswer (shown y o) l) (sym q) ∙ ap (λ (y : Shown). ladderAnswer y l) e
-
-  pub ladder-levels : (n : ℕ) → x ≡ LadderAnswer.Levels n → fillCall 0 (n ∷ []) o ≡ ladderAnswer v l
-  unfolding ladderAnswer ladderNumber
-  ladder-levels n q = ap (λ (y : LadderAnswer). ladderAnswer (shown y o) l) (sym q) ∙ ap (λ (y : Shown). ladderAnswer y l) e
-
+-- ---- a spread
 module _ (x v : SpreadAnswer) (e : x ≡ v) (l : List ℕ) where
-  pub spread-refused : (r : Refusal) → x ≡ SpreadAnswer.Refused r → call (r .number) l ≡ spreadAnswer v l
-  unfolding spreadAnswer spreadNumber
-  spread-refused r q = ap (λ (y : SpreadAnswer). spreadAnswer y l) (sym q ∙ e)
+  pub spread-handed : (k : SpreadAnswer) → x ≡ k → spreadAnswer k l ≡ spreadAnswer v l
+  spread-handed k q = handed (λ y. spreadAnswer y l) (λ y. y) x k v q e
 
-  pub spread-empty : x ≡ SpreadAnswer.Empty → call 0 (0 ∷ 0 ∷ []) ≡ spreadAnswer v l
-  unfolding spreadAnswer spreadNumber
-  spread-empty q = ap (λ (y : SpreadAnswer). spreadAnswer y l) (sym q ∙ e)
-
-  -- z is lent on as its bits, which hold it
+  -- the bits are what the call that makes them told of z, as its own bits hold it
   pub spread-is : (z : ℤ) → SFits w64 z → x ≡ SpreadAnswer.Of z → (n : ℕ) → n ≡ bitsOf (toZ w64 (ofZ w64 z)) → call 0 (1 ∷ n ∷ []) ≡ spreadAnswer v l
   unfolding spreadAnswer spreadNumber
-  spread-is z fit q n f =
-      ap (λ (y : ℕ). call 0 (1 ∷ y ∷ [])) (f ∙ ap bitsOf (toZ-ofZ w64 z fit))
-      ∙ ap (λ (y : SpreadAnswer). spreadAnswer y l) (sym q ∙ e)
+  spread-is z fit q n f = ap (λ (y : ℕ). call 0 (1 ∷ y ∷ [])) (f ∙ ap bitsOf (toZ-ofZ w64 z fit)) ∙ spread-handed (SpreadAnswer.Of z) q
 
-module _ (x v : CountsAnswer) (e : x ≡ v) (l : List ℕ) where
-  pub counts-refused : (r : Refusal) → x ≡ CountsAnswer.Refused r → call (r .number) l ≡ countsAnswer v l
-  unfolding countsAnswer countsNumber
-  counts-refused r q = ap (λ (y : CountsAnswer). countsAnswer y l) (sym q ∙ e)
-
-  pub counts-are : (n : Sizes) → x ≡ CountsAnswer.Are n → call 0 (n .orders ∷ n .symbols ∷ []) ≡ countsAnswer v l
-  unfolding countsAnswer countsNumber
-  counts-are n q = ap (λ (y : CountsAnswer). countsAnswer y l) (sym q ∙ e)
-
-module _ (x v : Packet) (e : x ≡ v) (l : List ℕ) where
-  pub packet-refused : (r : Refusal) → x ≡ Packet.Refused r → call (r .number) l ≡ packetAnswer v l
-  unfolding packetAnswer
-  packet-refused r q = ap (λ (y : Packet). packetAnswer y l) (sym q ∙ e)
-
-  pub packet-good : (n : ℕ) → x ≡ Packet.Good n → call 0 (n ∷ []) ≡ packetAnswer v l
-  unfolding packetAnswer
-  packet-good n q = ap (λ (y : Packet). packetAnswer y l) (sym q ∙ e)
-
-module _ (x v : Record) (e : x ≡ v) (l : List ℕ) where
-  pub record-refused : (r : Refusal) → x ≡ Record.Refused r → call (r .number) l ≡ recordAnswer v l
-  unfolding recordAnswer
-  record-refused r q = ap (λ (y : Record). recordAnswer y l) (sym q ∙ e)
-
-  pub record-good : (h : Head) → x ≡ Record.Good h → call 0 (h .number ∷ h .len ∷ []) ≡ recordAnswer v l
-  unfolding recordAnswer
-  record-good h q = ap (λ (y : Record). recordAnswer y l) (sym q ∙ e)
-
+-- ---- a body
 -- the numbers of the case that a message is are its numbers
 pub case-fields : (m k : Body) → m ≡ k → (b w : List ℕ) → w ≡ fieldsOf k b → w ≡ fieldsOf m b
 case-fields m k q b w f = f ∙ ap (λ (y : Body). fieldsOf y b) (sym q)
@@ -119,12 +87,3 @@ module _ (m v : Body) (e : m ≡ v) (b l : List ℕ) (n : ℕ) (f : n ≡ number
       let o : numberOf m ≡ 0 = sym f ∙ z in
       let a : bodyAnswer m b l ≡ call (numberOf m) (fieldsOf m b) = rw (eq-eqb (numberOf m) 0 o) in
       ap (call 0) g ∙ ap (λ (y : ℕ). call y (fieldsOf m b)) (sym o) ∙ sym a ∙ ap (λ (y : Body). bodyAnswer y b l) e
-
-module _ (x : SheetAnswer) (o : List ℕ) (v : Sheet) (e : sheetAnd x o ≡ v) (l : List ℕ) where
-  pub sheet-refused : (r : Refusal) → x ≡ SheetAnswer.Refused r → fillCall (r .number) l o ≡ sheetAnswer v l
-  unfolding sheetAnswer sheetNumber
-  sheet-refused r q = ap (λ (y : SheetAnswer). sheetAnswer (sheetAnd y o) l) (sym q) ∙ ap (λ (y : Sheet). sheetAnswer y l) e
-
-  pub sheet-written : (n : ℕ) → x ≡ SheetAnswer.Written n → fillCall 0 (n ∷ []) o ≡ sheetAnswer v l
-  unfolding sheetAnswer sheetNumber
-  sheet-written n q = ap (λ (y : SheetAnswer). sheetAnswer (sheetAnd y o) l) (sym q) ∙ ap (λ (y : Sheet). sheetAnswer y l) e

@@ -1,7 +1,7 @@
 -- A refused body leaves what is lent; any other is told by its numbers.
 -- Assumes nothing.
-use native.Mathlib.Omega.{arith}
 use Rattle.api.proofs.Handing.{body-refused, body-told}
+use native.Mathlib.Omega.{arith}
 use borrow.Author.Needs.{needs}
 use Rattle.api.proofs.rimeheath_body.Statement.{statement}
 use Rattle.api.proofs.rimeheath_body.Tie as tie

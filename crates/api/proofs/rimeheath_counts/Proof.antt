@@ -1,6 +1,8 @@
 -- Both answers of the counts are handed on.
 -- Assumes nothing.
-use Rattle.api.proofs.Handing.{counts-refused, counts-are}
+use Rattle.views.specs.Views.{countsNumber}
+use Rattle.api.specs.Calls.{countsAnswer}
+use Rattle.api.proofs.Handing.{counts-handed}
 use borrow.Author.Needs.{needs}
 use Rattle.api.proofs.rimeheath_counts.Statement.{statement}
 use Rattle.api.proofs.rimeheath_counts.Tie as tie
@@ -15,10 +17,12 @@ enum-known-n : tie.Need-enum-known-n
 enum-known-n c = search needs
 
 returns : tie.Need-returns
-returns c = counts-refused (c .before .before .before .counts .result) _ (c .before .before .before .counts .ensures) _ _ (c .before .r .given .1)
+unfolding countsAnswer countsNumber
+returns c = counts-handed _ _ _ (c .before .r .given .1) (c .before .before .before .counts .ensures) (c .before .before .before .before .before .before .args .counts .now)
 
 returns-2 : tie.Need-returns-2
-returns-2 c = counts-are (c .before .before .before .before .counts .result) _ (c .before .before .before .before .counts .ensures) _ _ (c .before .before .n .given .1)
+unfolding countsAnswer countsNumber
+returns-2 c = counts-handed _ _ _ (c .before .before .n .given .1) (c .before .before .before .before .counts .ensures) (c .before .before .before .before .before .before .before .args .counts .now)
 
 pub rimeheath-counts-spec : {M : Type 1} → statement M
 rimeheath-counts-spec =

@@ -1,6 +1,8 @@
 -- Both answers of the ladder are handed on, and the run is the ladder's.
 -- Assumes nothing.
-use Rattle.api.proofs.Handing.{ladder-refused, ladder-levels}
+use Rattle.views.specs.Views.{ladderNumber}
+use Rattle.api.specs.Calls.{ladderAnswer}
+use Rattle.api.proofs.Handing.{ladder-handed}
 use borrow.Author.Needs.{needs}
 use Rattle.api.proofs.rimeheath_ladder.Statement.{statement}
 use Rattle.api.proofs.rimeheath_ladder.Tie as tie
@@ -21,13 +23,15 @@ same-length : tie.Need-same-length
 same-length c = search needs
 
 returns : tie.Need-returns
-returns c = ladder-refused (c .before .before .before .before .before .ladder .result) _ _ (rw (c .before .before .before .before .before .before .before .side-of .ensures) at (c .before .before .before .before .before .ladder .ensures)) _ _ (c .before .r .given .1)
+unfolding ladderAnswer ladderNumber
+returns c = ladder-handed _ _ (c .before .r .given .1) _ _ (rw (c .before .before .before .before .before .before .before .side-of .ensures) at (c .before .before .before .before .before .ladder .ensures)) (c .before .before .before .before .before .before .before .before .before .before .before .args .levels .now)
 
 same-length-2 : tie.Need-same-length-2
 same-length-2 c = search needs
 
 returns-2 : tie.Need-returns-2
-returns-2 c = ladder-levels (c .before .before .before .before .before .before .ladder .result) _ _ (rw (c .before .before .before .before .before .before .before .before .side-of .ensures) at (c .before .before .before .before .before .before .ladder .ensures)) _ _ (c .before .before .n .given .1)
+unfolding ladderAnswer ladderNumber
+returns-2 c = ladder-handed _ _ (c .before .before .n .given .1) _ _ (rw (c .before .before .before .before .before .before .before .before .side-of .ensures) at (c .before .before .before .before .before .before .ladder .ensures)) (c .before .before .before .before .before .before .before .before .before .before .before .before .args .levels .now)
 
 pub rimeheath-ladder-spec : {M : Type 1} → statement M
 rimeheath-ladder-spec =

@@ -1,6 +1,7 @@
 -- Both answers to a packet are handed on.
 -- Assumes nothing.
-use Rattle.api.proofs.Handing.{packet-refused, packet-good}
+use Rattle.api.specs.Calls.{packetAnswer}
+use Rattle.api.proofs.Handing.{packet-handed}
 use borrow.Author.Needs.{needs}
 use Rattle.api.proofs.rimeheath_packet.Statement.{statement}
 use Rattle.api.proofs.rimeheath_packet.Tie as tie
@@ -15,10 +16,12 @@ enum-known-n : tie.Need-enum-known-n
 enum-known-n c = search needs
 
 returns : tie.Need-returns
-returns c = packet-refused (c .before .before .before .read-packet .result) _ (c .before .before .before .read-packet .ensures) _ _ (c .before .r .given .1)
+unfolding packetAnswer
+returns c = packet-handed _ _ _ (c .before .r .given .1) (c .before .before .before .read-packet .ensures) (c .before .before .before .before .before .args .records .now)
 
 returns-2 : tie.Need-returns-2
-returns-2 c = packet-good (c .before .before .before .before .read-packet .result) _ (c .before .before .before .before .read-packet .ensures) _ _ (c .before .before .n .given .1)
+unfolding packetAnswer
+returns-2 c = packet-handed _ _ _ (c .before .before .n .given .1) (c .before .before .before .before .read-packet .ensures) (c .before .before .before .before .before .before .args .records .now)
 
 pub rimeheath-packet-spec : {M : Type 1} → statement M
 rimeheath-packet-spec =

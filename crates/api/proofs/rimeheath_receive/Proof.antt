@@ -1,6 +1,7 @@
 -- A refused packet leaves state and account; an accepted one tells both.
 -- Assumes nothing.
-use Rattle.api.proofs.Handing.{receive-refused, receive-accepted}
+use Rattle.api.specs.Calls.{receiveAnswer}
+use Rattle.api.proofs.Handing.{receive-handed, receive-accepted}
 use borrow.Author.Needs.{needs}
 use Rattle.api.proofs.rimeheath_receive.Statement.{statement}
 use Rattle.api.proofs.rimeheath_receive.Tie as tie
@@ -36,7 +37,8 @@ same-length-3 : tie.Need-same-length-3
 same-length-3 c = search needs
 
 returns : tie.Need-returns
-returns c = receive-refused _ _ _ _ _ _ (rw (c .before .before .before .before .before .before .before .before .before .before .before .state-of .ensures) at (c .before .before .before .before .before .before .before .before .before .before .receive .ensures)) _ _ _ (c .before .answer .given .1)
+unfolding receiveAnswer
+returns c = receive-handed _ _ _ _ _ _ (rw (c .before .before .before .before .before .before .before .before .before .before .before .state-of .ensures) at (c .before .before .before .before .before .before .before .before .before .before .receive .ensures)) (c .before .before .before .before .before .before .before .before .before .before .before .before .before .before .before .before .before .before .before .before .args .state .now) (c .before .before .before .before .before .before .before .before .before .before .before .before .before .before .before .before .before .before .before .before .args .account .now) _ (c .before .answer .given .1)
 
 same-length-4 : tie.Need-same-length-4
 same-length-4 c = search needs

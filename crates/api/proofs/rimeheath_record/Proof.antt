@@ -1,6 +1,7 @@
 -- Both answers to a record are handed on.
 -- Assumes nothing.
-use Rattle.api.proofs.Handing.{record-refused, record-good}
+use Rattle.api.specs.Calls.{recordAnswer}
+use Rattle.api.proofs.Handing.{record-handed}
 use borrow.Author.Needs.{needs}
 use Rattle.api.proofs.rimeheath_record.Statement.{statement}
 use Rattle.api.proofs.rimeheath_record.Tie as tie
@@ -15,10 +16,12 @@ enum-known-h : tie.Need-enum-known-h
 enum-known-h c = search needs
 
 returns : tie.Need-returns
-returns c = record-refused (c .before .before .before .read-record .result) _ (c .before .before .before .read-record .ensures) _ _ (c .before .r .given .1)
+unfolding recordAnswer
+returns c = record-handed _ _ _ (c .before .r .given .1) (c .before .before .before .read-record .ensures) (c .before .before .before .before .before .args .head .now)
 
 returns-2 : tie.Need-returns-2
-returns-2 c = record-good (c .before .before .before .before .read-record .result) _ (c .before .before .before .before .read-record .ensures) _ _ (c .before .before .h .given .1)
+unfolding recordAnswer
+returns-2 c = record-handed _ _ _ (c .before .before .h .given .1) (c .before .before .before .before .read-record .ensures) (c .before .before .before .before .before .before .args .head .now)
 
 pub rimeheath-record-spec : {M : Type 1} → statement M
 rimeheath-record-spec =

@@ -1,6 +1,8 @@
 -- Both answers of the sheet are handed on, and the text is the sheet's.
 -- Assumes nothing.
-use Rattle.api.proofs.Handing.{sheet-refused, sheet-written}
+use Rattle.answer_sheet.specs.Sheet.{sheetNumber}
+use Rattle.api.specs.Calls.{sheetAnswer}
+use Rattle.api.proofs.Handing.{sheet-handed}
 use borrow.Author.Needs.{needs}
 use Rattle.api.proofs.rimeheath_sheet.Statement.{statement}
 use Rattle.api.proofs.rimeheath_sheet.Tie as tie
@@ -24,13 +26,15 @@ same-length : tie.Need-same-length
 same-length c = search needs
 
 returns : tie.Need-returns
-returns c = sheet-refused (c .before .before .before .before .before .sheet .result) _ _ (rw (c .before .before .before .before .before .before .before .before .state-of .ensures, c .before .before .before .before .before .before .word-of .ensures) at (c .before .before .before .before .before .sheet .ensures)) _ _ (c .before .r .given .1)
+unfolding sheetAnswer sheetNumber
+returns c = sheet-handed _ _ (c .before .r .given .1) _ _ (rw (c .before .before .before .before .before .before .before .before .state-of .ensures, c .before .before .before .before .before .before .word-of .ensures) at (c .before .before .before .before .before .sheet .ensures)) (c .before .before .before .before .before .before .before .before .before .before .before .before .args .written .now)
 
 same-length-2 : tie.Need-same-length-2
 same-length-2 c = search needs
 
 returns-2 : tie.Need-returns-2
-returns-2 c = sheet-written (c .before .before .before .before .before .before .sheet .result) _ _ (rw (c .before .before .before .before .before .before .before .before .before .state-of .ensures, c .before .before .before .before .before .before .before .word-of .ensures) at (c .before .before .before .before .before .before .sheet .ensures)) _ _ (c .before .before .n .given .1)
+unfolding sheetAnswer sheetNumber
+returns-2 c = sheet-handed _ _ (c .before .before .n .given .1) _ _ (rw (c .before .before .before .before .before .before .before .before .before .state-of .ensures, c .before .before .before .before .before .before .before .word-of .ensures) at (c .before .before .before .before .before .before .sheet .ensures)) (c .before .before .before .before .before .before .before .before .before .before .before .before .before .args .written .now)
 
 pub rimeheath-sheet-spec : {M : Type 1} → statement M
 rimeheath-sheet-spec =

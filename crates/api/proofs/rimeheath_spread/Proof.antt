@@ -1,6 +1,8 @@
 -- Each of the three answers of the spread is handed on, the number as its bits.
 -- Assumes nothing.
-use Rattle.api.proofs.Handing.{spread-refused, spread-empty, spread-is}
+use Rattle.views.specs.Views.{spreadNumber}
+use Rattle.api.specs.Calls.{spreadAnswer}
+use Rattle.api.proofs.Handing.{spread-handed, spread-is}
 use borrow.Author.Needs.{needs}
 use Rattle.api.proofs.rimeheath_spread.Statement.{statement}
 use Rattle.api.proofs.rimeheath_spread.Tie as tie
@@ -21,13 +23,15 @@ bits-of-requires : tie.Need-bits-of-requires
 bits-of-requires c κs = search needs
 
 returns : tie.Need-returns
-returns c = spread-refused (c .before .before .before .spread .result) _ (c .before .before .before .spread .ensures) _ _ (c .before .r .given .1)
+unfolding spreadAnswer spreadNumber
+returns c = spread-handed _ _ (c .before .before .before .spread .ensures) (c .before .before .before .before .before .before .args .answer .now) _ (c .before .r .given .1)
 
 returns-2 : tie.Need-returns-2
-returns-2 c = spread-empty (c .before .before .before .spread .result) _ (c .before .before .before .spread .ensures) _ (c .before .enum-told .given .1)
+unfolding spreadAnswer spreadNumber
+returns-2 c = spread-handed _ _ (c .before .before .before .spread .ensures) (c .before .before .before .before .before .before .args .answer .now) _ (c .before .enum-told .given .1)
 
 returns-3 : tie.Need-returns-3
-returns-3 c = spread-is (c .before .before .before .before .before .spread .result) _ (c .before .before .before .before .before .spread .ensures) _ (c .before .before .before .z .given .0 .0) (record { sfits = c .before .before .known-told2 .given .0 .1 }) (c .before .before .before .z .given .1) _ (c .before .bits-of .ensures)
+returns-3 c = spread-is _ _ (c .before .before .before .before .before .spread .ensures) _ (c .before .before .before .z .given .0 .0) (record { sfits = c .before .before .known-told2 .given .0 .1 }) (c .before .before .before .z .given .1) _ (c .before .bits-of .ensures)
 
 pub rimeheath-spread-spec : {M : Type 1} → statement M
 rimeheath-spread-spec =

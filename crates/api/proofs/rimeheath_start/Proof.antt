@@ -1,6 +1,7 @@
 -- A refused start leaves the state; another tells it.
 -- Assumes nothing.
-use Rattle.api.proofs.Handing.{start-refused, start-ready}
+use Rattle.api.specs.Calls.{startAnswer}
+use Rattle.api.proofs.Handing.{start-handed}
 use borrow.Author.Needs.{needs}
 use Rattle.api.proofs.rimeheath_start.Statement.{statement}
 use Rattle.api.proofs.rimeheath_start.Tie as tie
@@ -30,7 +31,8 @@ same-length-3 : tie.Need-same-length-3
 same-length-3 c = search needs
 
 returns : tie.Need-returns
-returns c = start-refused (c .before .before .before .before .before .before .before .before .before .start .result) _ _ _ _ (c .before .before .before .before .before .before .before .before .before .start .ensures) _ _ (c .before .r .given .1)
+unfolding startAnswer
+returns c = start-handed _ _ (c .before .r .given .1) _ _ _ _ (c .before .before .before .before .before .before .before .before .before .start .ensures) (c .before .before .before .before .before .before .before .before .before .before .before .before .before .before .before .before .args .state .now)
 
 same-length-4 : tie.Need-same-length-4
 same-length-4 c = search needs
@@ -42,7 +44,8 @@ same-length-6 : tie.Need-same-length-6
 same-length-6 c = search needs
 
 returns-2 : tie.Need-returns-2
-returns-2 c = start-ready (c .before .before .before .before .before .before .before .before .before .before .before .before .start .result) _ _ _ _ (c .before .before .before .before .before .before .before .before .before .before .before .before .start .ensures) _ _ (c .before .before .before .before .s .given .1)
+unfolding startAnswer
+returns-2 c = start-handed _ _ (c .before .before .before .before .s .given .1) _ _ _ _ (c .before .before .before .before .before .before .before .before .before .before .before .before .start .ensures) (c .before .before .before .before .before .before .before .before .before .before .before .before .before .before .before .before .before .before .before .args .state .now)
 
 pub rimeheath-start-spec : {M : Type 1} → statement M
 rimeheath-start-spec =
