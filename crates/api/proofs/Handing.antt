@@ -1,0 +1,89 @@
+-- What a library call answered decides what the boundary hands on: each law is a congruence in that answer.
+-- Assumes nothing.
+use Prim.Native.Nat.{ℕ}
+use mathlib.Core.Path.{_≡_, sym, ap, _∙_}
+use mathlib.Core.List.{List, [], _∷_}
+use lib.IntN.{ℤ}
+use mir.Syntax.{w64}
+use mir.Val.{SFits, toZ, ofZ}
+use mir.ValLaws.{toZ-ofZ}
+use borrow.Author.Tests.{eq-eqb, ne-eqb}
+use Rattle.facts.specs.Pick.{pick}
+use Rattle.fields.specs.Fields.{numberOf}
+use Rattle.fields.specs.declared.Body.{Body}
+use Rattle.packet.specs.declared.Packet.{Packet}
+use Rattle.packet.specs.declared.Record.{Record}
+use Rattle.views.specs.declared.LadderAnswer.{LadderAnswer}
+use Rattle.views.specs.declared.SpreadAnswer.{SpreadAnswer}
+use Rattle.views.specs.declared.CountsAnswer.{CountsAnswer}
+use Rattle.views.specs.Views.{Shown, shown, spreadNumber}
+use Rattle.receiver.specs.declared.State.{State}
+use Rattle.receiver.specs.declared.Account.{Account}
+use Rattle.receiver.specs.declared.Received.{Received}
+use Rattle.receiver.specs.declared.Started.{Started}
+use Rattle.receiver.specs.Lent.{Begun, begun, lent, Outcome, outcome}
+use Rattle.answer_sheet.specs.declared.SheetAnswer.{SheetAnswer}
+use Rattle.answer_sheet.specs.Sheet.{Sheet, sheetAnd}
+use Rattle.api.specs.Calls.{stateNumbers, accountNumbers, startAnswer, receiveCall, receiveAnswer, ladderAnswer, call, bitsOf, spreadAnswer, countsAnswer, packetAnswer, recordAnswer, sheetAnswer}
+use Rattle.api.specs.Messages.{fieldsOf, bodyAnswer}
+
+-- x is the answer and k its case; g puts it beside what was lent, and f hands that on
+handed : {A B C : Type 0} (f : B → C) (g : A → B) (x k : A) (b : B) → x ≡ k → g x ≡ b → f (g k) ≡ f b
+handed f g x k b q e = ap f (ap g (sym q) ∙ e)
+
+pub start-handed : (x k : Started) → x ≡ k → (o s h : List ℕ) (b : Begun) → begun x o s h ≡ b → (l : List ℕ) → startAnswer (begun k o s h) l ≡ startAnswer b l
+start-handed x k q o s h b e l = handed (λ y. startAnswer y l) (λ y. begun y o s h) x k b q e
+
+pub ladder-handed : (x k : LadderAnswer) → x ≡ k → (o : List ℕ) (v : Shown) → shown x o ≡ v → (l : List ℕ) → ladderAnswer (shown k o) l ≡ ladderAnswer v l
+ladder-handed x k q o v e l = handed (λ y. ladderAnswer y l) (λ y. shown y o) x k v q e
+
+pub counts-handed : (x k v : CountsAnswer) → x ≡ k → x ≡ v → (l : List ℕ) → countsAnswer k l ≡ countsAnswer v l
+counts-handed x k v q e l = handed (λ y. countsAnswer y l) (λ y. y) x k v q e
+
+pub packet-handed : (x k v : Packet) → x ≡ k → x ≡ v → (l : List ℕ) → packetAnswer k l ≡ packetAnswer v l
+packet-handed x k v q e l = handed (λ y. packetAnswer y l) (λ y. y) x k v q e
+
+pub record-handed : (x k v : Record) → x ≡ k → x ≡ v → (l : List ℕ) → recordAnswer k l ≡ recordAnswer v l
+record-handed x k v q e l = handed (λ y. recordAnswer y l) (λ y. y) x k v q e
+
+pub sheet-handed : (x k : SheetAnswer) → x ≡ k → (o : List ℕ) (v : Sheet) → sheetAnd x o ≡ v → (l : List ℕ) → sheetAnswer (sheetAnd k o) l ≡ sheetAnswer v l
+sheet-handed x k q o v e l = handed (λ y. sheetAnswer y l) (λ y. sheetAnd y o) x k v q e
+
+-- ---- a packet to a receiver
+module _ (x : Received) (o s h : List ℕ) (t : State) (u : Outcome) (e : outcome x (lent o s h t) ≡ u) (l a : List ℕ) where
+  pub receive-handed : (k : Received) → x ≡ k → receiveAnswer (outcome k (lent o s h t)) l a ≡ receiveAnswer u l a
+  receive-handed k q = handed (λ y. receiveAnswer y l a) (λ y. outcome y (lent o s h t)) x k u q e
+
+  -- the account is what the call that copies it told
+  pub receive-accepted : (c : Account) → x ≡ Received.Accepted c → (n : List ℕ) → n ≡ accountNumbers c → receiveCall 0 (stateNumbers t) n o s h ≡ receiveAnswer u l a
+  unfolding receiveAnswer
+  receive-accepted c q n f = ap (λ (y : List ℕ). receiveCall 0 (stateNumbers t) y o s h) f ∙ receive-handed (Received.Accepted c) q
+
+-- ---- a spread
+module _ (x v : SpreadAnswer) (e : x ≡ v) (l : List ℕ) where
+  pub spread-handed : (k : SpreadAnswer) → x ≡ k → spreadAnswer k l ≡ spreadAnswer v l
+  spread-handed k q = handed (λ y. spreadAnswer y l) (λ y. y) x k v q e
+
+  -- the bits are what the call that makes them told of z, as its own bits hold it
+  pub spread-is : (z : ℤ) → SFits w64 z → x ≡ SpreadAnswer.Of z → (n : ℕ) → n ≡ bitsOf (toZ w64 (ofZ w64 z)) → call 0 (1 ∷ n ∷ []) ≡ spreadAnswer v l
+  unfolding spreadAnswer spreadNumber
+  spread-is z fit q n f = ap (λ (y : ℕ). call 0 (1 ∷ y ∷ [])) (f ∙ ap bitsOf (toZ-ofZ w64 z fit)) ∙ spread-handed (SpreadAnswer.Of z) q
+
+-- ---- a body
+-- the numbers of the case that a message is are its numbers
+pub case-fields : (m k : Body) → m ≡ k → (b w : List ℕ) → w ≡ fieldsOf k b → w ≡ fieldsOf m b
+case-fields m k q b w f = f ∙ ap (λ (y : Body). fieldsOf y b) (sym q)
+
+module _ (m v : Body) (e : m ≡ v) (b l : List ℕ) (n : ℕ) (f : n ≡ numberOf m) where
+  pub body-refused : (n ≡ 0 → ⊥) → call n l ≡ bodyAnswer v b l
+  unfolding bodyAnswer pick
+  body-refused h =
+      let g : bodyAnswer m b l ≡ call (numberOf m) l = rw (ne-eqb (numberOf m) 0 (λ z. h (f ∙ z))) in
+      ap (λ (y : ℕ). call y l) f ∙ sym g ∙ ap (λ (y : Body). bodyAnswer y b l) e
+
+  pub body-told : n ≡ 0 → (w : List ℕ) → w ≡ fieldsOf m b → call 0 w ≡ bodyAnswer v b l
+  unfolding bodyAnswer pick
+  body-told z w g =
+      let o : numberOf m ≡ 0 = sym f ∙ z in
+      let a : bodyAnswer m b l ≡ call (numberOf m) (fieldsOf m b) = rw (eq-eqb (numberOf m) 0 o) in
+      ap (call 0) g ∙ ap (λ (y : ℕ). call y (fieldsOf m b)) (sym o) ∙ sym a ∙ ap (λ (y : Body). bodyAnswer y b l) e

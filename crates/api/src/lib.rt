@@ -1,0 +1,401 @@
+// The library for other languages: thin functions over numbers, slices and arrays of numbers (include/rimeheath.h). Each answers 0 or
+// document 01's number of the refusal, and a refusal changes no lent byte.
+ghost use mathlib.Core.Path.{_≡_};
+ghost use Rattle.receiver.specs.Lent.{lent, received, started};
+ghost use Rattle.views.specs.Views.{ladderView, spreadView, countsView};
+ghost use Rattle.packet.specs.Record.{readRecord};
+ghost use Rattle.packet.specs.Packet.{readPacket};
+ghost use Rattle.body.specs.Read.{readBody};
+ghost use Rattle.answer_sheet.specs.Sheet.{sheetView};
+ghost use Rattle.api.specs.Calls.{stateOf, accountNumbers, sideOf, startCall, startAnswer, receiveCall, receiveAnswer, fillCall, ladderAnswer, call, bitsOf, spreadAnswer, countsAnswer, packetAnswer, recordAnswer, wordOf, sheetAnswer};
+ghost use Rattle.api.specs.Messages.{symbolFields, stateFields, statusFields, clearFields, addFields, modifyFields, deleteFields, executionFields, tradeFields, cancelFields, fieldsOf, bodyAnswer};
+use answer_sheet::Recording;
+use answer_sheet::SheetAnswer;
+use fields::AddOrder;
+use fields::Body;
+use fields::DeleteOrder;
+use fields::ModifyOrder;
+use fields::OrderExecution;
+use fields::Symbol;
+use fields::SymbolClear;
+use fields::SystemState;
+use fields::Trade;
+use fields::TradeCancel;
+use fields::TradingStatus;
+use packet::Packet;
+use packet::Record;
+use receiver::Account;
+use receiver::Received;
+use receiver::Started;
+use receiver::State;
+use views::CountsAnswer;
+use views::LadderAnswer;
+use views::Side;
+use views::SpreadAnswer;
+
+// Starts a receiver: the tables are zeroed, and state becomes next 1, second 0, stop 0.
+#[no_mangle]
+pub extern "C" fn rimeheath_start(
+    orders: &mut [u64],
+    symbols: &mut [u8],
+    shelf: &mut [u8],
+    state: &mut [u64; 3],
+) -> u8
+    ensures { λ r. ⌜ startCall r (now (state .exit)) (now (orders .exit)) (now (symbols .exit)) (now (shelf .exit)) ≡ startAnswer (started (now (orders .entry)) (now (symbols .entry)) (now (shelf .entry))) (now (state .entry)) ⌝ }
+{
+    match receiver::start(orders, symbols, shelf) {
+        Started::Refused(r) => r.number,
+        Started::Ready(s) => {
+            *state = [s.next, s.second as u64, s.stop as u64];
+            0
+        }
+    }
+}
+
+// A receiver's state of three lent numbers.
+fn state_of(l: &[u64; 3]) -> State
+    ensures { λ r. ⌜ r ≡ stateOf (now (l .entry)) ⌝ }
+{
+    State {
+        next: l[0],
+        second: (l[1] % 4294967296) as u32,
+        stop: (l[2] % 256) as u8,
+    }
+}
+
+// A packet's answer as nine numbers.
+fn account_numbers(a: Account) -> [u64; 9]
+    ensures { λ r. ⌜ r ≡ accountNumbers a ⌝ }
+{
+    let t = a.tally;
+    [
+        t.taken as u64,
+        t.old as u64,
+        t.far as u64,
+        t.repeated as u64,
+        t.differing as u64,
+        a.next,
+        a.applied,
+        a.highest,
+        a.stop as u64,
+    ]
+}
+
+// Gives a packet to a receiver: state and account become what they are after it.
+#[no_mangle]
+pub extern "C" fn rimeheath_receive(
+    orders: &mut [u64],
+    symbols: &mut [u8],
+    shelf: &mut [u8],
+    state: &mut [u64; 3],
+    p: &[u8],
+    account: &mut [u64; 9],
+) -> u8
+    ensures { λ r. ⌜ receiveCall r (now (state .exit)) (now (account .exit)) (now (orders .exit)) (now (symbols .exit)) (now (shelf .exit)) ≡ receiveAnswer (received (lent (now (orders .entry)) (now (symbols .entry)) (now (shelf .entry)) (stateOf (now (state .entry)))) (now (p .entry))) (now (state .entry)) (now (account .entry)) ⌝ }
+{
+    let r = receiver::receive(orders, symbols, shelf, state_of(state), p);
+    let s = r.state;
+    let answer = r.answer;
+    match answer {
+        Received::Refused(e) => e.number,
+        Received::Accepted(a) => {
+            *state = [s.next, s.second as u64, s.stop as u64];
+            *account = account_numbers(a);
+            0
+        }
+    }
+}
+
+fn side_of(sell: bool) -> Side
+    ensures { λ r. ⌜ r ≡ sideOf sell ⌝ }
+{
+    if sell { Side::Sell } else { Side::Buy }
+}
+
+// The ladder of a symbol and side: the levels that fit into the run, and the number of all.
+#[no_mangle]
+pub extern "C" fn rimeheath_ladder(
+    orders: &[u64],
+    symbols: &[u8],
+    symbol: u32,
+    sell: bool,
+    run: &mut [u64],
+    levels: &mut [u64; 1],
+) -> u8
+    ensures { λ r. ⌜ fillCall r (now (levels .exit)) (now (run .exit)) ≡ ladderAnswer (ladderView (sideOf sell) symbol (now (orders .entry)) (now (symbols .entry)) (now (run .entry))) (now (levels .entry)) ⌝ }
+{
+    match views::ladder(orders, symbols, symbol, side_of(sell), run) {
+        LadderAnswer::Refused(r) => r.number,
+        LadderAnswer::Levels(n) => {
+            *levels = [n as u64];
+            0
+        }
+    }
+}
+
+// A signed number as the 64 bits that hold it: two's complement.
+fn bits_of(n: i64) -> u64
+    ensures { λ r. ⌜ r ≡ bitsOf n ⌝ }
+{
+    if n < 0 {
+        let m = -(n + 1);
+        return 18446744073709551615 - (m as u64);
+    }
+    n as u64
+}
+
+// The spread of a symbol: 1 and the signed number as 64 bits, or two zeros where a side is empty.
+#[no_mangle]
+pub extern "C" fn rimeheath_spread(
+    orders: &[u64],
+    symbols: &[u8],
+    symbol: u32,
+    answer: &mut [u64; 2],
+) -> u8
+    ensures { λ r. ⌜ call r (now (answer .exit)) ≡ spreadAnswer (spreadView symbol (now (orders .entry)) (now (symbols .entry))) (now (answer .entry)) ⌝ }
+{
+    match views::spread(orders, symbols, symbol) {
+        SpreadAnswer::Refused(r) => r.number,
+        SpreadAnswer::Empty => {
+            *answer = [0, 0];
+            0
+        }
+        SpreadAnswer::Of(z) => {
+            *answer = [1, bits_of(z)];
+            0
+        }
+    }
+}
+
+// Live orders and used entries.
+#[no_mangle]
+pub extern "C" fn rimeheath_counts(orders: &[u64], symbols: &[u8], counts: &mut [u64; 2]) -> u8
+    ensures { λ r. ⌜ call r (now (counts .exit)) ≡ countsAnswer (countsView (now (orders .entry)) (now (symbols .entry))) (now (counts .entry)) ⌝ }
+{
+    match views::counts(orders, symbols) {
+        CountsAnswer::Refused(r) => r.number,
+        CountsAnswer::Are(n) => {
+            *counts = [n.orders as u64, n.symbols as u64];
+            0
+        }
+    }
+}
+
+// Judges a packet: the number of its records.
+#[no_mangle]
+pub extern "C" fn rimeheath_packet(p: &[u8], records: &mut [u64; 1]) -> u8
+    ensures { λ r. ⌜ call r (now (records .exit)) ≡ packetAnswer (readPacket (now (p .entry))) (now (records .entry)) ⌝ }
+{
+    match packet::read_packet(p) {
+        Packet::Refused(r) => r.number,
+        Packet::Good(n) => {
+            *records = [n as u64];
+            0
+        }
+    }
+}
+
+// Judges the first record of what is left of a packet: its number, and the length of its body.
+#[no_mangle]
+pub extern "C" fn rimeheath_record(rest: &[u8], head: &mut [u64; 2]) -> u8
+    ensures { λ r. ⌜ call r (now (head .exit)) ≡ recordAnswer (readRecord (now (rest .entry))) (now (head .entry)) ⌝ }
+{
+    match packet::read_record(rest) {
+        Record::Refused(r) => r.number,
+        Record::Good(h) => {
+            *head = [h.number, h.len as u64];
+            0
+        }
+    }
+}
+
+// The numbers of each message, in the order of their places: its type first, zeros behind them.
+fn symbol_fields(s: Symbol) -> [u64; 8]
+    ensures { λ r. ⌜ r ≡ symbolFields s ⌝ }
+{
+    [1, s.id as u64, s.lot as u64, s.market as u64, 0, 0, 0, 0]
+}
+
+fn state_fields(s: SystemState) -> [u64; 8]
+    ensures { λ r. ⌜ r ≡ stateFields s ⌝ }
+{
+    [
+        83,
+        s.nanos as u64,
+        s.session as u64,
+        s.status as u64,
+        0,
+        0,
+        0,
+        0,
+    ]
+}
+
+fn status_fields(s: TradingStatus) -> [u64; 8]
+    ensures { λ r. ⌜ r ≡ statusFields s ⌝ }
+{
+    [
+        4,
+        s.nanos as u64,
+        s.symbol as u64,
+        s.trading as u64,
+        s.market as u64,
+        s.short as u64,
+        0,
+        0,
+    ]
+}
+
+fn clear_fields(s: SymbolClear) -> [u64; 8]
+    ensures { λ r. ⌜ r ≡ clearFields s ⌝ }
+{
+    [5, s.nanos as u64, s.symbol as u64, 0, 0, 0, 0, 0]
+}
+
+fn add_fields(s: AddOrder) -> [u64; 8]
+    ensures { λ r. ⌜ r ≡ addFields s ⌝ }
+{
+    [
+        20,
+        s.nanos as u64,
+        s.symbol as u64,
+        s.order,
+        s.side as u64,
+        s.price,
+        s.size as u64,
+        s.attributable as u64,
+    ]
+}
+
+fn modify_fields(s: ModifyOrder) -> [u64; 8]
+    ensures { λ r. ⌜ r ≡ modifyFields s ⌝ }
+{
+    [
+        21,
+        s.nanos as u64,
+        s.symbol as u64,
+        s.order,
+        s.price,
+        s.size as u64,
+        s.flags as u64,
+        0,
+    ]
+}
+
+fn delete_fields(s: DeleteOrder) -> [u64; 8]
+    ensures { λ r. ⌜ r ≡ deleteFields s ⌝ }
+{
+    [23, s.nanos as u64, s.symbol as u64, s.order, 0, 0, 0, 0]
+}
+
+fn execution_fields(s: OrderExecution) -> [u64; 8]
+    ensures { λ r. ⌜ r ≡ executionFields s ⌝ }
+{
+    [
+        24,
+        s.nanos as u64,
+        s.symbol as u64,
+        s.order,
+        s.trade,
+        s.price,
+        s.size as u64,
+        s.flags as u64,
+    ]
+}
+
+fn trade_fields(s: Trade) -> [u64; 8]
+    ensures { λ r. ⌜ r ≡ tradeFields s ⌝ }
+{
+    [
+        10,
+        s.nanos as u64,
+        s.symbol as u64,
+        s.trade,
+        s.correction as u64,
+        s.price,
+        s.size as u64,
+        s.flags as u64,
+    ]
+}
+
+fn cancel_fields(s: TradeCancel) -> [u64; 8]
+    ensures { λ r. ⌜ r ≡ cancelFields s ⌝ }
+{
+    [
+        11,
+        s.nanos as u64,
+        s.symbol as u64,
+        s.trade,
+        s.correction as u64,
+        s.price,
+        s.size as u64,
+        0,
+    ]
+}
+
+// A Symbol Update and a System State hold arrays, so their numbers are read from the body.
+fn fields_of(m: Body, b: &[u8]) -> [u64; 8]
+    ensures { λ r. ⌜ r ≡ fieldsOf m (now (b .entry)) ⌝ }
+{
+    match m {
+        Body::SystemTime(n) => [49, n as u64, 0, 0, 0, 0, 0, 0],
+        Body::SymbolUpdate => symbol_fields(fields::symbol_of(b)),
+        Body::SystemState => state_fields(fields::state_of(b)),
+        Body::TradingStatus(s) => status_fields(s),
+        Body::SymbolClear(s) => clear_fields(s),
+        Body::Add(s) => add_fields(s),
+        Body::Modify(s) => modify_fields(s),
+        Body::Delete(s) => delete_fields(s),
+        Body::Execution(s) => execution_fields(s),
+        Body::Trade(s) => trade_fields(s),
+        Body::TradeCancel(s) => cancel_fields(s),
+        Body::Refused(_) => [0, 0, 0, 0, 0, 0, 0, 0],
+    }
+}
+
+// Judges a body and reads its numbers.
+#[no_mangle]
+pub extern "C" fn rimeheath_body(b: &[u8], numbers: &mut [u64; 8]) -> u8
+    ensures { λ r. ⌜ call r (now (numbers .exit)) ≡ bodyAnswer (readBody (now (b .entry))) (now (b .entry)) (now (numbers .entry)) ⌝ }
+{
+    let m = body::read_body(b);
+    let n = fields::number_of(m);
+    if n != 0 {
+        return n;
+    }
+    *numbers = fields_of(m, b);
+    0
+}
+
+fn word_of(cut: bool) -> Recording
+    ensures { λ r. ⌜ r ≡ wordOf cut ⌝ }
+{
+    if cut {
+        Recording::Cut
+    } else {
+        Recording::Whole
+    }
+}
+
+// The answer sheet, as far as the buffer reaches, and how many bytes of it were written.
+#[no_mangle]
+pub extern "C" fn rimeheath_sheet(
+    buf: &mut [u8],
+    orders: &[u64],
+    symbols: &[u8],
+    state: &[u64; 3],
+    bad: u64,
+    cut: bool,
+    written: &mut [u64; 1],
+) -> u8
+    ensures { λ r. ⌜ fillCall r (now (written .exit)) (now (buf .exit)) ≡ sheetAnswer (sheetView (wordOf cut) bad (stateOf (now (state .entry))) (now (orders .entry)) (now (symbols .entry)) (now (buf .entry))) (now (written .entry)) ⌝ }
+{
+    let s = state_of(state);
+    match answer_sheet::sheet(buf, orders, symbols, s, bad, word_of(cut)) {
+        SheetAnswer::Refused(r) => r.number,
+        SheetAnswer::Written(n) => {
+            *written = [n as u64];
+            0
+        }
+    }
+}
