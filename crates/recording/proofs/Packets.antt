@@ -7,8 +7,8 @@ use mathlib.Core.List.{List, [], _∷_}
 use native.Mathlib.Omega.{arith}
 use native.Mathlib.Decide.{decLt}
 use lib.ListN.{length, take, drop, length-drop, drop-of-length-le}
-use lib.Seq.{take-length, drop-length, drop-drop, length-take-le}
-use lib.Dec.{leb, eqb}
+use lib.Seq.{drop-length, drop-drop, length-take-le}
+use lib.Dec.{eqb}
 use borrow.Author.Tests.{le-leb, lt-leb, eq-eqb, ne-eqb}
 use Rattle.facts.specs.Pick.{pick, both}
 use Rattle.facts.specs.Pieces.{join}
