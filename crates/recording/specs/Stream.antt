@@ -44,6 +44,11 @@ counted (Received.Refused r) after k = kept (more (k .bad) 1) (k .totals) after
 unfoldable pub heard : List ℕ → Kept → Kept
 heard p k = counted (received (k .lent) p .answer) (received (k .lent) p .after) k
 
+-- packet after packet
+unfoldable pub hears : List (List ℕ) → Kept → Kept
+hears [] k = k
+hears (p ∷ ps) k = hears ps (heard p k)
+
 -- between two bytes: the bytes of an unfinished length and packet, and how many bytes of an over-long packet are still to come
 pub record Hearing : Type 0 where
   pub unfinished : List ℕ

@@ -7,7 +7,7 @@ ghost use mathlib.Core.Path.{_≡_};
 ghost use mathlib.Core.List.{_++_};
 ghost use Prim.Native.Nat.{_+_, _-_, _≤_, _<_};
 ghost use lib.ListN.{length, take, drop, set, replicate};
-ghost use Rattle.recording.specs.Stream.{more as atMost, added, heard, keptOf, hearingOf, byte, opened, cut, feedable, outcome, fed};
+ghost use Rattle.recording.specs.Stream.{more as atMost, added, heard, keptOf, hearingOf, opened, cut, feedable, outcome, fed};
 ghost use Rattle.recording.specs.Steps.{Whole, Passed, Pushed, Stepped, Ran};
 
 // How many records got each answer, over all accepted packets.

@@ -1,0 +1,87 @@
+-- Two chunks give what they give as one: the state and the buffer that `feed` leaves are all that the bytes so far have made, by recursion on the bytes.
+-- Assumes nothing.
+use Prim.Native.Nat.{ℕ, _+_, _-_, _≤_}
+use mathlib.Core.Path.{_≡_, sym, ap, _∙_}
+use mathlib.Core.Bool.{true, false}
+use mathlib.Core.Logic.{_⊎_, inl, inr}
+use mathlib.Core.List.{List, [], _∷_, _++_}
+use native.Mathlib.Omega.{arith}
+use lib.ListN.{length, take, drop, replicate, length-append, length-replicate}
+use lib.Seq.{take-append-seam, length-take-le}
+use lib.Dec.{ltb, eqb}
+use borrow.Author.Tests.{ltb-true, ltb-false}
+use Rattle.facts.specs.Pick.{pick}
+use Rattle.facts.proofs.Picks.{pick-cases, pick-ind}
+use Rattle.wire.specs.Le.{field}
+use Rattle.fields.specs.Fields.{refusal}
+use Rattle.arbitration.specs.Stream.{feed as each}
+use Rattle.arbitration.proofs.StreamLaws.{feed-append}
+use Rattle.recording.specs.Stream.{Kept, Hearing, hearing, heard, passed, grown, byte, hearingOf, feedable, Outcome, outcome, took, fed}
+use Rattle.recording.specs.declared.Stream.{Stream}
+use Rattle.recording.specs.declared.Fed.{Fed}
+use Rattle.recording.proofs.Exits.{buffer-fits}
+
+-- ---- a buffer of w bytes, 1,502 or more, is never outgrown
+module _ (w : ℕ) (big : 1502 ≤ w) where
+  abbrev Fits : Hearing → Type 0
+  Fits x = length (x .unfinished) ≤ w
+
+  grown-fits : (u : List ℕ) (k : Kept) → Fits (grown u k)
+  unfolding grown
+  grown-fits u k =
+      pick-ind Fits (ltb (length u) 2) (hearing u 0 k) _ (λ t. omega (arith, ltb-true (length u) 2 t))
+      (λ _. pick-ind Fits (ltb 1500 (field u 0 2)) (hearing [] (field u 0 2) k) _ (λ _. omega arith)
+      (λ s. pick-ind Fits (ltb (length u) (2 + field u 0 2)) (hearing u 0 k) (hearing [] 0 (heard (take (field u 0 2) (drop 2 u)) k)) (λ t. omega (arith, ltb-true (length u) (2 + field u 0 2) t, ltb-false 1500 (field u 0 2) s)) (λ _. omega arith)))
+
+  byte-fits : (b : ℕ) (x : Hearing) → Fits x → Fits (byte b x)
+  unfolding byte passed
+  byte-fits b x h = pick-ind Fits (eqb (x .skip) 0) (grown (x .unfinished ++ (b ∷ [])) (x .kept)) (passed 1 x) (λ _. grown-fits (x .unfinished ++ (b ∷ [])) (x .kept)) (λ _. h)
+
+  pub all-fit : (bs : List ℕ) (x : Hearing) → Fits x → Fits (each byte bs x)
+  unfolding each
+  all-fit [] x h = h
+  all-fit (b ∷ bs) x h = all-fit bs (byte b x) (byte-fits b x h)
+
+-- ---- what is left between two chunks is all that counts
+abbrev streamIn : Hearing → Stream
+streamIn y = record { receiver = y .kept .lent .state; held = length (y .unfinished); skip = y .skip; bad = y .kept .bad; totals = y .kept .totals }
+
+module _ (w : ℕ) (y : Hearing) (k : Stream) (o s h w′ : List ℕ) (left : took w y ≡ outcome (Fed.Took k) o s h w′) where
+  same-stream : streamIn y ≡ k
+  unfolding took
+  same-stream = let e : Fed.Took (streamIn y) ≡ Fed.Took k = ap (λ (v : Outcome). v .answer) left in cc
+
+  again : hearingOf k o s h w′ ≡ y
+  unfolding took
+  again =
+      sym (λ i. hearingOf (same-stream i) (left i .orders) (left i .symbols) (left i .shelf) (left i .hold))
+      ∙ ap (λ u. hearing u (y .skip) (y .kept)) (take-append-seam (y .unfinished) (replicate (w - length (y .unfinished)) 0))
+
+  same-size : length (y .unfinished) ≤ w → length w′ ≡ w
+  unfolding took
+  same-size l =
+      sym (ap (λ (v : Outcome). length (v .hold)) left)
+      ∙ rw (length-append, length-replicate) (omega arith)
+
+-- a and then b is a ++ b, wherever the stream that a left is not refused
+pub fed-then : (k k′ : Stream) (o s h w o′ s′ h′ w′ a b : List ℕ) → fed k o s h w a ≡ outcome (Fed.Took k′) o′ s′ h′ w′ → feedable k′ (length o′) (length s′) (length h′) (length w′) ≡ true → fed k′ o′ s′ h′ w′ b ≡ fed k o s h w (a ++ b)
+unfolding fed pick
+fed-then k k′ o s h w o′ s′ h′ w′ a b e f = go (pick-cases e)
+  where
+    x : Hearing
+    x = hearingOf k o s h w
+
+    go : ((feedable k (length o) (length s) (length h) (length w) ≡ true) × (took (length w) (each byte a x) ≡ outcome (Fed.Took k′) o′ s′ h′ w′)) ⊎ ((feedable k (length o) (length s) (length h) (length w) ≡ false) × (outcome (Fed.Refused (refusal 6)) o s h w ≡ outcome (Fed.Took k′) o′ s′ h′ w′)) → fed k′ o′ s′ h′ w′ b ≡ fed k o s h w (a ++ b)
+    go (inl q) =
+        let y : Hearing = each byte a x in
+        let room = buffer-fits k (length o) (length s) (length h) (length w) (q .0) in
+        let few : length (y .unfinished) ≤ length w = all-fit (length w) (room .1) a x (rw (length-take-le (k .held) w (room .0)) (room .0)) in
+        let size : length w′ ≡ length w = same-size (length w) y k′ o′ s′ h′ w′ (q .1) few in
+        let back : hearingOf k′ o′ s′ h′ w′ ≡ y = again (length w) y k′ o′ s′ h′ w′ (q .1) in
+        ap (λ t. pick t (took (length w′) (each byte b (hearingOf k′ o′ s′ h′ w′))) (outcome (Fed.Refused (refusal 6)) o′ s′ h′ w′)) f
+        ∙ (λ i. took (size i) (each byte b (back i)))
+        ∙ ap (took (length w)) (sym (feed-append byte a b x))
+        ∙ ap (λ t. pick t (took (length w) (each byte (a ++ b) x)) (outcome (Fed.Refused (refusal 6)) o s h w)) (sym (q .0))
+    go (inr q) =
+        let r : Fed.Refused (refusal 6) ≡ Fed.Took k′ = ap (λ (v : Outcome). v .answer) (q .1) in
+        let z : _≡_ {A = ℕ} 0 1 = cc in absurd (omega arith)
