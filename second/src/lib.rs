@@ -23,6 +23,7 @@ pub mod receiver;
 pub mod scenarios;
 pub mod sheet;
 pub mod tables;
+pub mod traffic;
 #[cfg(linked)]
 pub mod twins;
 pub mod views;
