@@ -25,6 +25,7 @@ fn main() -> ExitCode {
 
 #[cfg(linked)]
 mod linked {
+    use second::morning::system_time;
     use second::packet::*;
     use second::proved::{lent, Proved};
     use second::receiver::{receive, State};
@@ -52,8 +53,15 @@ mod linked {
         };
         println!("| What | Count | Rattle | Rust | Rust / Rattle |");
         println!("|---|---|---|---|---|");
-        for live in [100, 1_000, MOST_ROWS] {
-            receiving(live)?;
+        receiving_times()?;
+        // The first beside the second shows what the rows cost that no order is in.
+        for (live, rows) in [
+            (100, 100),
+            (100, MOST_ROWS),
+            (1_000, MOST_ROWS),
+            (MOST_ROWS, MOST_ROWS),
+        ] {
+            receiving_orders(live, rows)?;
         }
         reading()?;
         sheets(megabytes)
@@ -115,16 +123,30 @@ mod linked {
     // The receiver
     // -----------------------------------------------------------------------------------------
 
-    /// A busy hour at so many live orders, in tables of full capacity. The opening is not timed.
-    fn receiving(live: usize) -> Result<(), String> {
+    /// System Times alone: what shelf and packets cost where no table is looked at.
+    fn receiving_times() -> Result<(), String> {
+        let records: Vec<_> = (1..=MESSAGES as u64)
+            .map(|number| (number, system_time(number as u32)))
+            .collect();
+        let opened = Proved::new(MOST_ROWS, MOST_ENTRIES).map_err(refused)?;
+        receiving("receive, no book: System Time alone", &opened, &records)
+    }
+
+    /// A busy hour at so many live orders, in a table of so many rows. The opening is not timed.
+    fn receiving_orders(live: usize, rows: usize) -> Result<(), String> {
         let mut traffic = Traffic::new(live as u64, live);
-        let mut opened = Proved::new(MOST_ROWS, MOST_ENTRIES).map_err(refused)?;
+        let mut opened = Proved::new(rows, MOST_ENTRIES).map_err(refused)?;
         for packet in in_packets(&traffic.opening(), RECORDS) {
             opened.receive(&packet).map_err(refused)?;
         }
         let records: Vec<_> = (0..MESSAGES).map(|_| traffic.next()).collect();
-        let packets = in_packets(&records, RECORDS);
-        // Each turn starts from copies of the opened tables, made and so touched before the clock.
+        let what = format!("receive, {live} live orders in {rows} rows");
+        receiving(&what, &opened, &records)
+    }
+
+    /// Each turn starts from copies of the opened tables, made and so touched before the clock.
+    fn receiving(what: &str, opened: &Proved, records: &[(u64, Vec<u8>)]) -> Result<(), String> {
+        let packets = in_packets(records, RECORDS);
         let (mut proved, mut second) = (opened.clone(), opened.clone());
         let (rattle, rust) = by_turns(
             1,
@@ -141,8 +163,7 @@ mod linked {
         if proved != second || proved.state[2] != 0 {
             return Err("the two receivers came to different tables, or stopped".to_string());
         }
-        let what = format!("receive, {live} live orders");
-        print_row(&what, MESSAGES, "messages", rattle, rust);
+        print_row(what, records.len(), "messages", rattle, rust);
         Ok(())
     }
 
