@@ -231,9 +231,18 @@ fn full_tables(dice: &mut Dice, twins: &mut Twins) -> Outcome {
     give_all(dice, twins, &packets)
 }
 
-/// Entries of a maker's symbols and of others, all but a few.
+/// Entries of a maker's symbols and of others, all but a few; or all of one symbol, which makes the
+/// longest sheets.
 fn fill_entries(dice: &mut Dice, maker: &mut ListMaker) {
     let free = dice.below(4) as usize;
+    if dice.chance(100) {
+        maker.symbol_ids.truncate(1);
+        let body = symbol_update(0, maker.symbol_ids[0], &[7; 11], u16::MAX);
+        for place in 0..entries_in(&maker.symbols) {
+            entry_mut(&mut maker.symbols, place).copy_from_slice(&body);
+        }
+        return;
+    }
     for place in 0..entries_in(&maker.symbols) - free {
         let symbol = match maker.symbol_ids.get(place) {
             Some(symbol) => *symbol,
@@ -247,7 +256,11 @@ fn fill_entries(dice: &mut Dice, maker: &mut ListMaker) {
 /// Live rows of a maker's symbols, all but a few, and some spoiled.
 fn fill_rows(dice: &mut Dice, maker: &mut ListMaker) {
     let free = dice.below(4) as usize;
-    let levels = dice.pick(&[3, 30, 3_000]);
+    // A sheet of a thousand blocks of one symbol takes its ladders a thousand times: few levels.
+    let levels = match maker.symbol_ids.len() {
+        1 => 15,
+        _ => dice.pick(&[3, 30, 3_000]),
+    };
     let mut places: Vec<usize> = (0..rows_in(&maker.orders)).collect();
     if dice.chance(500) {
         dice.shuffle(&mut places);

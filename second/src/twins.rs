@@ -4,7 +4,7 @@
 
 use crate::morning::Dice;
 use crate::packet::{read_body, read_packet, read_record, Message, Side, HEADER_BYTES};
-use crate::proved::{lent, Proved};
+use crate::proved::{lent, Proved, SHEET_BYTES};
 use crate::receiver::{receive, start, Answer, State, SHELF_BYTES};
 use crate::sheet::sheet;
 use crate::tables::*;
@@ -351,7 +351,12 @@ impl Twins {
         let desk = &self.second;
         let wanted = sheet(desk.state, &desk.orders, &desk.symbols, bad, whole);
         let length = wanted.as_ref().map_or(100, |text| text.len() as u64);
-        for length in [length + dice.below(3), dice.below(length)] {
+        // A long sheet must fit in what the header says holds any.
+        let enough = match length {
+            100_000.. => SHEET_BYTES as u64,
+            _ => length + dice.below(3),
+        };
+        for length in [enough, dice.below(length)] {
             self.sheet_in(length as usize, bad, whole, &wanted)?;
         }
         Ok(())
