@@ -50,7 +50,7 @@ impl Traffic {
     }
 
     /// The next message of a busy hour: Adds as often as orders leave, so that about as many stay.
-    pub fn next(&mut self) -> (u64, Vec<u8>) {
+    pub fn message(&mut self) -> (u64, Vec<u8>) {
         let body = match self.dice.below(100) {
             0 => system_time(34_200 + self.number as u32 / 10_000),
             1..=2 => trade(self.nanoseconds(), 7, self.number, 0, 10_000_000, 100, 1),
@@ -182,7 +182,7 @@ mod tests {
             let mut traffic = Traffic::new(1, wanted);
             let mut records = traffic.opening();
             for _ in 0..5_000 {
-                records.push(traffic.next());
+                records.push(traffic.message());
             }
             let mut orders = vec![0; MOST_ROWS * ROW_NUMBERS];
             let mut symbols = vec![0; MOST_ENTRIES * ENTRY_BYTES];

@@ -139,7 +139,7 @@ mod linked {
         for packet in in_packets(&traffic.opening(), RECORDS) {
             opened.receive(&packet).map_err(refused)?;
         }
-        let records: Vec<_> = (0..MESSAGES).map(|_| traffic.next()).collect();
+        let records: Vec<_> = (0..MESSAGES).map(|_| traffic.message()).collect();
         let what = format!("receive, {live} live orders in {rows} rows");
         receiving(&what, &opened, &records)
     }
@@ -218,10 +218,10 @@ mod linked {
     fn reading() -> Result<(), String> {
         let mut traffic = Traffic::new(7, 1_000);
         let mut records = traffic.opening();
-        records.extend((0..MESSAGES * 5).map(|_| traffic.next()));
+        records.extend((0..MESSAGES * 5).map(|_| traffic.message()));
         let packets = in_packets(&records, 30);
         let wanted = Ok(records.len() as u64);
-        let proved = || counted(&packets, |packet| proved_count(packet));
+        let proved = || counted(&packets, proved_count);
         let lists = || {
             counted(&packets, |packet| {
                 read_packet(packet).map(|r| r.len() as u64)
@@ -399,7 +399,7 @@ mod linked {
             for packet in &line_a[line_a.len().saturating_sub(3)..] {
                 written += put(&mut file, packet)?;
             }
-            records = (0..8_000).map(|_| traffic.next()).collect();
+            records = (0..8_000).map(|_| traffic.message()).collect();
         }
         file.flush()?;
         Ok(count)
