@@ -3,7 +3,11 @@
 //! function can be held against the sentences quoted above it.
 //!
 //! Refusals (1 to 6, 30) and broken rules (20 to 27) are document 01's numbers, as plain `u8`.
-#![forbid(unsafe_code)]
+//!
+//! Where the proved library is linked (`cfg(linked)`, see `build.rs`) there are also `proved`, which
+//! calls it, `twins`, which holds it against this program, and `scenarios`, what both are given.
+#![cfg_attr(not(linked), forbid(unsafe_code))]
+#![cfg_attr(linked, deny(unsafe_code))]
 
 pub mod answers;
 pub mod book;
@@ -11,7 +15,15 @@ pub mod command;
 pub mod examples;
 pub mod morning;
 pub mod packet;
+#[cfg(linked)]
+#[allow(unsafe_code)] // C functions cannot be called otherwise; nothing else here does
+pub mod proved;
 pub mod receiver;
+#[cfg(linked)]
+pub mod scenarios;
 pub mod sheet;
 pub mod tables;
+pub mod traffic;
+#[cfg(linked)]
+pub mod twins;
 pub mod views;

@@ -1001,7 +1001,7 @@ fn bad_number(dice: &mut Dice) -> u64 {
 }
 
 /// Any good body.
-fn good_body(dice: &mut Dice) -> Vec<u8> {
+pub fn good_body(dice: &mut Dice) -> Vec<u8> {
     let symbol = dice.below(10) as u32;
     let order = dice.below(100);
     let nanoseconds = dice.below(1_000_000_000) as u32;
@@ -1341,7 +1341,7 @@ pub fn case(seed: u64, damage: u64) -> Case {
 }
 
 /// A good packet of numbers near next: what the list or the shelf has for them, or anything.
-fn packet_near(seed: u64, list: &[Vec<u8>], shelf: &[u8], next: u64) -> Vec<u8> {
+pub fn packet_near(seed: u64, list: &[Vec<u8>], shelf: &[u8], next: u64) -> Vec<u8> {
     let mut dice = Dice::new(seed);
     let mut records = Vec::new();
     for _ in 0..dice.between(1, 12) {

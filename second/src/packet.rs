@@ -336,33 +336,38 @@ pub fn read_packet(packet: &[u8]) -> Result<Vec<Record<'_>>, u8> {
         return Err(1);
     }
     let mut records = Vec::new();
-    let mut at = 0;
-    while at < packet.len() {
-        // 2: "fewer than 10 header bytes left, or the body runs past the end"
-        let left = packet.len() - at;
-        if left < HEADER_BYTES {
-            return Err(2);
-        }
-        let number = little(&packet[at..at + 8]);
-        let length = little(&packet[at + 8..at + 10]) as usize;
-        if length > left - HEADER_BYTES {
-            return Err(2);
-        }
-        // 5: "sequence number 0 or above 10^12"
-        if number == 0 || number > LAST_NUMBER {
-            return Err(5);
-        }
-        // 3 and 4
-        let body = &packet[at + HEADER_BYTES..at + HEADER_BYTES + length];
-        let message = read_body(body)?;
-        records.push(Record {
-            number,
-            body,
-            message,
-        });
-        at += HEADER_BYTES + length;
+    let mut rest = packet;
+    while !rest.is_empty() {
+        let record = read_record(rest)?;
+        rest = &rest[HEADER_BYTES + record.body.len()..];
+        records.push(record);
     }
     Ok(records)
+}
+
+/// The first record of what is left of a packet, or the refusal of its first fault: 2, 5, 3, 4.
+pub fn read_record(rest: &[u8]) -> Result<Record<'_>, u8> {
+    // 2: "fewer than 10 header bytes left, or the body runs past the end"
+    if rest.len() < HEADER_BYTES {
+        return Err(2);
+    }
+    let number = little(&rest[0..8]);
+    let length = little(&rest[8..10]) as usize;
+    if length > rest.len() - HEADER_BYTES {
+        return Err(2);
+    }
+    // 5: "sequence number 0 or above 10^12"
+    if number == 0 || number > LAST_NUMBER {
+        return Err(5);
+    }
+    // 3 and 4
+    let body = &rest[HEADER_BYTES..HEADER_BYTES + length];
+    let message = read_body(body)?;
+    Ok(Record {
+        number,
+        body,
+        message,
+    })
 }
 
 #[cfg(test)]

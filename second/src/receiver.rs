@@ -74,6 +74,11 @@ fn sizes_fit(orders: &[u64], symbols: &[u8], shelf: &[u8]) -> bool {
     order_table_fits(orders) && symbol_table_fits(symbols) && shelf.len() == SHELF_BYTES
 }
 
+/// 6: "... or a next number outside 1 to 10^12 + 1"
+pub fn next_fits(next: u64) -> bool {
+    (1..=LAST_NUMBER + 1).contains(&next)
+}
+
 /// "A start zeroes all three, the second included, and sets the next number to 1."
 pub fn start(orders: &mut [u64], symbols: &mut [u8], shelf: &mut [u8]) -> Result<State, u8> {
     if !sizes_fit(orders, symbols, shelf) {
@@ -98,8 +103,7 @@ pub fn receive(
     shelf: &mut [u8],
     packet: &[u8],
 ) -> Result<(State, Answer), u8> {
-    // 6: "... or a next number outside 1 to 10^12 + 1"
-    if !sizes_fit(orders, symbols, shelf) || state.next < 1 || state.next > LAST_NUMBER + 1 {
+    if !sizes_fit(orders, symbols, shelf) || !next_fits(state.next) {
         return Err(6);
     }
     let records = read_packet(packet)?;

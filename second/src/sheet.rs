@@ -1,14 +1,15 @@
 //! The sheet, and recordings played into a receiver at full capacities.
 
 use crate::packet::{little, Side};
-use crate::receiver::{receive, start, Answer, State, SHELF_BYTES};
+use crate::receiver::{next_fits, receive, start, Answer, State, SHELF_BYTES};
 use crate::tables::*;
 use crate::views::{ladder, live_orders, spread, used_entries};
 
 /// "up to ten levels a side"
 pub const SHEET_LEVELS: usize = 10;
 
-/// The sheet's bytes: "key=value lines in a fixed order, each ended by one line feed".
+/// The sheet's bytes: "key=value lines in a fixed order, each ended by one line feed". It is lent two
+/// tables and a next number, and refuses either by 6, whose line in document 01 excepts no call.
 pub fn sheet(
     state: State,
     orders: &[u64],
@@ -16,6 +17,9 @@ pub fn sheet(
     bad: u64,
     whole: bool,
 ) -> Result<Vec<u8>, u8> {
+    if !next_fits(state.next) {
+        return Err(6);
+    }
     let order_count = live_orders(orders)?;
     let symbol_count = used_entries(symbols)?;
     let mut text = Vec::new();

@@ -4,49 +4,8 @@
 
 mod common;
 use common::*;
-use second::book::{apply, broken_rule};
 use second::morning::*;
-use second::packet::{read_body, read_packet};
-use second::tables::{ENTRY_BYTES, ROW_NUMBERS};
-
-/// The list applied in order, in tables of its own.
-struct Reference<'a> {
-    list: &'a [Vec<u8>],
-    k: u64,
-    orders: Vec<u64>,
-    symbols: Vec<u8>,
-    second: u64,
-}
-
-impl<'a> Reference<'a> {
-    fn new(list: &'a [Vec<u8>], rows: usize, entries: usize) -> Reference<'a> {
-        Reference {
-            list,
-            k: 0,
-            orders: vec![0; rows * ROW_NUMBERS],
-            symbols: vec![0; entries * ENTRY_BYTES],
-            second: 0,
-        }
-    }
-
-    /// The list's first k messages, all of which must apply.
-    fn go_to(&mut self, k: u64) {
-        assert!(k >= self.k, "next never falls");
-        while self.k < k {
-            let message = read_body(&self.list[self.k as usize]).unwrap();
-            let number = self.k + 1;
-            let (orders, symbols) = (&mut self.orders, &mut self.symbols);
-            apply(number, &message, orders, symbols, &mut self.second).expect("the list applies");
-            self.k += 1;
-        }
-    }
-
-    /// The rule that message k + 1 breaks, none if it breaks none or is not there.
-    fn rule_of_next(&self) -> Option<u8> {
-        let body = self.list.get(self.k as usize)?;
-        broken_rule(&read_body(body).unwrap(), &self.orders, &self.symbols)
-    }
-}
+use second::packet::read_packet;
 
 /// Tables and second after each k that a receiver reported.
 type Seen = Vec<Option<(Vec<u64>, Vec<u8>, u64)>>;
@@ -137,29 +96,13 @@ impl<'a> Watched<'a> {
     }
 }
 
-fn settings(seed: u64) -> ListSettings {
-    let mut dice = Dice::new(seed);
-    ListSettings {
-        messages: dice.between(1, 260) as usize,
-        rows: dice.pick(&[1, 2, 5, 12, 40]),
-        entries: dice.between(1, 5) as usize,
-        symbols: dice.between(1, 7) as usize,
-        orders: dice.between(5, 60) as usize,
-        levels: dice.between(1, 14),
-        crossing: dice.pick(&[0, 50, 500]),
-        breaking: dice.pick(&[0, 0, 3, 15]),
-        filling: dice.chance(150),
-        ending: dice.pick(&[0, 0, 20, 21, 22, 23, 24, 25, 26]),
-    }
-}
-
 #[test]
 fn deliveries_of_true_copies() {
     let mut stops = [0; 28];
     let mut whole = 0;
     for seed in seeds(500) {
         let mut dice = Dice::new(seed);
-        let settings = settings(dice.bits());
+        let settings = list_settings(dice.bits());
         let list = list(dice.bits(), settings);
         let mut seen: Seen = vec![None; list.len() + 1];
         for _ in 0..2 {
@@ -195,7 +138,7 @@ fn deliveries_of_true_copies() {
 fn records_shuffled_at_will() {
     for seed in seeds(150) {
         let mut dice = Dice::new(seed ^ 0x5EED);
-        let settings = settings(dice.bits());
+        let settings = list_settings(dice.bits());
         let list = list(dice.bits(), settings);
         let mut watched = Watched::new(seed, &list, settings);
         for _ in 0..300 {

@@ -178,6 +178,13 @@ fn sheets_of_altered_receivers() {
     assert_eq!(String::from_utf8(text).unwrap(), wanted);
     assert_eq!(sheet(desk.state, &[], &desk.symbols, 0, true), Err(6));
     assert_eq!(sheet(desk.state, &desk.orders, &[1; 43], 0, true), Err(6));
+    for next in [0, LAST_NUMBER + 2] {
+        desk.state.next = next;
+        assert_eq!(
+            sheet(desk.state, &desk.orders, &desk.symbols, 0, true),
+            Err(6)
+        );
+    }
 }
 
 fn example_file(name: &str) -> Vec<u8> {

@@ -1,8 +1,11 @@
 //! What the tests share: a receiver with its tables, short names for bodies, and seeds.
 #![allow(dead_code)]
 
+use second::book::{apply, broken_rule};
 use second::morning::{add_order, delete_order, modify_order, order_execution, packet};
 use second::morning::{symbol_clear, symbol_update, system_time};
+use second::morning::{Dice, ListSettings};
+use second::packet::read_body;
 use second::receiver::{receive, slot_mut, start, Answer, State, SHELF_BYTES};
 use second::tables::{row, ENTRY_BYTES, ROW_NUMBERS};
 
@@ -83,6 +86,62 @@ impl Desk {
         let before = self.clone();
         assert_eq!(self.give(packet), Err(number));
         assert_eq!(*self, before);
+    }
+}
+
+/// The list applied in order, in tables of its own.
+pub struct Reference<'a> {
+    pub list: &'a [Vec<u8>],
+    pub k: u64,
+    pub orders: Vec<u64>,
+    pub symbols: Vec<u8>,
+    pub second: u64,
+}
+
+impl<'a> Reference<'a> {
+    pub fn new(list: &'a [Vec<u8>], rows: usize, entries: usize) -> Reference<'a> {
+        Reference {
+            list,
+            k: 0,
+            orders: vec![0; rows * ROW_NUMBERS],
+            symbols: vec![0; entries * ENTRY_BYTES],
+            second: 0,
+        }
+    }
+
+    /// The list's first k messages, all of which must apply.
+    pub fn go_to(&mut self, k: u64) {
+        assert!(k >= self.k, "next never falls");
+        while self.k < k {
+            let message = read_body(&self.list[self.k as usize]).unwrap();
+            let number = self.k + 1;
+            let (orders, symbols) = (&mut self.orders, &mut self.symbols);
+            apply(number, &message, orders, symbols, &mut self.second).expect("the list applies");
+            self.k += 1;
+        }
+    }
+
+    /// The rule that message k + 1 breaks, none if it breaks none or is not there.
+    pub fn rule_of_next(&self) -> Option<u8> {
+        let body = self.list.get(self.k as usize)?;
+        broken_rule(&read_body(body).unwrap(), &self.orders, &self.symbols)
+    }
+}
+
+/// A list for demand 3: any mix, in tables of 1 to 40 rows.
+pub fn list_settings(seed: u64) -> ListSettings {
+    let mut dice = Dice::new(seed);
+    ListSettings {
+        messages: dice.between(1, 260) as usize,
+        rows: dice.pick(&[1, 2, 5, 12, 40]),
+        entries: dice.between(1, 5) as usize,
+        symbols: dice.between(1, 7) as usize,
+        orders: dice.between(5, 60) as usize,
+        levels: dice.between(1, 14),
+        crossing: dice.pick(&[0, 50, 500]),
+        breaking: dice.pick(&[0, 0, 3, 15]),
+        filling: dice.chance(150),
+        ending: dice.pick(&[0, 0, 20, 21, 22, 23, 24, 25, 26]),
     }
 }
 

@@ -1,0 +1,581 @@
+//! The proved library, called through its C boundary (`include/rimeheath.h`).
+//!
+//! `lent` has its nine calls as they are, over memory that the caller lends; `Proved` is a receiver
+//! with tables of its own, and answers in Rust's forms. All unsafe code of this crate is in `lent`.
+
+use crate::packet::Side;
+use crate::receiver::{Answer, SHELF_BYTES};
+use crate::tables::{ENTRY_BYTES, ROW_NUMBERS};
+
+/// Enough for any sheet ("1,500,000 bytes always hold it whole").
+pub const SHEET_BYTES: usize = 1_500_000;
+
+/// The nine calls. Each answers 0 or the number of a refusal, and takes any lengths and any bytes.
+///
+/// What the header asks of its callers beyond the types of C holds for all of them by Rust's types:
+/// a slice's pointer is never null and points to as many elements as its length says, an array
+/// reference to as many as its type says, and a `&mut` overlaps nothing else that is lent.
+pub mod lent {
+    use std::ffi::c_uchar;
+
+    type State = [u64; 3];
+
+    extern "C" {
+        fn rimeheath_start(
+            orders: *mut u64,
+            orders_len: usize,
+            symbols: *mut c_uchar,
+            symbols_len: usize,
+            shelf: *mut c_uchar,
+            shelf_len: usize,
+            state: *mut State,
+        ) -> u8;
+        fn rimeheath_receive(
+            orders: *mut u64,
+            orders_len: usize,
+            symbols: *mut c_uchar,
+            symbols_len: usize,
+            shelf: *mut c_uchar,
+            shelf_len: usize,
+            state: *mut State,
+            packet: *const c_uchar,
+            packet_len: usize,
+            account: *mut [u64; 9],
+        ) -> u8;
+        fn rimeheath_ladder(
+            orders: *const u64,
+            orders_len: usize,
+            symbols: *const c_uchar,
+            symbols_len: usize,
+            symbol: u32,
+            sell: bool,
+            run: *mut u64,
+            run_len: usize,
+            levels: *mut [u64; 1],
+        ) -> u8;
+        fn rimeheath_spread(
+            orders: *const u64,
+            orders_len: usize,
+            symbols: *const c_uchar,
+            symbols_len: usize,
+            symbol: u32,
+            answer: *mut [u64; 2],
+        ) -> u8;
+        fn rimeheath_counts(
+            orders: *const u64,
+            orders_len: usize,
+            symbols: *const c_uchar,
+            symbols_len: usize,
+            counts: *mut [u64; 2],
+        ) -> u8;
+        fn rimeheath_packet(
+            packet: *const c_uchar,
+            packet_len: usize,
+            records: *mut [u64; 1],
+        ) -> u8;
+        fn rimeheath_record(rest: *const c_uchar, rest_len: usize, head: *mut [u64; 2]) -> u8;
+        fn rimeheath_body(body: *const c_uchar, body_len: usize, fields: *mut [u64; 8]) -> u8;
+        fn rimeheath_sheet(
+            text: *mut c_uchar,
+            text_len: usize,
+            orders: *const u64,
+            orders_len: usize,
+            symbols: *const c_uchar,
+            symbols_len: usize,
+            state: *const State,
+            bad: u64,
+            cut: bool,
+            written: *mut [u64; 1],
+        ) -> u8;
+    }
+
+    pub fn start(
+        orders: &mut [u64],
+        symbols: &mut [u8],
+        shelf: &mut [u8],
+        state: &mut State,
+    ) -> u8 {
+        // SAFETY: each pointer comes with its own slice's length, and the four `&mut` are apart.
+        unsafe {
+            rimeheath_start(
+                orders.as_mut_ptr(),
+                orders.len(),
+                symbols.as_mut_ptr(),
+                symbols.len(),
+                shelf.as_mut_ptr(),
+                shelf.len(),
+                state,
+            )
+        }
+    }
+
+    pub fn receive(
+        orders: &mut [u64],
+        symbols: &mut [u8],
+        shelf: &mut [u8],
+        state: &mut State,
+        packet: &[u8],
+        account: &mut [u64; 9],
+    ) -> u8 {
+        // SAFETY: each pointer comes with its own slice's length; the five `&mut` are apart from
+        // each other and from the packet, which is only read.
+        unsafe {
+            rimeheath_receive(
+                orders.as_mut_ptr(),
+                orders.len(),
+                symbols.as_mut_ptr(),
+                symbols.len(),
+                shelf.as_mut_ptr(),
+                shelf.len(),
+                state,
+                packet.as_ptr(),
+                packet.len(),
+                account,
+            )
+        }
+    }
+
+    pub fn ladder(
+        orders: &[u64],
+        symbols: &[u8],
+        symbol: u32,
+        sell: bool,
+        run: &mut [u64],
+        levels: &mut [u64; 1],
+    ) -> u8 {
+        // SAFETY: each pointer comes with its own slice's length; the tables are only read, and the
+        // two `&mut` are apart from them and from each other.
+        unsafe {
+            rimeheath_ladder(
+                orders.as_ptr(),
+                orders.len(),
+                symbols.as_ptr(),
+                symbols.len(),
+                symbol,
+                sell,
+                run.as_mut_ptr(),
+                run.len(),
+                levels,
+            )
+        }
+    }
+
+    pub fn spread(orders: &[u64], symbols: &[u8], symbol: u32, answer: &mut [u64; 2]) -> u8 {
+        // SAFETY: each pointer comes with its own slice's length; the tables are only read, and the
+        // `&mut` is apart from them.
+        unsafe {
+            rimeheath_spread(
+                orders.as_ptr(),
+                orders.len(),
+                symbols.as_ptr(),
+                symbols.len(),
+                symbol,
+                answer,
+            )
+        }
+    }
+
+    pub fn counts(orders: &[u64], symbols: &[u8], counts: &mut [u64; 2]) -> u8 {
+        // SAFETY: each pointer comes with its own slice's length; the tables are only read, and the
+        // `&mut` is apart from them.
+        unsafe {
+            rimeheath_counts(
+                orders.as_ptr(),
+                orders.len(),
+                symbols.as_ptr(),
+                symbols.len(),
+                counts,
+            )
+        }
+    }
+
+    pub fn packet(packet: &[u8], records: &mut [u64; 1]) -> u8 {
+        // SAFETY: the pointer comes with its slice's length and is only read; the `&mut` is apart.
+        unsafe { rimeheath_packet(packet.as_ptr(), packet.len(), records) }
+    }
+
+    pub fn record(rest: &[u8], head: &mut [u64; 2]) -> u8 {
+        // SAFETY: the pointer comes with its slice's length and is only read; the `&mut` is apart.
+        unsafe { rimeheath_record(rest.as_ptr(), rest.len(), head) }
+    }
+
+    pub fn body(body: &[u8], fields: &mut [u64; 8]) -> u8 {
+        // SAFETY: the pointer comes with its slice's length and is only read; the `&mut` is apart.
+        unsafe { rimeheath_body(body.as_ptr(), body.len(), fields) }
+    }
+
+    pub fn sheet(
+        text: &mut [u8],
+        orders: &[u64],
+        symbols: &[u8],
+        state: &State,
+        bad: u64,
+        cut: bool,
+        written: &mut [u64; 1],
+    ) -> u8 {
+        // SAFETY: each pointer comes with its own slice's length; tables and state are only read,
+        // and the two `&mut` are apart from them and from each other.
+        unsafe {
+            rimeheath_sheet(
+                text.as_mut_ptr(),
+                text.len(),
+                orders.as_ptr(),
+                orders.len(),
+                symbols.as_ptr(),
+                symbols.len(),
+                state,
+                bad,
+                cut,
+                written,
+            )
+        }
+    }
+}
+
+/// Document 01's refusals.
+#[derive(Clone, Copy, Debug, PartialEq, Eq)]
+pub enum Refusal {
+    PacketSize,
+    Framing,
+    Kind,
+    Field,
+    Number,
+    TableOrNext,
+    UnknownSymbol,
+    /// A number that document 01 does not have; no call gives one.
+    Other(u8),
+}
+
+impl Refusal {
+    pub fn number(self) -> u8 {
+        match self {
+            Refusal::PacketSize => 1,
+            Refusal::Framing => 2,
+            Refusal::Kind => 3,
+            Refusal::Field => 4,
+            Refusal::Number => 5,
+            Refusal::TableOrNext => 6,
+            Refusal::UnknownSymbol => 30,
+            Refusal::Other(number) => number,
+        }
+    }
+}
+
+/// 0 is no refusal.
+fn refused(number: u8) -> Result<(), Refusal> {
+    Err(match number {
+        0 => return Ok(()),
+        1 => Refusal::PacketSize,
+        2 => Refusal::Framing,
+        3 => Refusal::Kind,
+        4 => Refusal::Field,
+        5 => Refusal::Number,
+        6 => Refusal::TableOrNext,
+        30 => Refusal::UnknownSymbol,
+        other => Refusal::Other(other),
+    })
+}
+
+/// A good body's type and numbers, as the header lists them.
+#[derive(Clone, Copy, Debug, PartialEq, Eq)]
+pub struct Fields(pub [u64; 8]);
+
+/// The eleven messages with those numbers.
+#[derive(Clone, Copy, Debug, PartialEq, Eq)]
+pub enum Body {
+    SystemTime {
+        second: u64,
+    },
+    SymbolUpdate {
+        symbol: u64,
+        lot: u64,
+        market: u64,
+    },
+    SystemState {
+        nanoseconds: u64,
+        session: u64,
+        status: u64,
+    },
+    TradingStatus {
+        nanoseconds: u64,
+        symbol: u64,
+        trading: u64,
+        market: u64,
+        short_sale: u64,
+    },
+    SymbolClear {
+        nanoseconds: u64,
+        symbol: u64,
+    },
+    AddOrder {
+        nanoseconds: u64,
+        symbol: u64,
+        order: u64,
+        side: u64,
+        price: u64,
+        size: u64,
+        attributable: u64,
+    },
+    ModifyOrder {
+        nanoseconds: u64,
+        symbol: u64,
+        order: u64,
+        price: u64,
+        size: u64,
+        flags: u64,
+    },
+    DeleteOrder {
+        nanoseconds: u64,
+        symbol: u64,
+        order: u64,
+    },
+    OrderExecution {
+        nanoseconds: u64,
+        symbol: u64,
+        order: u64,
+        trade: u64,
+        price: u64,
+        size: u64,
+        flags: u64,
+    },
+    Trade {
+        nanoseconds: u64,
+        symbol: u64,
+        trade: u64,
+        correction: u64,
+        price: u64,
+        size: u64,
+        flags: u64,
+    },
+    TradeCancel {
+        nanoseconds: u64,
+        symbol: u64,
+        trade: u64,
+        correction: u64,
+        price: u64,
+        size: u64,
+    },
+}
+
+impl Fields {
+    /// The message that the type decides; none for a type that no good body has.
+    pub fn message(self) -> Option<Body> {
+        let [kind, a, b, c, d, e, f, g] = self.0;
+        Some(match kind {
+            49 => Body::SystemTime { second: a },
+            1 => Body::SymbolUpdate {
+                symbol: a,
+                lot: b,
+                market: c,
+            },
+            83 => Body::SystemState {
+                nanoseconds: a,
+                session: b,
+                status: c,
+            },
+            4 => Body::TradingStatus {
+                nanoseconds: a,
+                symbol: b,
+                trading: c,
+                market: d,
+                short_sale: e,
+            },
+            5 => Body::SymbolClear {
+                nanoseconds: a,
+                symbol: b,
+            },
+            20 => Body::AddOrder {
+                nanoseconds: a,
+                symbol: b,
+                order: c,
+                side: d,
+                price: e,
+                size: f,
+                attributable: g,
+            },
+            21 => Body::ModifyOrder {
+                nanoseconds: a,
+                symbol: b,
+                order: c,
+                price: d,
+                size: e,
+                flags: f,
+            },
+            23 => Body::DeleteOrder {
+                nanoseconds: a,
+                symbol: b,
+                order: c,
+            },
+            24 => Body::OrderExecution {
+                nanoseconds: a,
+                symbol: b,
+                order: c,
+                trade: d,
+                price: e,
+                size: f,
+                flags: g,
+            },
+            10 => Body::Trade {
+                nanoseconds: a,
+                symbol: b,
+                trade: c,
+                correction: d,
+                price: e,
+                size: f,
+                flags: g,
+            },
+            11 => Body::TradeCancel {
+                nanoseconds: a,
+                symbol: b,
+                trade: c,
+                correction: d,
+                price: e,
+                size: f,
+            },
+            _ => return None,
+        })
+    }
+}
+
+/// The first record of what is left of a packet: its number and its body's length.
+#[derive(Clone, Copy, Debug, PartialEq, Eq)]
+pub struct Head {
+    pub number: u64,
+    pub length: u64,
+}
+
+/// Live orders and used entries.
+#[derive(Clone, Copy, Debug, PartialEq, Eq)]
+pub struct Counts {
+    pub orders: u64,
+    pub symbols: u64,
+}
+
+/// How many records a packet has.
+pub fn packet(packet: &[u8]) -> Result<u64, Refusal> {
+    let mut records = [0];
+    refused(lent::packet(packet, &mut records))?;
+    Ok(records[0])
+}
+
+pub fn record(rest: &[u8]) -> Result<Head, Refusal> {
+    let mut head = [0; 2];
+    refused(lent::record(rest, &mut head))?;
+    Ok(Head {
+        number: head[0],
+        length: head[1],
+    })
+}
+
+pub fn body(body: &[u8]) -> Result<Fields, Refusal> {
+    let mut fields = [0; 8];
+    refused(lent::body(body, &mut fields))?;
+    Ok(Fields(fields))
+}
+
+/// A receiver of the proved library with its tables, which may be altered at will between calls:
+/// a call refuses what it cannot take.
+#[derive(Clone, Debug, PartialEq, Eq)]
+pub struct Proved {
+    pub orders: Vec<u64>,
+    pub symbols: Vec<u8>,
+    pub shelf: Vec<u8>,
+    /// Next, second, stop.
+    pub state: [u64; 3],
+}
+
+impl Proved {
+    /// A started receiver of so many rows and entries, or 6.
+    pub fn new(rows: usize, entries: usize) -> Result<Proved, Refusal> {
+        let mut receiver = Proved {
+            orders: vec![0; rows * ROW_NUMBERS],
+            symbols: vec![0; entries * ENTRY_BYTES],
+            shelf: vec![0; SHELF_BYTES],
+            state: [0; 3],
+        };
+        receiver.start()?;
+        Ok(receiver)
+    }
+
+    pub fn start(&mut self) -> Result<(), Refusal> {
+        refused(lent::start(
+            &mut self.orders,
+            &mut self.symbols,
+            &mut self.shelf,
+            &mut self.state,
+        ))
+    }
+
+    pub fn receive(&mut self, packet: &[u8]) -> Result<Answer, Refusal> {
+        let mut account = [0; 9];
+        refused(lent::receive(
+            &mut self.orders,
+            &mut self.symbols,
+            &mut self.shelf,
+            &mut self.state,
+            packet,
+            &mut account,
+        ))?;
+        let [taken, old, too_far, repeats, differing, next, applied, highest, stop] = account;
+        Ok(Answer {
+            taken,
+            old,
+            too_far,
+            repeats,
+            differing,
+            next,
+            applied,
+            highest,
+            stop: stop as u8, // 0 or 20 to 27
+        })
+    }
+
+    /// The number of all levels; those that fit are in the run.
+    pub fn ladder(&self, symbol: u32, side: Side, run: &mut [u64]) -> Result<u64, Refusal> {
+        let mut levels = [0];
+        let sell = side == Side::Sell;
+        let (orders, symbols) = (&self.orders, &self.symbols);
+        refused(lent::ladder(
+            orders,
+            symbols,
+            symbol,
+            sell,
+            run,
+            &mut levels,
+        ))?;
+        Ok(levels[0])
+    }
+
+    pub fn spread(&self, symbol: u32) -> Result<Option<i64>, Refusal> {
+        let mut answer = [0; 2];
+        let (orders, symbols) = (&self.orders, &self.symbols);
+        refused(lent::spread(orders, symbols, symbol, &mut answer))?;
+        Ok((answer[0] == 1).then_some(answer[1] as i64))
+    }
+
+    pub fn counts(&self) -> Result<Counts, Refusal> {
+        let mut counts = [0; 2];
+        refused(lent::counts(&self.orders, &self.symbols, &mut counts))?;
+        Ok(Counts {
+            orders: counts[0],
+            symbols: counts[1],
+        })
+    }
+
+    /// The whole sheet.
+    pub fn sheet(&self, bad: u64, cut: bool) -> Result<Vec<u8>, Refusal> {
+        let mut text = vec![0; SHEET_BYTES];
+        let mut written = [0];
+        refused(lent::sheet(
+            &mut text,
+            &self.orders,
+            &self.symbols,
+            &self.state,
+            bad,
+            cut,
+            &mut written,
+        ))?;
+        text.truncate(written[0] as usize);
+        Ok(text)
+    }
+}

@@ -1,0 +1,176 @@
+//! The safe calls over the proved library: document 01's example through all of them, each refusal,
+//! and each message in Rust's form.
+#![cfg(linked)]
+
+mod common;
+use common::*;
+use second::examples::{example_list, MORNING_SHEET};
+use second::morning::*;
+use second::packet::Side;
+use second::proved::{self, Body, Counts, Head, Proved, Refusal};
+
+fn example() -> (Proved, Vec<u8>) {
+    let packet = packet(&numbered(&example_list(), 1, 5));
+    (Proved::new(10, 4).expect("sizes in the limits"), packet)
+}
+
+#[test]
+fn the_example_through_every_call() {
+    let (mut receiver, packet) = example();
+    assert_eq!(proved::packet(&packet), Ok(5));
+    let head = Head {
+        number: 1,
+        length: 5,
+    };
+    assert_eq!(proved::record(&packet), Ok(head));
+    let answer = receiver.receive(&packet).expect("a good packet");
+    assert_eq!(counts(&answer), [5, 0, 0, 0, 0]);
+    assert_eq!((answer.next, answer.applied, answer.stop), (6, 5, 0));
+    let (orders, symbols) = (3, 1);
+    assert_eq!(receiver.counts(), Ok(Counts { orders, symbols }));
+    assert_eq!(receiver.spread(7), Ok(Some(20_000)));
+    let mut run = [9; 4];
+    assert_eq!(receiver.ladder(7, Side::Buy, &mut run), Ok(1));
+    assert_eq!(run, [10_000_000, 150, 2, 9]);
+    assert_eq!(receiver.sheet(0, false), Ok(MORNING_SHEET.into()));
+    receiver.start().expect("sizes in the limits");
+    assert_eq!(receiver, example().0);
+    assert_eq!(receiver.counts().map(|counts| counts.orders), Ok(0));
+}
+
+#[test]
+fn refusals_by_name() {
+    let (mut receiver, packet) = example();
+    assert_eq!(Proved::new(0, 4), Err(Refusal::TableOrNext));
+    assert_eq!(receiver.receive(&[]), Err(Refusal::PacketSize));
+    assert_eq!(receiver.receive(&packet[..9]), Err(Refusal::Framing));
+    let numberless = record(0, &time(1));
+    assert_eq!(receiver.receive(&numberless), Err(Refusal::Number));
+    let typeless = record(1, &[0]);
+    assert_eq!(receiver.receive(&typeless), Err(Refusal::Kind));
+    let free = record(1, &buy(7, 500, 0, 100));
+    assert_eq!(receiver.receive(&free), Err(Refusal::Field));
+    assert_eq!(receiver.spread(7), Err(Refusal::UnknownSymbol));
+    assert_eq!(receiver, example().0);
+    for (refusal, number) in [
+        (Refusal::PacketSize, 1),
+        (Refusal::Framing, 2),
+        (Refusal::Kind, 3),
+        (Refusal::Field, 4),
+        (Refusal::Number, 5),
+        (Refusal::TableOrNext, 6),
+        (Refusal::UnknownSymbol, 30),
+    ] {
+        assert_eq!(refusal.number(), number);
+    }
+}
+
+/// A book that is crossed has a negative spread (P9), and one with an empty side has none.
+#[test]
+fn spreads_of_either_sign() {
+    let mut receiver = Proved::new(10, 4).expect("sizes in the limits");
+    let list = [
+        update(7),
+        buy(7, 1, 10_020_000, 1),
+        sell(7, 2, 10_000_000, 1),
+    ];
+    for (place, body) in list.iter().enumerate() {
+        let answer = receiver.receive(&record(place as u64 + 1, body));
+        assert_eq!(answer.map(|answer| answer.applied), Ok(1));
+        let wanted = (place == 2).then_some(-20_000);
+        assert_eq!(receiver.spread(7), Ok(wanted));
+    }
+}
+
+fn message(body: &[u8]) -> Body {
+    let fields = proved::body(body).expect("a good body");
+    fields.message().expect("a known type")
+}
+
+#[test]
+fn messages_of_the_book() {
+    let add = Body::AddOrder {
+        nanoseconds: 1,
+        symbol: 2,
+        order: 3,
+        side: b'S'.into(),
+        price: 4,
+        size: 5,
+        attributable: u32::from_le_bytes(*b"    ").into(),
+    };
+    assert_eq!(message(&add_order(1, 2, 3, b'S', 4, 5)), add);
+    let modify = Body::ModifyOrder {
+        nanoseconds: 1,
+        symbol: 2,
+        order: 3,
+        price: 4,
+        size: 5,
+        flags: 1,
+    };
+    assert_eq!(message(&modify_order(1, 2, 3, 4, 5, 1)), modify);
+    let delete = Body::DeleteOrder {
+        nanoseconds: 1,
+        symbol: 2,
+        order: 3,
+    };
+    assert_eq!(message(&delete_order(1, 2, 3)), delete);
+    let execution = Body::OrderExecution {
+        nanoseconds: 1,
+        symbol: 2,
+        order: 3,
+        trade: 4,
+        price: 5,
+        size: 6,
+        flags: 7,
+    };
+    assert_eq!(message(&order_execution(1, 2, 3, 4, 5, 6, 7)), execution);
+    let clear = Body::SymbolClear {
+        nanoseconds: 1,
+        symbol: 2,
+    };
+    assert_eq!(message(&symbol_clear(1, 2)), clear);
+    assert_eq!(message(&time(9)), Body::SystemTime { second: 9 });
+}
+
+#[test]
+fn messages_beside_the_book() {
+    let update = Body::SymbolUpdate {
+        symbol: 7,
+        lot: 100,
+        market: b'H'.into(),
+    };
+    assert_eq!(message(&common::update(7)), update);
+    let state = Body::SystemState {
+        nanoseconds: 1,
+        session: 2,
+        status: b'S'.into(),
+    };
+    assert_eq!(message(&system_state(1, b"DoM1.3  ", 2, b'S')), state);
+    let status = Body::TradingStatus {
+        nanoseconds: 1,
+        symbol: 2,
+        trading: 3,
+        market: 4,
+        short_sale: 5,
+    };
+    assert_eq!(message(&trading_status(1, 2, &[3, 4, 5])), status);
+    let traded = Body::Trade {
+        nanoseconds: 1,
+        symbol: 2,
+        trade: 3,
+        correction: 4,
+        price: 5,
+        size: 6,
+        flags: 7,
+    };
+    assert_eq!(message(&trade(1, 2, 3, 4, 5, 6, 7)), traded);
+    let cancel = Body::TradeCancel {
+        nanoseconds: 1,
+        symbol: 2,
+        trade: 3,
+        correction: 4,
+        price: 5,
+        size: 6,
+    };
+    assert_eq!(message(&trade_cancel(1, 2, 3, 4, 5, 6)), cancel);
+}
