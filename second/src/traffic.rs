@@ -63,6 +63,15 @@ impl Traffic {
         self.numbered(body)
     }
 
+    /// A message that looks for no order: a Trade, or now and then the second.
+    pub fn bookless(&mut self) -> (u64, Vec<u8>) {
+        let body = match self.dice.below(20) {
+            0 => system_time(34_200 + self.number as u32 / 10_000),
+            _ => trade(self.nanoseconds(), 7, self.number, 0, 10_000_000, 100, 1),
+        };
+        self.numbered(body)
+    }
+
     fn numbered(&mut self, body: Vec<u8>) -> (u64, Vec<u8>) {
         self.number += 1;
         (self.number, body)

@@ -1,4 +1,5 @@
 // The shortest way from a recording to its sheet, for who starts with the library: lend tables, start a receiver, feed it, print.
+// It reads no more than 4,096 bytes and takes a read error for the end; the program `sheet` does neither.
 use answer_sheet::Recording;
 use answer_sheet::SheetAnswer;
 use libc::STDIN_FILENO;
@@ -59,8 +60,13 @@ fn feed(
 }
 
 fn print(orders: &[u64], symbols: &[u8], t: Stream, text: &mut [u8]) {
+    let word = if recording::is_cut(t) {
+        Recording::Cut
+    } else {
+        Recording::Whole
+    };
     let state = t.receiver;
-    match answer_sheet::sheet(text, orders, symbols, state, t.bad, Recording::Whole) {
+    match answer_sheet::sheet(text, orders, symbols, state, t.bad, word) {
         SheetAnswer::Refused(_) => refused(),
         SheetAnswer::Written(n) => {
             io::write_all(STDOUT_FILENO, text::front(text, n));

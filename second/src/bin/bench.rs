@@ -338,7 +338,7 @@ mod linked {
     // The sheet programs
     // -----------------------------------------------------------------------------------------
 
-    /// Both sheet programs as they are run, over one recording of lines A and B.
+    /// Both sheet programs as they are run, over recordings of lines A and B.
     fn sheets(megabytes: usize) -> Result<(), String> {
         let sheet = Path::new("target/bin/sheet");
         if !sheet.is_file() || std::env::consts::ARCH != "x86_64" {
@@ -348,15 +348,33 @@ mod linked {
         let sheet2 = std::env::current_exe()
             .map_err(told_error)?
             .with_file_name("sheet2");
+        // The first beside the second shows what the search for orders costs.
+        for (what, live) in [
+            ("no message that looks for an order", 0),
+            ("1,000 live orders", 1_000),
+        ] {
+            sheets_of(sheet, &sheet2, megabytes, what, live)?;
+        }
+        Ok(())
+    }
+
+    fn sheets_of(
+        sheet: &Path,
+        sheet2: &Path,
+        megabytes: usize,
+        what: &str,
+        live: usize,
+    ) -> Result<(), String> {
         let file = Temporary::new();
-        let records = write_recording(&file.0, megabytes << 20).map_err(told_error)?;
-        if output(sheet, &file.0)? != output(&sheet2, &file.0)? {
+        let records = write_recording(&file.0, megabytes * 1_000_000, live).map_err(told_error)?;
+        if output(sheet, &file.0)? != output(sheet2, &file.0)? {
             return Err("the two sheets differ".to_string());
         }
         // Both have read the file once by now.
         let timed = |program: &Path| time(|| drop(black_box(output(program, &file.0))));
-        let (rattle, rust) = by_turns(0, PROGRAM_REPETITIONS, || timed(sheet), || timed(&sheet2));
-        let what = format!("sheet program, {megabytes} MB, 1,000 live orders");
+        let (rattle, rust) = by_turns(0, PROGRAM_REPETITIONS, || timed(sheet), || timed(sheet2));
+        let speed = megabytes as f64 / rattle.as_secs_f64();
+        let what = format!("sheet program, {megabytes} MB, {what}: {speed:.0} MB/s");
         print_row(&what, records, "records", rattle, rust);
         Ok(())
     }
@@ -382,9 +400,9 @@ mod linked {
     }
 
     /// Each packet twice, line B a few packets behind line A. Answers how many records there are.
-    fn write_recording(path: &Path, bytes: usize) -> std::io::Result<usize> {
+    fn write_recording(path: &Path, bytes: usize, live: usize) -> std::io::Result<usize> {
         let mut file = BufWriter::new(File::create(path)?);
-        let mut traffic = Traffic::new(11, 1_000);
+        let mut traffic = Traffic::new(11, live);
         let mut records = traffic.opening();
         let (mut written, mut count) = (0, 0);
         while written < bytes {
@@ -399,7 +417,12 @@ mod linked {
             for packet in &line_a[line_a.len().saturating_sub(3)..] {
                 written += put(&mut file, packet)?;
             }
-            records = (0..8_000).map(|_| traffic.message()).collect();
+            records = (0..8_000)
+                .map(|_| match live {
+                    0 => traffic.bookless(),
+                    _ => traffic.message(),
+                })
+                .collect();
         }
         file.flush()?;
         Ok(count)
