@@ -1,14 +1,26 @@
 -- The shared law of little-endian reading, at every width, and what follows from it. No law asks that the bytes are there: a byte past
 -- the end counts as 0, on both sides.
 -- Assumes nothing.
-use mathlib.Core.Path.{_≡_, refl, sym, _∙_}
+use mathlib.Core.Path.{_≡_, refl, sym, ap, _∙_}
 use mathlib.Core.List.{List, [], _∷_, _++_}
-use Prim.Native.Nat.{ℕ, zero, suc, _+_, _*_, _^_, _≤_, _<_}
+use Prim.Native.Nat.{ℕ, zero, suc, _+_, _-_, _*_, _^_, _≤_, _<_}
+use mathlib.Core.Bool.{Bool, true, false}
+use lib.Dec.{leb}
+use borrow.Author.Tests.{leb-true, leb-false, le-leb, lt-leb}
 use native.Mathlib.Nat.{pow-suc, pow-succ', pow-zero, zero-add, add-zero, suc-add, add-suc, mul-assoc}
 use native.Mathlib.Omega.{arith}
 use lib.ListN.{length, take, drop, getD, replicate, length-append, length-drop, length-replicate, drop-of-length-le}
 use lib.Seq.{take-nil, take-all, drop-nil, length-take-le, take-append-le, getD-take, getD-drop, ext-getD}
+use Rattle.facts.proofs.PieceLaws.{is-replicate}
 use Rattle.wire.specs.Le.{le, field, padded, Bytes}
+
+-- what the test for bytes that are there says, where n of them can be
+pub fits-test : (at n l : ℕ) → n ≤ l → leb at (l - n) ≡ leb (at + n) l
+fits-test at n l h = go (leb at (l - n)) refl
+  where
+    go : (x : Bool) → leb at (l - n) ≡ x → leb at (l - n) ≡ leb (at + n) l
+    go true e = e ∙ sym (le-leb (at + n) l (omega (arith, leb-true at (l - n) e)))
+    go false e = e ∙ sym (lt-leb (at + n) l (omega (arith, leb-false at (l - n) e)))
 
 -- the law: one more byte, at the front
 pub field-more : (b : List ℕ) (at w : ℕ) → field b at (suc w) ≡ getD b at 0 + 256 * field b (suc at) w
@@ -49,6 +61,12 @@ getD-zeros [] n k = zeros n k
 getD-zeros (x ∷ xs) n zero = refl
 getD-zeros (x ∷ xs) n (suc k) = getD-zeros xs n k
 
+zeros-left : (n k : ℕ) → drop {A = ℕ} k (replicate n 0) ≡ replicate (n - k) 0
+zeros-left n k =
+    let l : List ℕ = drop k (replicate n 0) in
+    let long : length l ≡ n - k = rw (length-drop, length-replicate) refl in
+    is-replicate 0 0 l (λ j lt. getD-drop k (replicate n 0) j 0 ∙ zeros n (k + j)) ∙ ap (λ (m : ℕ). replicate m 0) long
+
 pub length-padded : (b : List ℕ) (at n : ℕ) → length (padded b at n) ≡ n
 unfolding padded
 length-padded b at n = length-take-le n (drop at b ++ replicate n 0) (rw (length-append, length-replicate) (omega arith))
@@ -70,13 +88,20 @@ is-padded b at l h =
     ext-getD 0 l (padded b at (length l)) (sym (length-padded b at (length l)))
     (λ k lt. h k lt ∙ sym (getD-padded b at (length l) k lt))
 
--- a field is decided by its own bytes
+-- a field is decided by its own bytes, wherever they lie
+pub field-alike : (a b : List ℕ) (i j w : ℕ) → ((k : ℕ) → k < w → getD a (i + k) 0 ≡ getD b (j + k) 0) → field a i w ≡ field b j w
+field-alike a b i j zero h = field-none a i ∙ sym (field-none b j)
+field-alike a b i j (suc w) h =
+    let x : getD a i 0 ≡ getD b j 0 = rw (← add-zero i, ← add-zero j) (h 0 (omega arith)) in
+    let xs : field a (suc i) w ≡ field b (suc j) w = field-alike a b (suc i) (suc j) w (λ k u. rw (suc-add, suc-add, ← add-suc, ← add-suc) (h (suc k) (omega arith))) in
+    rw (field-more a i w, field-more b j w, x, xs)
+
 pub field-same : (a b : List ℕ) (at w : ℕ) → ((k : ℕ) → at ≤ k → k < at + w → getD a k 0 ≡ getD b k 0) → field a at w ≡ field b at w
-field-same a b at zero h = field-none a at ∙ sym (field-none b at)
-field-same a b at (suc w) h =
-    let x : getD a at 0 ≡ getD b at 0 = h at (omega arith) (omega arith) in
-    let xs : field a (suc at) w ≡ field b (suc at) w = field-same a b (suc at) w (λ k l u. h k (omega arith) (omega arith)) in
-    rw (field-more a at w, field-more b at w, x, xs)
+field-same a b at w h = field-alike a b at at w (λ k u. h (at + k) (omega arith) (omega arith))
+
+-- a number of at most n bytes stands in a copy of n bytes from there
+pub field-copied : (b : List ℕ) (at n w : ℕ) → w ≤ n → field (padded b at n) 0 w ≡ field b at w
+field-copied b at n w h = field-alike (padded b at n) b 0 at w (λ k u. rw (zero-add k) (getD-padded b at n k (omega arith)))
 
 -- and so it stands in a padded copy that reaches so far
 pub field-padded : (b : List ℕ) (n at w : ℕ) → at + w ≤ n → field (padded b 0 n) at w ≡ field b at w
@@ -85,3 +110,24 @@ field-padded b n at w h = field-same (padded b 0 n) b at w (λ k l u. getD-padde
 -- a list of that length is its own padded copy
 pub padded-whole : (b : List ℕ) (n : ℕ) → length b ≡ n → padded b 0 n ≡ b
 padded-whole b n h = padded-part b 0 n (omega arith) ∙ take-all n b (omega arith)
+
+-- as many zeros as are asked for, where there are so many
+pub zeros-room : (n k : ℕ) (w : List ℕ) → k ≤ n → w ≡ replicate n 0 → length (take k w) ≡ k
+zeros-room n k w h e = length-take-le k w (rw (e, length-replicate) h)
+
+-- what is there, and zeros behind it
+pub front-and-zeros : (b : List ℕ) (at n : ℕ) (w z : List ℕ) → at ≤ length b → length b - at ≤ n → w ≡ replicate n 0 → z ≡ take (length b - at) (drop at b) → z ++ drop (length b - at) w ≡ padded b at n
+front-and-zeros b at n w z h fits w-is z-is =
+    let l : List ℕ = z ++ drop (length b - at) w in
+    let whole : take (length b - at) (drop at b) ≡ drop at b = take-all (length b - at) (drop at b) (rw length-drop (omega arith)) in
+    let zeros-behind : drop (length b - at) w ≡ replicate (n - (length b - at)) 0 = rw w-is (zeros-left n (length b - at)) in
+    let parts : l ≡ drop at b ++ replicate (n - (length b - at)) 0 = rw (z-is, whole, zeros-behind) refl in
+    let long : length l ≡ n = rw (parts, length-append, length-drop, length-replicate) (omega arith) in
+    is-padded b at l (λ k lt. ap (λ (t : List ℕ). getD t k 0) parts ∙ getD-zeros (drop at b) (n - (length b - at)) k ∙ getD-drop at b k 0)
+    ∙ ap (padded b at) long
+
+-- none where nothing is there
+pub zeros-alone : (b : List ℕ) (at n : ℕ) → length b ≤ at → replicate n 0 ≡ padded b at n
+zeros-alone b at n h =
+    is-padded b at (replicate n 0) (λ k lt. zeros n k ∙ sym (field-past b (at + k) 1 (omega arith)) ∙ field-one b (at + k))
+    ∙ ap (padded b at) (length-replicate n 0)

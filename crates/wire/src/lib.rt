@@ -1,8 +1,9 @@
 // Little-endian numbers at fixed places of a run of bytes, and copies of its bytes by value.
 // A byte past the end counts as 0, so that every function here answers for any slice and any place.
 ghost use mathlib.Core.Path.{_≡_};
-ghost use Prim.Native.Nat.{_+_};
+ghost use Prim.Native.Nat.{_+_, _≤_, _<_};
 ghost use lib.ListN.{length, getD, replicate};
+ghost use lib.Dec.{leb};
 ghost use Rattle.wire.specs.Le.{field, padded};
 
 pub fn u8_at(b: &[u8], at: usize) -> u8
@@ -11,58 +12,106 @@ pub fn u8_at(b: &[u8], at: usize) -> u8
     if at < b.len() { b[at] } else { 0 }
 }
 
+// A byte that is there.
+fn byte_in(b: &[u8], at: usize) -> u8
+    requires { ⌜ at < length (now b) ⌝ }
+    ensures { λ r. ⌜ r ≡ getD (now (b .entry)) at 0 ⌝ }
+{
+    b[at]
+}
+
+// Two, four and eight bytes that are there.
+fn two_in(b: &[u8], at: usize) -> u16
+    requires { ⌜ at + 2 ≤ length (now b) ⌝ }
+    ensures { λ r. ⌜ r ≡ field (now (b .entry)) at 2 ⌝ }
+{
+    (byte_in(b, at) as u16) + 256 * (byte_in(b, at + 1) as u16)
+}
+
+fn four_in(b: &[u8], at: usize) -> u32
+    requires { ⌜ at + 4 ≤ length (now b) ⌝ }
+    ensures { λ r. ⌜ r ≡ field (now (b .entry)) at 4 ⌝ }
+{
+    (two_in(b, at) as u32) + 65536 * (two_in(b, at + 2) as u32)
+}
+
+fn eight_in(b: &[u8], at: usize) -> u64
+    requires { ⌜ at + 8 ≤ length (now b) ⌝ }
+    ensures { λ r. ⌜ r ≡ field (now (b .entry)) at 8 ⌝ }
+{
+    (four_in(b, at) as u64) + 4294967296 * (four_in(b, at + 4) as u64)
+}
+
+// Whether n bytes from at on are there; the sum of the two need not fit.
+fn has(b: &[u8], at: usize, n: usize) -> bool
+    ensures { λ r. ⌜ r ≡ leb (at + n) (length (now (b .entry))) ⌝ }
+{
+    if b.len() < n {
+        return false;
+    }
+    at <= b.len() - n
+}
+
+// Where a number is not there whole, it is read in a copy with zeros behind.
 pub fn u16_at(b: &[u8], at: usize) -> u16
     ensures { λ r. ⌜ r ≡ field (now (b .entry)) at 2 ⌝ }
 {
-    if at < b.len() {
-        (u8_at(b, at) as u16) + 256 * (u8_at(b, at + 1) as u16)
-    } else {
-        0
+    if has(b, at, 2) {
+        return two_in(b, at);
     }
+    let p = eight_at(b, at);
+    two_in(&p, 0)
 }
 
 pub fn u32_at(b: &[u8], at: usize) -> u32
     ensures { λ r. ⌜ r ≡ field (now (b .entry)) at 4 ⌝ }
 {
-    if at < b.len() {
-        (u16_at(b, at) as u32) + 65536 * (u16_at(b, at + 2) as u32)
-    } else {
-        0
+    if has(b, at, 4) {
+        return four_in(b, at);
     }
+    let p = eight_at(b, at);
+    four_in(&p, 0)
 }
 
 pub fn u64_at(b: &[u8], at: usize) -> u64
     ensures { λ r. ⌜ r ≡ field (now (b .entry)) at 8 ⌝ }
 {
-    if at < b.len() {
-        (u32_at(b, at) as u64) + 4294967296 * (u32_at(b, at + 4) as u64)
-    } else {
-        0
+    if has(b, at, 8) {
+        return eight_in(b, at);
     }
+    let p = eight_at(b, at);
+    eight_in(&p, 0)
 }
 
-// The byte that lies i bytes after at, 0 past the end; the sum of the two places need not fit.
-fn after(b: &[u8], at: usize, i: usize) -> u8
-    ensures { λ r. ⌜ r ≡ getD (now (b .entry)) (at + i) 0 ⌝ }
+// As many bytes as both have, from one to the other.
+fn copy(s: &[u8], out: &mut [u8])
+    requires { ⌜ length (now s) ≡ length (now out) ⌝ }
+    ensures { λ _. ⌜ now (out .exit) ≡ now (s .entry) ⌝ }
 {
-    if at < b.len() {
-        if i < b.len() - at {
-            return b[at + i];
-        }
+    let n = out.len();
+    let mut i = 0;
+    while i < n {
+        out[i] = s[i];
+        i = i + 1;
     }
-    0
 }
 
 // The bytes from at on, into the whole of out, with zeros for those past the end.
 pub fn copy_at(b: &[u8], at: usize, out: &mut [u8])
     ensures { λ _. ⌜ now (out .exit) ≡ padded (now (b .entry)) at (length (now (out .entry))) ⌝ }
 {
-    let mut i = 0;
     let n = out.len();
-    while i < n {
-        out[i] = after(b, at, i);
-        i = i + 1;
+    if b.len() <= at {
+        wipe(out);
+        return;
     }
+    let k = b.len() - at;
+    if n <= k {
+        copy(&b[at..at + n], out);
+        return;
+    }
+    wipe(out);
+    copy(&b[at..], &mut out[..k]);
 }
 
 pub fn eight_at(b: &[u8], at: usize) -> [u8; 8]

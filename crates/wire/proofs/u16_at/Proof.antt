@@ -1,54 +1,45 @@
--- Two bytes are a field in two halves (field-split), and past the end a field is 0.
+-- Where two bytes are there they are the field; else they are read in a padded copy (field-copied).
 -- Assumes nothing.
-use borrow.Author.Needs.{needs}
-use mathlib.Core.Path.{sym}
+use mathlib.Core.Path.{sym, ap, _∙_}
 use Prim.Native.Nat.{_+_}
 use native.Mathlib.Omega.{arith}
-use Rattle.wire.proofs.Laws.{field-split, field-one, field-past}
+use lib.ListN.{length}
+use borrow.Author.Tests.{leb-true}
+use Rattle.wire.specs.Le.{field}
+use Rattle.wire.proofs.Laws.{field-copied}
+use borrow.Author.Needs.{needs}
 use Rattle.wire.proofs.u16_at.Statement.{statement}
 use Rattle.wire.proofs.u16_at.Tie as tie
 
-u8-at-requires : tie.Need-u8-at-requires
-u8-at-requires c κs = search needs
+has-requires : tie.Need-has-requires
+has-requires c κs = search needs
 
-cast-result : tie.Need-cast-result
-cast-result c = search needs
-
-add-u8-at : tie.Need-add-u8-at
-add-u8-at c = search needs
-
-u8-at-requires-2 : tie.Need-u8-at-requires-2
-u8-at-requires-2 c κs = search needs
-
-cast-result-2 : tie.Need-cast-result-2
-cast-result-2 c = search needs
-
-mul-result : tie.Need-mul-result
-mul-result c = search needs
-
-add-result : tie.Need-add-result
-add-result c = search needs
+two-in-requires : tie.Need-two-in-requires
+two-in-requires c κs = leb-true (c .before .before .before .args .at + 2) (length (c .before .before .before .args .b .now)) (sym (c .before .has .ensures) ∙ c .if1 .taken)
 
 returns : tie.Need-returns
-returns c =
-    let a = c .before .before .before .before .args in
-    omega (arith, field-split (a .b .now) (a .at) 1 1, field-one (a .b .now) (a .at), field-one (a .b .now) (a .at + 1))
+returns c = search needs
+
+eight-at-requires : tie.Need-eight-at-requires
+eight-at-requires c κs = search needs
+
+slice-aggregate-two-in : tie.Need-slice-aggregate-two-in
+slice-aggregate-two-in c = search needs
+
+two-in-requires-2 : tie.Need-two-in-requires-2
+two-in-requires-2 c κs = search needs
 
 returns-2 : tie.Need-returns-2
-returns-2 c =
-    let a = c .before .before .args in
-    sym (field-past (a .b .now) (a .at) 2 (c .if1 .left))
+returns-2 c = c .two-in2 .ensures ∙ (ap (λ q. field q 0 2) (c .before .before .eight-at .ensures) ∙ field-copied (c .before .before .before .before .before .before .args .b .now) (c .before .before .before .before .before .before .args .at) 8 2 (omega arith))
 
 pub u16-at-spec : {M : Type 1} → statement M
 u16-at-spec =
     tie.close
     (tie.spec
-    u8-at-requires
-    cast-result
-    add-u8-at
-    u8-at-requires-2
-    cast-result-2
-    mul-result
-    add-result
+    has-requires
+    two-in-requires
     returns
+    eight-at-requires
+    slice-aggregate-two-in
+    two-in-requires-2
     returns-2)

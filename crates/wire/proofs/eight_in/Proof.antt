@@ -1,0 +1,46 @@
+-- Two halves are the field (field-split).
+-- Assumes nothing.
+use native.Mathlib.Omega.{arith}
+use Rattle.wire.proofs.Laws.{field-split}
+use borrow.Author.Needs.{needs}
+use Rattle.wire.proofs.eight_in.Statement.{statement}
+use Rattle.wire.proofs.eight_in.Tie as tie
+
+four-in-requires : tie.Need-four-in-requires
+four-in-requires c κs = search needs
+
+cast-result : tie.Need-cast-result
+cast-result c = search needs
+
+add-four-in : tie.Need-add-four-in
+add-four-in c = search needs
+
+four-in-requires-2 : tie.Need-four-in-requires-2
+four-in-requires-2 c κs = search needs
+
+cast-result-2 : tie.Need-cast-result-2
+cast-result-2 c = search needs
+
+mul-result : tie.Need-mul-result
+mul-result c = search needs
+
+add-result : tie.Need-add-result
+add-result c = search needs
+
+returns : tie.Need-returns
+returns c =
+    let a = c .before .before .before .args in
+    omega (arith, field-split (a .b .now) (a .at) 4 4)
+
+pub eight-in-spec : {M : Type 1} → statement M
+eight-in-spec =
+    tie.close
+    (tie.spec
+    four-in-requires
+    cast-result
+    add-four-in
+    four-in-requires-2
+    cast-result-2
+    mul-result
+    add-result
+    returns)
