@@ -1,6 +1,6 @@
 -- A receiver that was started and left its tables to itself is never refused with 6: its sizes stay, its next stays within 1 to 10^12 + 1.
 -- Assumes nothing.
-use Prim.Native.Nat.{ℕ, _+_, _%_, _≤_}
+use Prim.Native.Nat.{ℕ, _%_, _≤_}
 use mathlib.Core.Path.{_≡_, refl, sym, ap, subst, _∙_}
 use mathlib.Core.Logic.{_⊎_, inl, inr}
 use mathlib.Core.Bool.{true, false}
@@ -93,14 +93,19 @@ module _ (o s h : ℕ) where
       go (records cs) b = run-fit cs r b f
 
   module _ (sizes : sizesOk o s h ≡ true) where
-    -- such a receiver is not refused with 6: a packet is judged by its framing alone
-    received-worked : (p : List ℕ) (k : Lent) → Fit (rxOf k) → rxOf (received k p .after) ≡ worked shelfStore bookEngine (framing p) (rxOf k)
-    unfolding framed worked nextOk both
-    received-worked p k f =
+    -- such a receiver is not refused with 6
+    not-six : (k : Lent) → Fit (rxOf k) → (sizesOk (length (k .orders)) (length (k .symbols)) (length (k .shelf)) ≡ true) × (nextOk (k .state .next) ≡ true)
+    unfolding nextOk both
+    not-six k f =
         let z = f .sized in
-        let a : sizesOk (length (k .orders)) (length (k .symbols)) (length (k .shelf)) ≡ true = rw (z .orders-are, z .symbols-are, z .shelf-is) sizes in
-        let b : nextOk (k .state .next) ≡ true = simp (le-leb 1 (k .state .next) (f .from-1), le-leb (k .state .next) 1000000000001 (f .below .next-to)) in
-        ap (λ x. rxOf (x .after)) (sym (judged-packet k p a b)) ∙ go (framing p)
+        (rw (z .orders-are, z .symbols-are, z .shelf-is) sizes, simp (le-leb 1 (k .state .next) (f .from-1), le-leb (k .state .next) 1000000000001 (f .below .next-to)))
+
+    -- a packet is judged by its framing alone
+    received-worked : (p : List ℕ) (k : Lent) → Fit (rxOf k) → rxOf (received k p .after) ≡ worked shelfStore bookEngine (framing p) (rxOf k)
+    unfolding framed worked
+    received-worked p k f =
+        let n = not-six k f in
+        ap (λ x. rxOf (x .after)) (sym (judged-packet k p (n .0) (n .1))) ∙ go (framing p)
       where
         go : (x : Framing) → rxOf (framed x k .after) ≡ worked shelfStore bookEngine x (rxOf k)
         go (bad q) = refl
@@ -120,13 +125,20 @@ module _ (o s h : ℕ) where
     plays-stop [] k e = e
     plays-stop (p ∷ ps) k e = plays-stop ps (received k p .after) (received-stop p k e)
 
+    received-fit : (p : List ℕ) (k : Lent) → Fit (rxOf k) → Fit (rxOf (received k p .after))
+    received-fit p k f = subst Fit (sym (received-worked p k f)) (worked-fit p (rxOf k) f)
+
+    plays-fit : (ps : List (List ℕ)) (k : Lent) → Fit (rxOf k) → Fit (rxOf (plays ps k))
+    unfolding plays
+    plays-fit [] k f = f
+    plays-fit (p ∷ ps) k f = plays-fit ps (received k p .after) (received-fit p k f)
+
     pub plays-receives : (ps : List (List ℕ)) (k : Lent) → Fit (rxOf k) → rxOf (plays ps k) ≡ receives shelfStore bookEngine framing ps (rxOf k)
     unfolding plays receives
     plays-receives [] k f = refl
     plays-receives (p ∷ ps) k f =
-        let e = received-worked p k f in
-        plays-receives ps (received k p .after) (subst Fit (sym e) (worked-fit p (rxOf k) f))
-        ∙ ap (receives shelfStore bookEngine framing ps) e
+        plays-receives ps (received k p .after) (received-fit p k f)
+        ∙ ap (receives shelfStore bookEngine framing ps) (received-worked p k f)
 
     -- a start meets it
     fresh-started : Started shelfStore bookEngine (zeroBook o s) (rxOf (fresh o s h))
@@ -148,6 +160,10 @@ module _ (o s h : ℕ) where
           from-1 = omega arith;
           below = start-below shelfStore bookEngine (zeroBook o s) (rxOf (fresh o s h)) fresh-started;
         }
+
+    -- whatever packets came since
+    pub never-six : (ps : List (List ℕ)) → (sizesOk (length (plays ps (fresh o s h) .orders)) (length (plays ps (fresh o s h) .symbols)) (length (plays ps (fresh o s h) .shelf)) ≡ true) × (nextOk (plays ps (fresh o s h) .state .next) ≡ true)
+    never-six ps = not-six (plays ps (fresh o s h)) (plays-fit ps (fresh o s h) fresh-fit)
 
     -- demand 3 of a recording that was played from a start
     pub demanded : (t : List ℕ) → Demand o s h t (rxOf (plays (packetsOf t) (fresh o s h)))

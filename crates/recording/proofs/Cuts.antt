@@ -16,10 +16,13 @@ use Rattle.wire.specs.Le.{field}
 use Rattle.fields.specs.Fields.{refusal}
 use Rattle.arbitration.specs.Stream.{feed as each}
 use Rattle.arbitration.proofs.StreamLaws.{feed-append}
-use Rattle.recording.specs.Stream.{Kept, Hearing, hearing, heard, passed, grown, byte, hearingOf, feedable, Outcome, outcome, took, fed}
+use Rattle.receiver.specs.declared.State.{State}
+use Rattle.recording.specs.Stream.{Kept, Hearing, hearing, heard, passed, grown, byte, keptOf, hearingOf, opened, cut, feedable, Outcome, outcome, streamIn, took, fed}
+use Rattle.recording.specs.Whole.{restOf}
 use Rattle.recording.specs.declared.Stream.{Stream}
 use Rattle.recording.specs.declared.Fed.{Fed}
 use Rattle.recording.proofs.Exits.{buffer-fits}
+use Rattle.recording.proofs.Packets.{cut-rest}
 
 -- ---- a buffer of w bytes, 1,502 or more, is never outgrown
 module _ (w : ℕ) (big : 1502 ≤ w) where
@@ -43,45 +46,54 @@ module _ (w : ℕ) (big : 1502 ≤ w) where
   all-fit (b ∷ bs) x h = all-fit bs (byte b x) (byte-fits b x h)
 
 -- ---- what is left between two chunks is all that counts
-abbrev streamIn : Hearing → Stream
-streamIn y = record { receiver = y .kept .lent .state; held = length (y .unfinished); skip = y .skip; bad = y .kept .bad; totals = y .kept .totals }
-
 module _ (w : ℕ) (y : Hearing) (k : Stream) (o s h w′ : List ℕ) (left : took w y ≡ outcome (Fed.Took k) o s h w′) where
-  same-stream : streamIn y ≡ k
+  pub same-stream : streamIn y ≡ k
   unfolding took
   same-stream = let e : Fed.Took (streamIn y) ≡ Fed.Took k = ap (λ (v : Outcome). v .answer) left in cc
 
-  again : hearingOf k o s h w′ ≡ y
+  pub again : hearingOf k o s h w′ ≡ y
   unfolding took
   again =
       sym (λ i. hearingOf (same-stream i) (left i .orders) (left i .symbols) (left i .shelf) (left i .hold))
       ∙ ap (λ u. hearing u (y .skip) (y .kept)) (take-append-seam (y .unfinished) (replicate (w - length (y .unfinished)) 0))
 
-  same-size : length (y .unfinished) ≤ w → length w′ ≡ w
+  pub same-size : length (y .unfinished) ≤ w → length w′ ≡ w
   unfolding took
   same-size l =
       sym (ap (λ (v : Outcome). length (v .hold)) left)
       ∙ rw (length-append, length-replicate) (omega arith)
 
--- a and then b is a ++ b, wherever the stream that a left is not refused
-pub fed-then : (k k′ : Stream) (o s h w o′ s′ h′ w′ a b : List ℕ) → fed k o s h w a ≡ outcome (Fed.Took k′) o′ s′ h′ w′ → feedable k′ (length o′) (length s′) (length h′) (length w′) ≡ true → fed k′ o′ s′ h′ w′ b ≡ fed k o s h w (a ++ b)
-unfolding fed pick
-fed-then k k′ o s h w o′ s′ h′ w′ a b e f = go (pick-cases e)
-  where
-    x : Hearing
-    x = hearingOf k o s h w
+-- a stream that was not refused took the chunk's bytes
+module _ (k k′ : Stream) (o s h w o′ s′ h′ w′ a : List ℕ) (e : fed k o s h w a ≡ outcome (Fed.Took k′) o′ s′ h′ w′) where
+  fed-bytes : (feedable k (length o) (length s) (length h) (length w) ≡ true) × (took (length w) (each byte a (hearingOf k o s h w)) ≡ outcome (Fed.Took k′) o′ s′ h′ w′)
+  unfolding fed
+  fed-bytes = go (pick-cases e)
+    where
+      go : ((feedable k (length o) (length s) (length h) (length w) ≡ true) × (took (length w) (each byte a (hearingOf k o s h w)) ≡ outcome (Fed.Took k′) o′ s′ h′ w′)) ⊎ ((feedable k (length o) (length s) (length h) (length w) ≡ false) × (outcome (Fed.Refused (refusal 6)) o s h w ≡ outcome (Fed.Took k′) o′ s′ h′ w′)) → (feedable k (length o) (length s) (length h) (length w) ≡ true) × (took (length w) (each byte a (hearingOf k o s h w)) ≡ outcome (Fed.Took k′) o′ s′ h′ w′)
+      go (inl q) = q
+      go (inr q) =
+          let r : Fed.Refused (refusal 6) ≡ Fed.Took k′ = ap (λ (v : Outcome). v .answer) (q .1) in
+          let z : _≡_ {A = ℕ} 0 1 = cc in absurd (omega arith)
 
-    go : ((feedable k (length o) (length s) (length h) (length w) ≡ true) × (took (length w) (each byte a x) ≡ outcome (Fed.Took k′) o′ s′ h′ w′)) ⊎ ((feedable k (length o) (length s) (length h) (length w) ≡ false) × (outcome (Fed.Refused (refusal 6)) o s h w ≡ outcome (Fed.Took k′) o′ s′ h′ w′)) → fed k′ o′ s′ h′ w′ b ≡ fed k o s h w (a ++ b)
-    go (inl q) =
-        let y : Hearing = each byte a x in
-        let room = buffer-fits k (length o) (length s) (length h) (length w) (q .0) in
-        let few : length (y .unfinished) ≤ length w = all-fit (length w) (room .1) a x (rw (length-take-le (k .held) w (room .0)) (room .0)) in
-        let size : length w′ ≡ length w = same-size (length w) y k′ o′ s′ h′ w′ (q .1) few in
-        let back : hearingOf k′ o′ s′ h′ w′ ≡ y = again (length w) y k′ o′ s′ h′ w′ (q .1) in
-        ap (λ t. pick t (took (length w′) (each byte b (hearingOf k′ o′ s′ h′ w′))) (outcome (Fed.Refused (refusal 6)) o′ s′ h′ w′)) f
-        ∙ (λ i. took (size i) (each byte b (back i)))
-        ∙ ap (took (length w)) (sym (feed-append byte a b x))
-        ∙ ap (λ t. pick t (took (length w) (each byte (a ++ b) x)) (outcome (Fed.Refused (refusal 6)) o s h w)) (sym (q .0))
-    go (inr q) =
-        let r : Fed.Refused (refusal 6) ≡ Fed.Took k′ = ap (λ (v : Outcome). v .answer) (q .1) in
-        let z : _≡_ {A = ℕ} 0 1 = cc in absurd (omega arith)
+  -- a and then b is a ++ b, wherever the stream that a left is not refused
+  pub fed-then : (b : List ℕ) → feedable k′ (length o′) (length s′) (length h′) (length w′) ≡ true → fed k′ o′ s′ h′ w′ b ≡ fed k o s h w (a ++ b)
+  unfolding fed pick
+  fed-then b f =
+      let x : Hearing = hearingOf k o s h w in
+      let y : Hearing = each byte a x in
+      let q = fed-bytes in
+      let room = buffer-fits k (length o) (length s) (length h) (length w) (q .0) in
+      let few : length (y .unfinished) ≤ length w = all-fit (length w) (room .1) a x (rw (length-take-le (k .held) w (room .0)) (room .0)) in
+      let size : length w′ ≡ length w = same-size (length w) y k′ o′ s′ h′ w′ (q .1) few in
+      let back : hearingOf k′ o′ s′ h′ w′ ≡ y = again (length w) y k′ o′ s′ h′ w′ (q .1) in
+      ap (λ t. pick t (took (length w′) (each byte b (hearingOf k′ o′ s′ h′ w′))) (outcome (Fed.Refused (refusal 6)) o′ s′ h′ w′)) f
+      ∙ (λ i. took (size i) (each byte b (back i)))
+      ∙ ap (took (length w)) (sym (feed-append byte a b x))
+      ∙ ap (λ t. pick t (took (length w) (each byte (a ++ b) x)) (outcome (Fed.Refused (refusal 6)) o s h w)) (sym (q .0))
+
+-- "a recording that ends inside a length or packet gives `recording=cut`": an opened stream that took t is cut where anything is left of t behind its packets, and only there
+pub fed-cut : (q : State) (k : Stream) (o s h w o′ s′ h′ w′ t : List ℕ) → fed (opened q) o s h w t ≡ outcome (Fed.Took k) o′ s′ h′ w′ → cut k ≡ ltb 0 (length (restOf t))
+fed-cut q k o s h w o′ s′ h′ w′ t e =
+    let y : Hearing = each byte t (hearingOf (opened q) o s h w) in
+    let left = fed-bytes (opened q) k o s h w o′ s′ h′ w′ t e .1 in
+    ap cut (sym (same-stream (length w) y k o′ s′ h′ w′ left)) ∙ cut-rest t (keptOf (opened q) o s h)

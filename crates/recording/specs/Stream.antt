@@ -104,10 +104,18 @@ pub record Outcome : Type 0 where
 abbrev pub outcome : Fed → List ℕ → List ℕ → List ℕ → List ℕ → Outcome
 outcome a o s h w = record { answer = a; orders = o; symbols = s; shelf = h; hold = w }
 
+-- document 01's number of each answer, 0 where nothing is refused
+unfoldable pub fedNumber : Fed → ℕ
+fedNumber (Fed.Took k) = 0
+fedNumber (Fed.Refused r) = r .number
+
+abbrev pub streamIn : Hearing → Stream
+streamIn x = record { receiver = x .kept .lent .state; held = length (x .unfinished); skip = x .skip; bad = x .kept .bad; totals = x .kept .totals }
+
 -- the stream after a chunk: in a buffer of w bytes the unfinished ones, and zeros behind them
 unfoldable pub took : ℕ → Hearing → Outcome
 took w x =
-    outcome (Fed.Took (record { receiver = x .kept .lent .state; held = length (x .unfinished); skip = x .skip; bad = x .kept .bad; totals = x .kept .totals }))
+    outcome (Fed.Took (streamIn x))
     (x .kept .lent .orders) (x .kept .lent .symbols) (x .kept .lent .shelf)
     (x .unfinished ++ replicate (w - length (x .unfinished)) 0)
 
