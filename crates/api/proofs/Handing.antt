@@ -25,10 +25,10 @@ use Rattle.receiver.specs.declared.State.{State}
 use Rattle.receiver.specs.declared.Account.{Account}
 use Rattle.receiver.specs.declared.Received.{Received}
 use Rattle.receiver.specs.declared.Started.{Started}
-use Rattle.receiver.specs.Lent.{Begun, begun, lent, Outcome, outcome}
+use Rattle.receiver.specs.Lent.{stateNumbers, Begun, begun, lent, Outcome, outcome}
 use Rattle.answer_sheet.specs.declared.SheetAnswer.{SheetAnswer}
 use Rattle.answer_sheet.specs.Sheet.{Sheet, sheetAnd}
-use Rattle.api.specs.Calls.{stateNumbers, accountNumbers, startAnswer, receiveCall, receiveAnswer, ladderAnswer, call, bitsOf, spreadAnswer, countsAnswer, packetAnswer, recordAnswer, sheetAnswer}
+use Rattle.api.specs.Calls.{accountNumbers, startAnswer, receiveCall, receiveAnswer, ladderAnswer, call, bitsOf, spreadAnswer, countsAnswer, packetAnswer, recordAnswer, sheetAnswer}
 use Rattle.api.specs.Messages.{typed, kindIn, fieldsOf, bodyAnswer}
 use Rattle.api.proofs.Types.{type-told}
 

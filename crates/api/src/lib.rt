@@ -7,7 +7,7 @@ ghost use Rattle.packet.specs.Record.{readRecord};
 ghost use Rattle.packet.specs.Packet.{readPacket};
 ghost use Rattle.body.specs.Read.{readBody};
 ghost use Rattle.answer_sheet.specs.Sheet.{sheetView};
-ghost use Rattle.api.specs.Calls.{stateOf, accountNumbers, sideOf, startCall, startAnswer, receiveCall, receiveAnswer, fillCall, ladderAnswer, call, bitsOf, spreadAnswer, countsAnswer, packetAnswer, recordAnswer, wordOf, sheetAnswer};
+ghost use Rattle.api.specs.Calls.{stateIn, accountNumbers, sideAsked, startCall, startAnswer, receiveCall, receiveAnswer, fillCall, ladderAnswer, call, bitsOf, spreadAnswer, countsAnswer, packetAnswer, recordAnswer, wordOf, sheetAnswer};
 ghost use Rattle.api.specs.Messages.{symbolFields, stateFields, statusFields, clearFields, addFields, modifyFields, deleteFields, executionFields, tradeFields, cancelFields, typed, bodyAnswer};
 use answer_sheet::Recording;
 use answer_sheet::SheetAnswer;
@@ -53,8 +53,8 @@ pub extern "C" fn rimeheath_start(
 }
 
 // A receiver's state of three lent numbers.
-fn state_of(l: &[u64; 3]) -> State
-    ensures { λ r. ⌜ r ≡ stateOf (now (l .entry)) ⌝ }
+fn state_in(l: &[u64; 3]) -> State
+    ensures { λ r. ⌜ r ≡ stateIn (now (l .entry)) ⌝ }
 {
     State {
         next: l[0],
@@ -91,9 +91,9 @@ pub extern "C" fn rimeheath_receive(
     p: &[u8],
     account: &mut [u64; 9],
 ) -> u8
-    ensures { λ r. ⌜ receiveCall r (now (state .exit)) (now (account .exit)) (now (orders .exit)) (now (symbols .exit)) (now (shelf .exit)) ≡ receiveAnswer (received (lent (now (orders .entry)) (now (symbols .entry)) (now (shelf .entry)) (stateOf (now (state .entry)))) (now (p .entry))) (now (state .entry)) (now (account .entry)) ⌝ }
+    ensures { λ r. ⌜ receiveCall r (now (state .exit)) (now (account .exit)) (now (orders .exit)) (now (symbols .exit)) (now (shelf .exit)) ≡ receiveAnswer (received (lent (now (orders .entry)) (now (symbols .entry)) (now (shelf .entry)) (stateIn (now (state .entry)))) (now (p .entry))) (now (state .entry)) (now (account .entry)) ⌝ }
 {
-    let r = receiver::receive(orders, symbols, shelf, state_of(state), p);
+    let r = receiver::receive(orders, symbols, shelf, state_in(state), p);
     let s = r.state;
     let answer = r.answer;
     match answer {
@@ -106,8 +106,8 @@ pub extern "C" fn rimeheath_receive(
     }
 }
 
-fn side_of(sell: bool) -> Side
-    ensures { λ r. ⌜ r ≡ sideOf sell ⌝ }
+fn side_asked(sell: bool) -> Side
+    ensures { λ r. ⌜ r ≡ sideAsked sell ⌝ }
 {
     if sell { Side::Sell } else { Side::Buy }
 }
@@ -122,9 +122,9 @@ pub extern "C" fn rimeheath_ladder(
     run: &mut [u64],
     levels: &mut [u64; 1],
 ) -> u8
-    ensures { λ r. ⌜ fillCall r (now (levels .exit)) (now (run .exit)) ≡ ladderAnswer (ladderView (sideOf sell) symbol (now (orders .entry)) (now (symbols .entry)) (now (run .entry))) (now (levels .entry)) ⌝ }
+    ensures { λ r. ⌜ fillCall r (now (levels .exit)) (now (run .exit)) ≡ ladderAnswer (ladderView (sideAsked sell) symbol (now (orders .entry)) (now (symbols .entry)) (now (run .entry))) (now (levels .entry)) ⌝ }
 {
-    match views::ladder(orders, symbols, symbol, side_of(sell), run) {
+    match views::ladder(orders, symbols, symbol, side_asked(sell), run) {
         LadderAnswer::Refused(r) => r.number,
         LadderAnswer::Levels(n) => {
             *levels = [n as u64];
@@ -388,9 +388,9 @@ pub extern "C" fn rimeheath_sheet(
     cut: bool,
     written: &mut [u64; 1],
 ) -> u8
-    ensures { λ r. ⌜ fillCall r (now (written .exit)) (now (buf .exit)) ≡ sheetAnswer (sheetView (wordOf cut) bad (stateOf (now (state .entry))) (now (orders .entry)) (now (symbols .entry)) (now (buf .entry))) (now (written .entry)) ⌝ }
+    ensures { λ r. ⌜ fillCall r (now (written .exit)) (now (buf .exit)) ≡ sheetAnswer (sheetView (wordOf cut) bad (stateIn (now (state .entry))) (now (orders .entry)) (now (symbols .entry)) (now (buf .entry))) (now (written .entry)) ⌝ }
 {
-    let s = state_of(state);
+    let s = state_in(state);
     match answer_sheet::sheet(buf, orders, symbols, s, bad, word_of(cut)) {
         SheetAnswer::Refused(r) => r.number,
         SheetAnswer::Written(n) => {
