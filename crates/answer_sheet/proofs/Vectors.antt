@@ -18,7 +18,7 @@ use Rattle.receiver.specs.declared.State.{State}
 use Rattle.text.specs.Text.{digitsOf, decimalOf, signedOf, trimCons, trimOf, shownOf, tickerOf, lineOf}
 use Rattle.answer_sheet.specs.declared.Recording.{Recording}
 use Rattle.answer_sheet.specs.Keys.{recordingKey, badKey, nextKey, stopKey, secondKey, symbolsKey, ordersKey, symbolKey, tickerKey, lotKey, spreadKey, bidKey, askKey, wholeWord, noneWord}
-use Rattle.answer_sheet.specs.Sheet.{recordingLine, headOf, totalsOf, valueOf, levelLine, levelsShown, sideLines, spreadWord, spreadLine, tickerLine, symbolLines, bookLines, blockOf, entryText, blocksOf, sheetOf}
+use Rattle.answer_sheet.specs.Sheet.{recordingLine, headOf, tableLines, valueOf, levelLine, levelsShown, sideLines, spreadWord, spreadLine, tickerLine, symbolLines, bookLines, blockOf, entryText, blocksOf, sheetOf}
 
 -- "for numbers 1 to 5: second 34200; symbol 7, ABC, lot 100"
 abbrev after : State
@@ -64,7 +64,7 @@ thirteen =
     [])
 
 pub example-is : sheetOf Recording.Whole 0 after three symbol7 ≡ thirteen
-unfolding sheetOf headOf totalsOf blocksOf entryText blockOf symbolLines tickerLine recordingLine recordingKey wholeWord badKey nextKey stopKey secondKey symbolsKey ordersKey symbolKey tickerKey lotKey lineOf tickerOf trimOf trimCons shownOf countUsed countLive entries entrySize used field le padded bookLines spreadLine spreadWord sideLines levelsShown levelLine valueOf spreadKey bidKey askKey noneWord decimalOf digitsOf signedOf spreadOf between ladder levelOf prices placesOf far atPrice keyOf places ins sumBy onlyIf countBy ofKey live rows rowOf pieces cut join pick both
+unfolding sheetOf headOf tableLines blocksOf entryText blockOf symbolLines tickerLine recordingLine recordingKey wholeWord badKey nextKey stopKey secondKey symbolsKey ordersKey symbolKey tickerKey lotKey lineOf tickerOf trimOf trimCons shownOf countUsed countLive entries entrySize used field le padded bookLines spreadLine spreadWord sideLines levelsShown levelLine valueOf spreadKey bidKey askKey noneWord decimalOf digitsOf signedOf spreadOf between ladder levelOf prices placesOf far atPrice keyOf places ins sumBy onlyIf countBy ofKey live rows rowOf pieces cut join pick both
 example-is = refl
 
 -- P9: "bid 10.020000, offer 10.000000: spread -20000"
