@@ -137,11 +137,11 @@ pub extern "C" fn rimeheath_ladder(
 fn bits_of(n: i64) -> u64
     ensures { λ r. ⌜ r ≡ bitsOf n ⌝ }
 {
+    let m = text::magnitude(n);
     if n < 0 {
-        let m = -(n + 1);
-        return 18446744073709551615 - (m as u64);
+        return 18446744073709551615 - (m - 1);
     }
-    n as u64
+    m
 }
 
 // The spread of a symbol: 1 and the signed number as 64 bits, or two zeros where a side is empty.
