@@ -3,7 +3,8 @@
  * Each call answers 0, or document 01's number of the refusal: 6 (a table size or a next number), 1, 2, 5, 3, 4 (a packet), 30 (a view of
  * an unknown symbol). A refusal changes no byte of what is lent. No call asks that anything was checked before; what the type system of C
  * cannot say must hold: a pointer points to as many elements as its length says (a pointer with length 0 still must not be null), an array
- * has the size that is written here, and memory that is lent for writing overlaps nothing else that is lent to the same call.
+ * has the size that is written here, memory of 64-bit numbers is aligned as uint64_t is (a pointer with length 0 too), a bool holds 0 or 1,
+ * and memory that is lent for writing overlaps nothing else that is lent to the same call.
  *
  * orders: the order table, 5 numbers a row, 1 to 1,600 rows.  symbols: the symbol table, 42 bytes an entry, 1 to 1,000 entries.
  * shelf: 4,736 bytes.  state: next, second (its low 32 bits count), stop (its low 8 bits count). */
@@ -22,13 +23,14 @@ extern "C" {
 uint8_t rimeheath_start(uint64_t *orders, size_t orders_len, uint8_t *symbols, size_t symbols_len, uint8_t *shelf, size_t shelf_len,
                         uint64_t state[3]);
 
-/* Gives a packet to a receiver. account becomes: how many records were taken, old, too far, repeated, differing; then next, how many
- * messages were applied, the highest number on the shelf, the stop. */
+/* Gives a packet to a receiver: state becomes the state after the packet, and the tables and the shelf what they are after it. account
+ * becomes: how many records were taken, old, too far, repeated, differing; then next, how many messages were applied, the highest number on
+ * the shelf, the stop. */
 uint8_t rimeheath_receive(uint64_t *orders, size_t orders_len, uint8_t *symbols, size_t symbols_len, uint8_t *shelf, size_t shelf_len,
                           uint64_t state[3], const uint8_t *packet, size_t packet_len, uint64_t account[9]);
 
 /* The price levels of a symbol's bids, or of its offers where sell is true, best first: price, shares, orders, into run while a whole level
- * fits; levels[0] becomes the number of all levels. */
+ * fits; the rest of run stays untouched, and levels[0] becomes the number of all levels, written or not. */
 uint8_t rimeheath_ladder(const uint64_t *orders, size_t orders_len, const uint8_t *symbols, size_t symbols_len, uint32_t symbol, bool sell,
                          uint64_t *run, size_t run_len, uint64_t levels[1]);
 
@@ -43,14 +45,17 @@ uint8_t rimeheath_counts(const uint64_t *orders, size_t orders_len, const uint8_
 /* Judges a packet: records[0] becomes the number of its records. */
 uint8_t rimeheath_packet(const uint8_t *packet, size_t packet_len, uint64_t records[1]);
 
-/* Judges the first record of what is left of a packet: head becomes its number and the length of its body, which stands behind 10 bytes. */
+/* Judges the first record of what is left of a packet: head becomes its number and the length of its body, which stands behind 10 bytes.
+ * The next record starts behind that body. With nothing left the answer is 2, as with any part of a header, and never 1: a caller stops by
+ * itself at the packet's end. */
 uint8_t rimeheath_record(const uint8_t *rest, size_t rest_len, uint64_t head[2]);
 
 /* Judges a body and reads its numbers. fields[0] becomes the type; behind it stand the numbers of the message in the order of their places
  * (docs/MESSAGES.md), then zeros:
  *    49 System Time              second
- *     1 Symbol Update            symbol, lot, market (ticker, opening and closing time stand in the body at 9, 25 and 33)
- *    83 System State             nanoseconds, session, status (the version stands in the body at 5)
+ *     1 Symbol Update            symbol, lot, market (left out, and in the body: nanoseconds at 1, ticker at 9, test indicator at 21,
+ *                                opening time at 25, closing time at 33)
+ *    83 System State             nanoseconds, session, status (left out, and in the body: the version at 5)
  *     4 Security Trading Status  nanoseconds, symbol, trading status, market, short sale restriction
  *     5 Symbol Clear             nanoseconds, symbol
  *    20 Add Order                nanoseconds, symbol, order, side, price, size, attributable ID

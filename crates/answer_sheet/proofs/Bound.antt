@@ -6,9 +6,8 @@ use mathlib.Core.Bool.{true}
 use mathlib.Core.List.{List, [], _∷_, _++_, map}
 use native.Mathlib.Nat.{suc-mul}
 use native.Mathlib.Omega.{arith}
-use lib.ListN.{length, getD, take, drop, length-append, length-take}
+use lib.ListN.{length, take, drop, length-append, length-take}
 use lib.Seq.{getD-drop}
-use Rattle.facts.specs.Pick.{pick}
 use Rattle.facts.specs.Pieces.{cut, pieces, join}
 use Rattle.facts.proofs.Picks.{pick-ind, both-true}
 use Rattle.facts.proofs.SumLaws.{count-bound}
@@ -43,7 +42,7 @@ use Rattle.text.proofs.SignedLaws.{spread-le}
 use Rattle.text.proofs.TickerLaws.{ticker-length}
 use Rattle.answer_sheet.specs.declared.Recording.{Recording}
 use Rattle.answer_sheet.specs.Keys.{recordingKey, badKey, nextKey, stopKey, secondKey, symbolsKey, ordersKey, symbolKey, tickerKey, lotKey, spreadKey, bidKey, askKey, wholeWord, cutWord, noneWord}
-use Rattle.answer_sheet.specs.Sheet.{recordingLine, headOf, totalsOf, valueOf, levelLine, levelsShown, sideLines, spreadWord, spreadLine, tickerLine, symbolLines, bookLines, blockOf, entryText, blocksOf, sheetOf, sheetOk}
+use Rattle.answer_sheet.specs.Sheet.{recordingLine, headOf, tableLines, valueOf, levelLine, levelsShown, sideLines, spreadWord, spreadLine, tickerLine, symbolLines, bookLines, blockOf, entryText, blocksOf, sheetOf, sheetOk}
 
 -- ---- lists
 all-take : {A : Type 0} (P : A → Type 0) (n : ℕ) (xs : List A) → All P xs → All P (take n xs)
@@ -180,9 +179,9 @@ module _ (orders symbols : List ℕ) (g : goodTables orders symbols ≡ true) wh
   unfolding blocksOf
   blocks-le h = omega (arith, few-entries, join-le (entryText (rows orders)) 1437 (entries symbols) (all-weaken (λ e b. entry-le orders e rows-good b) (entries symbols) (bytes-entries symbols h)))
 
-  totals-le : (second : ℕ) → second < 2 ^ 32 → length (totalsOf second (countUsed (entries symbols)) (countLive (rows orders))) ≤ 85
-  unfolding totalsOf secondKey symbolsKey ordersKey countUsed countLive
-  totals-le second h =
+  table-lines-le : (second : ℕ) → second < 2 ^ 32 → length (tableLines second (countUsed (entries symbols)) (countLive (rows orders))) ≤ 85
+  unfolding tableLines secondKey symbolsKey ordersKey countUsed countLive
+  table-lines-le second h =
       let u = countUsed (entries symbols) in
       let l = countLive (rows orders) in
       omega (
@@ -218,12 +217,12 @@ pub sheet-le : (word : Recording) (bad : ℕ) (s : State) (orders symbols : List
 unfolding sheetOf sheetOk
 sheet-le word bad s orders symbols ok m =
     let w = both-true {a = goodTables orders symbols} {b = nextOk (s .next)} ok in
-    let totals = totalsOf (s .second) (countUsed (entries symbols)) (countLive (rows orders)) in
+    let counts = tableLines (s .second) (countUsed (entries symbols)) (countLive (rows orders)) in
     omega (
       arith,
-      length-append (headOf word bad s) (totals ++ blocksOf orders symbols),
-      length-append totals (blocksOf orders symbols),
+      length-append (headOf word bad s) (counts ++ blocksOf orders symbols),
+      length-append counts (blocksOf orders symbols),
       head-le word bad s (m .bad-fits) (w .1) (m .stop-fits),
-      totals-le orders symbols (w .0) (s .second) (m .second-fits),
+      table-lines-le orders symbols (w .0) (s .second) (m .second-fits),
       blocks-le orders symbols (w .0) (m .bytes),
     )

@@ -1,22 +1,21 @@
 -- What a sheet promises besides its definition: each answer's number, that a refusal leaves the buffer, that a large buffer holds the whole, and that the book and the views mean the same key.
 -- Assumes nothing.
 use Prim.Native.Nat.{ℕ, _≤_, min}
-use mathlib.Core.Path.{_≡_, refl, ap, _∙_}
-use mathlib.Core.Bool.{Bool, true, false}
+use mathlib.Core.Path.{_≡_, ap, _∙_}
+use mathlib.Core.Bool.{true, false}
 use mathlib.Core.List.{List}
 use native.Mathlib.Omega.{arith}
 use lib.ListN.{length, take, drop}
 use lib.Seq.{sets}
 use Rattle.facts.specs.Pick.{pick}
-use Rattle.facts.proofs.Picks.{no-second, pick-map}
-use Rattle.fields.specs.Fields.{refusal}
+use Rattle.facts.proofs.Picks.{pick-map}
 use Rattle.fields.specs.declared.AddOrder.{AddOrder}
 use Rattle.book.specs.Rules.{sideOf, rowFor}
 use Rattle.views.specs.Ladder.{keyOf}
 use Rattle.views.specs.declared.Side.{Side}
 use Rattle.receiver.specs.declared.State.{State}
 use Rattle.text.specs.Text.{Wrote}
-use Rattle.text.proofs.Laws.{wrote-whole, wrote-counts}
+use Rattle.text.proofs.Laws.{wrote-whole}
 use Rattle.answer_sheet.specs.declared.Recording.{Recording}
 use Rattle.answer_sheet.specs.declared.SheetAnswer.{SheetAnswer}
 use Rattle.answer_sheet.specs.Sheet.{sheetOf, sheetOk, Sheet, sheetAnd, stored, sheetView, sheetNumber}
@@ -39,10 +38,6 @@ module _ (word : Recording) (bad : ℕ) (s : State) (orders symbols b : List ℕ
   unfolding sheetView pick
   refused-kept e = rw e
 
-  -- no second outcome fits
-  pub sheet-one : (a a' : SheetAnswer) (c c' : List ℕ) → sheetAnd a c ≡ sheetView word bad s orders symbols b → sheetAnd a' c' ≡ sheetView word bad s orders symbols b → sheetAnd a c ≡ sheetAnd a' c'
-  sheet-one a a' c c' p q = no-second p q
-
   module _ (a : SheetAnswer) (b' : List ℕ) (e : sheetAnd a b' ≡ sheetView word bad s orders symbols b) where
     -- an accepted sheet is an append of its text
     pub sheet-wrote : sheetOk s orders symbols ≡ true → (a ≡ SheetAnswer.Written (min (length (sheetOf word bad s orders symbols)) (length b))) × Wrote b 0 (sheetOf word bad s orders symbols) b' (min (length (sheetOf word bad s orders symbols)) (length b))
@@ -61,25 +56,6 @@ module _ (word : Recording) (bad : ℕ) (s : State) (orders symbols b : List ℕ
         let n : min (length x) (length b) ≡ length x = omega arith in
         let v = wrote-whole (w .1) h in
         record { answer-is = w .0 ∙ ap SheetAnswer.Written n; text-stands = rw n at (v .1); rest-stands = rw n at (v .2) }
-
-  -- only a sheet that is not refused is written
-  pub written-ok : (n : ℕ) (b' : List ℕ) → sheetAnd (SheetAnswer.Written n) b' ≡ sheetView word bad s orders symbols b → sheetOk s orders symbols ≡ true
-  unfolding sheetView pick
-  written-ok n b' e = go (sheetOk s orders symbols) e
-    where
-      go : (g : Bool) → sheetAnd (SheetAnswer.Written n) b' ≡ pick g (stored (sheetOf word bad s orders symbols) b) (sheetAnd (SheetAnswer.Refused (refusal 6)) b) → g ≡ true
-      go true e = refl
-      go false e =
-          let a : SheetAnswer.Written n ≡ SheetAnswer.Refused (refusal 6) = ap (λ (y : Sheet). y .answer) e in
-          let z : _≡_ {A = ℕ} 0 1 = cc in
-          absurd (omega arith)
-
-  -- the two facts that a caller's `&buf[..n]` asks
-  pub written-counts : (n : ℕ) (b' : List ℕ) → sheetAnd (SheetAnswer.Written n) b' ≡ sheetView word bad s orders symbols b → (n ≤ length b') × (n ≡ length (take n b'))
-  written-counts n b' e =
-      let w = sheet-wrote (SheetAnswer.Written n) b' e (written-ok n b' e) in
-      let k : n ≡ min (length (sheetOf word bad s orders symbols)) (length b) = cc in
-      rw k (wrote-counts (w .1) (omega arith))
 
 -- ---- the key of a row
 -- "symbol ID times 2 plus side (buy 0, sell 1)": what the book writes for an Add is what the views ask for, `B` and `S` alike

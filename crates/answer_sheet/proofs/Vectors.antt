@@ -1,4 +1,4 @@
--- Document 01's whole example, a crossed book and an empty side, each computed from the definitions.
+-- The sheets of the tables that document 01's whole example leaves, of a crossed book and of an empty side, each computed from the definitions.
 -- Assumes nothing.
 use Prim.Native.Nat.{ℕ}
 use mathlib.Core.Path.{_≡_, refl}
@@ -18,21 +18,21 @@ use Rattle.receiver.specs.declared.State.{State}
 use Rattle.text.specs.Text.{digitsOf, decimalOf, signedOf, trimCons, trimOf, shownOf, tickerOf, lineOf}
 use Rattle.answer_sheet.specs.declared.Recording.{Recording}
 use Rattle.answer_sheet.specs.Keys.{recordingKey, badKey, nextKey, stopKey, secondKey, symbolsKey, ordersKey, symbolKey, tickerKey, lotKey, spreadKey, bidKey, askKey, wholeWord, noneWord}
-use Rattle.answer_sheet.specs.Sheet.{recordingLine, headOf, totalsOf, valueOf, levelLine, levelsShown, sideLines, spreadWord, spreadLine, tickerLine, symbolLines, bookLines, blockOf, entryText, blocksOf, sheetOf}
+use Rattle.answer_sheet.specs.Sheet.{recordingLine, headOf, tableLines, valueOf, levelLine, levelsShown, sideLines, spreadWord, spreadLine, tickerLine, symbolLines, bookLines, blockOf, entryText, blocksOf, sheetOf}
 
--- "for numbers 1 to 5: second 34200; symbol 7, ABC, lot 100"
-abbrev after : State
+-- What the example's messages leave; that they do is `example-leaves` of exercises. "for numbers 1 to 5: second 34200; symbol 7, ABC, lot 100"
+abbrev pub after : State
 after = record { next = 6; second = 34200; stop = 0 }
 
-abbrev symbol7 : List ℕ
-symbol7 = 1 ∷ 0 ∷ 0 ∷ 0 ∷ 0 ∷ 7 ∷ 0 ∷ 0 ∷ 0 ∷ 65 ∷ 66 ∷ 67 ∷ 32 ∷ 32 ∷ 32 ∷ 32 ∷ 32 ∷ 32 ∷ 32 ∷ 32 ∷ 0 ∷ 78 ∷ 0 ∷ 100 ∷ 0 ∷ 0 ∷ 0 ∷ 0 ∷ 0 ∷ 0 ∷ 0 ∷ 0 ∷ 0 ∷ 0 ∷ 0 ∷ 0 ∷ 0 ∷ 0 ∷ 0 ∷ 0 ∷ 0 ∷ 65 ∷ []
+abbrev pub symbol7 : List ℕ
+symbol7 = 1 ∷ 0 ∷ 0 ∷ 0 ∷ 0 ∷ 7 ∷ 0 ∷ 0 ∷ 0 ∷ 65 ∷ 66 ∷ 67 ∷ 32 ∷ 32 ∷ 32 ∷ 32 ∷ 32 ∷ 32 ∷ 32 ∷ 32 ∷ 0 ∷ 78 ∷ 0 ∷ 100 ∷ 0 ∷ 0 ∷ 0 ∷ 0 ∷ 0 ∷ 0 ∷ 0 ∷ 0 ∷ 0 ∷ 0 ∷ 0 ∷ 0 ∷ 0 ∷ 0 ∷ 0 ∷ 0 ∷ 0 ∷ 72 ∷ []
 
 -- "buy 500 at 10.000000 for 100; sell 501 at 10.020000 for 200; buy 502 at 10.000000 for 50"
-abbrev three : List ℕ
+abbrev pub three : List ℕ
 three = 500 ∷ 14 ∷ 10000000 ∷ 100 ∷ 3 ∷ 501 ∷ 15 ∷ 10020000 ∷ 200 ∷ 4 ∷ 502 ∷ 14 ∷ 10000000 ∷ 50 ∷ 5 ∷ []
 
 -- the thirteen lines, as the paper has them
-abbrev thirteen : List ℕ
+abbrev pub thirteen : List ℕ
 thirteen =
     join (
     -- recording=whole
@@ -63,8 +63,9 @@ thirteen =
     (97 ∷ 115 ∷ 107 ∷ 61 ∷ 49 ∷ 48 ∷ 48 ∷ 50 ∷ 48 ∷ 48 ∷ 48 ∷ 48 ∷ 32 ∷ 50 ∷ 48 ∷ 48 ∷ 32 ∷ 49 ∷ 10 ∷ []) ∷
     [])
 
+-- the sheet of those tables
 pub example-is : sheetOf Recording.Whole 0 after three symbol7 ≡ thirteen
-unfolding sheetOf headOf totalsOf blocksOf entryText blockOf symbolLines tickerLine recordingLine recordingKey wholeWord badKey nextKey stopKey secondKey symbolsKey ordersKey symbolKey tickerKey lotKey lineOf tickerOf trimOf trimCons shownOf countUsed countLive entries entrySize used field le padded bookLines spreadLine spreadWord sideLines levelsShown levelLine valueOf spreadKey bidKey askKey noneWord decimalOf digitsOf signedOf spreadOf between ladder levelOf prices placesOf far atPrice keyOf places ins sumBy onlyIf countBy ofKey live rows rowOf pieces cut join pick both
+unfolding sheetOf headOf tableLines blocksOf entryText blockOf symbolLines tickerLine recordingLine recordingKey wholeWord badKey nextKey stopKey secondKey symbolsKey ordersKey symbolKey tickerKey lotKey lineOf tickerOf trimOf trimCons shownOf countUsed countLive entries entrySize used field le padded bookLines spreadLine spreadWord sideLines levelsShown levelLine valueOf spreadKey bidKey askKey noneWord decimalOf digitsOf signedOf spreadOf between ladder levelOf prices placesOf far atPrice keyOf places ins sumBy onlyIf countBy ofKey live rows rowOf pieces cut join pick both
 example-is = refl
 
 -- P9: "bid 10.020000, offer 10.000000: spread -20000"

@@ -41,8 +41,8 @@ unfoldable pub headOf : Recording → ℕ → State → List ℕ
 headOf word bad s = recordingLine word ++ (lineOf badKey bad ++ (lineOf nextKey (s .next) ++ lineOf stopKey (s .stop)))
 
 -- "second=34200", "symbols=1", "orders=3"
-unfoldable pub totalsOf : ℕ → ℕ → ℕ → List ℕ
-totalsOf second symbols orders = lineOf secondKey second ++ (lineOf symbolsKey symbols ++ lineOf ordersKey orders)
+unfoldable pub tableLines : ℕ → ℕ → ℕ → List ℕ
+tableLines second symbols orders = lineOf secondKey second ++ (lineOf symbolsKey symbols ++ lineOf ordersKey orders)
 
 -- ---- a side of a symbol
 -- a number and the byte behind it
@@ -99,7 +99,7 @@ blocksOf orders symbols = join (map (entryText (rows orders)) (entries symbols))
 -- "The sheet is key=value lines in a fixed order": of a receiver's state and its tables, the count of bad packets and the recording's word
 unfoldable pub sheetOf : Recording → ℕ → State → List ℕ → List ℕ → List ℕ
 sheetOf word bad s orders symbols =
-    headOf word bad s ++ (totalsOf (s .second) (countUsed (entries symbols)) (countLive (rows orders)) ++ blocksOf orders symbols)
+    headOf word bad s ++ (tableLines (s .second) (countUsed (entries symbols)) (countLive (rows orders)) ++ blocksOf orders symbols)
 
 -- no refusal 6: "a table size outside these limits or not in whole rows, or a next number outside 1 to 10^12 + 1"
 unfoldable pub sheetOk : State → List ℕ → List ℕ → Bool

@@ -9,7 +9,7 @@ ghost use Rattle.symbols.specs.Entries.{entries};
 ghost use Rattle.views.specs.Ladder.{keyOf, ladder};
 ghost use Rattle.views.specs.Views.{goodTables, viewFault};
 ghost use Rattle.text.specs.Text.{Wrote, each};
-ghost use Rattle.answer_sheet.specs.Sheet.{recordingLine, headOf, totalsOf, valueOf, levelLine, levelsShown, levelAt, levelCount, sideLines, spreadWord, spreadLine, tickerLine, symbolLines, bookLines, entryText, blocksOf, sheetOf, sheetAnd, sheetView, Counted};
+ghost use Rattle.answer_sheet.specs.Sheet.{recordingLine, headOf, tableLines, valueOf, levelLine, levelsShown, levelAt, levelCount, sideLines, spreadWord, spreadLine, tickerLine, symbolLines, bookLines, entryText, blocksOf, sheetOf, sheetAnd, sheetView, Counted};
 use fields::Refusal;
 use fields::Symbol;
 use receiver::State;
@@ -56,8 +56,9 @@ fn head(buf: &mut [u8], at: usize, word: Recording, bad: u64, state: State) -> u
     text::line(buf, q, b"stop=", state.stop as u64)
 }
 
-fn totals(buf: &mut [u8], at: usize, second: u32, sizes: Sizes) -> usize
-    ensures { λ r. ⌜ Wrote (now (buf .entry)) at (totalsOf second (sizes .symbols) (sizes .orders)) (now (buf .exit)) r ⌝ }
+// The second, and how much the tables hold.
+fn table_lines(buf: &mut [u8], at: usize, second: u32, sizes: Sizes) -> usize
+    ensures { λ r. ⌜ Wrote (now (buf .entry)) at (tableLines second (sizes .symbols) (sizes .orders)) (now (buf .exit)) r ⌝ }
 {
     let o = text::line(buf, at, b"second=", second as u64);
     let p = text::line(buf, o, b"symbols=", sizes.symbols as u64);
@@ -222,7 +223,7 @@ fn all_lines(
     ensures { λ r. ⌜ Wrote (now (buf .entry)) 0 (sheetOf word bad state (now (orders .entry)) (now (symbols .entry))) (now (buf .exit)) r ⌝ }
 {
     let o = head(buf, 0, word, bad, state);
-    let p = totals(buf, o, state.second, sizes);
+    let p = table_lines(buf, o, state.second, sizes);
     blocks(buf, p, orders, symbols)
 }
 

@@ -1,16 +1,20 @@
 -- What a library call answered decides what the boundary hands on: each law is a congruence in that answer.
 -- Assumes nothing.
 use Prim.Native.Nat.{ℕ}
-use mathlib.Core.Path.{_≡_, sym, ap, _∙_}
+use mathlib.Core.Path.{_≡_, sym, ap, _∙_, subst}
 use mathlib.Core.List.{List, [], _∷_}
+use lib.ListN.{getD}
 use lib.IntN.{ℤ}
 use mir.Syntax.{w64}
 use mir.Val.{SFits, toZ, ofZ}
 use mir.ValLaws.{toZ-ofZ}
 use borrow.Author.Tests.{eq-eqb, ne-eqb}
 use Rattle.facts.specs.Pick.{pick}
+use Rattle.kinds.specs.Table.{typeOf}
 use Rattle.fields.specs.Fields.{numberOf}
 use Rattle.fields.specs.declared.Body.{Body}
+use Rattle.body.specs.Read.{readBody}
+use Rattle.body.proofs.Laws.{Sound, read-sound}
 use Rattle.packet.specs.declared.Packet.{Packet}
 use Rattle.packet.specs.declared.Record.{Record}
 use Rattle.views.specs.declared.LadderAnswer.{LadderAnswer}
@@ -21,11 +25,12 @@ use Rattle.receiver.specs.declared.State.{State}
 use Rattle.receiver.specs.declared.Account.{Account}
 use Rattle.receiver.specs.declared.Received.{Received}
 use Rattle.receiver.specs.declared.Started.{Started}
-use Rattle.receiver.specs.Lent.{Begun, begun, lent, Outcome, outcome}
+use Rattle.receiver.specs.Lent.{stateNumbers, Begun, begun, lent, Outcome, outcome}
 use Rattle.answer_sheet.specs.declared.SheetAnswer.{SheetAnswer}
 use Rattle.answer_sheet.specs.Sheet.{Sheet, sheetAnd}
-use Rattle.api.specs.Calls.{stateNumbers, accountNumbers, startAnswer, receiveCall, receiveAnswer, ladderAnswer, call, bitsOf, spreadAnswer, countsAnswer, packetAnswer, recordAnswer, sheetAnswer}
-use Rattle.api.specs.Messages.{fieldsOf, bodyAnswer}
+use Rattle.api.specs.Calls.{accountNumbers, startAnswer, receiveCall, receiveAnswer, ladderAnswer, call, bitsOf, spreadAnswer, countsAnswer, packetAnswer, recordAnswer, sheetAnswer}
+use Rattle.api.specs.Messages.{typed, kindIn, fieldsOf, bodyAnswer}
+use Rattle.api.proofs.Types.{type-told}
 
 -- x is the answer and k its case; g puts it beside what was lent, and f hands that on
 handed : {A B C : Type 0} (f : B → C) (g : A → B) (x k : A) (b : B) → x ≡ k → g x ≡ b → f (g k) ≡ f b
@@ -71,8 +76,8 @@ module _ (x v : SpreadAnswer) (e : x ≡ v) (l : List ℕ) where
 
 -- ---- a body
 -- the numbers of the case that a message is are its numbers
-pub case-fields : (m k : Body) → m ≡ k → (b w : List ℕ) → w ≡ fieldsOf k b → w ≡ fieldsOf m b
-case-fields m k q b w f = f ∙ ap (λ (y : Body). fieldsOf y b) (sym q)
+pub case-fields : (t : ℕ) (m k : Body) → m ≡ k → (b w : List ℕ) → w ≡ typed t k b → w ≡ typed t m b
+case-fields t m k q b w f = f ∙ ap (λ (y : Body). typed t y b) (sym q)
 
 module _ (m v : Body) (e : m ≡ v) (b l : List ℕ) (n : ℕ) (f : n ≡ numberOf m) where
   pub body-refused : (n ≡ 0 → ⊥) → call n l ≡ bodyAnswer v b l
@@ -81,9 +86,11 @@ module _ (m v : Body) (e : m ≡ v) (b l : List ℕ) (n : ℕ) (f : n ≡ number
       let g : bodyAnswer m b l ≡ call (numberOf m) l = rw (ne-eqb (numberOf m) 0 (λ z. h (f ∙ z))) in
       ap (λ (y : ℕ). call y l) f ∙ sym g ∙ ap (λ (y : Body). bodyAnswer y b l) e
 
-  pub body-told : n ≡ 0 → (w : List ℕ) → w ≡ fieldsOf m b → call 0 w ≡ bodyAnswer v b l
+  -- told by the type t that the body starts with
+  pub body-told : v ≡ readBody b → n ≡ 0 → (t : ℕ) → t ≡ getD b 0 0 → (w : List ℕ) → w ≡ typed t m b → call 0 w ≡ bodyAnswer v b l
   unfolding bodyAnswer pick
-  body-told z w g =
+  body-told r z t h w g =
       let o : numberOf m ≡ 0 = sym f ∙ z in
+      let k : t ≡ typeOf (kindIn m) = h ∙ sym (type-told m b (subst (λ (y : Body). Sound y b) (sym (e ∙ r)) (read-sound b)) o) in
       let a : bodyAnswer m b l ≡ call (numberOf m) (fieldsOf m b) = rw (eq-eqb (numberOf m) 0 o) in
-      ap (call 0) g ∙ ap (λ (y : ℕ). call y (fieldsOf m b)) (sym o) ∙ sym a ∙ ap (λ (y : Body). bodyAnswer y b l) e
+      ap (call 0) (g ∙ ap (λ (y : ℕ). typed y m b) k) ∙ ap (λ (y : ℕ). call y (fieldsOf m b)) (sym o) ∙ sym a ∙ ap (λ (y : Body). bodyAnswer y b l) e

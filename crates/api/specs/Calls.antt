@@ -11,7 +11,7 @@ use Rattle.receiver.specs.declared.State.{State}
 use Rattle.receiver.specs.declared.Account.{Account}
 use Rattle.receiver.specs.declared.Received.{Received}
 use Rattle.receiver.specs.declared.Started.{Started}
-use Rattle.receiver.specs.Lent.{Begun, Outcome, startNumber, numberOf}
+use Rattle.receiver.specs.Lent.{stateNumbers, Begun, Outcome, startNumber, numberOf}
 use Rattle.views.specs.declared.Side.{Side}
 use Rattle.views.specs.declared.LadderAnswer.{LadderAnswer}
 use Rattle.views.specs.declared.SpreadAnswer.{SpreadAnswer}
@@ -25,12 +25,9 @@ use Rattle.packet.specs.declared.Record.{Record}
 use Rattle.packet.specs.Packet.{packetNumber}
 use Rattle.packet.specs.Record.{recordNumber}
 
--- a receiver's state as three numbers: next, second, stop. Of what is lent, the second is the low 32 bits and the stop the low 8
-abbrev pub stateOf : List ℕ → State
-stateOf l = record { next = getD l 0 0; second = getD l 1 0 % 4294967296; stop = getD l 2 0 % 256 }
-
-abbrev pub stateNumbers : State → List ℕ
-stateNumbers s = s .next ∷ s .second ∷ s .stop ∷ []
+-- a receiver's state in three lent numbers (`stateNumbers` of receiver): the second is the low 32 bits of its number, the stop the low 8
+abbrev pub stateIn : List ℕ → State
+stateIn l = record { next = getD l 0 0; second = getD l 1 0 % 4294967296; stop = getD l 2 0 % 256 }
 
 -- a packet's answer as nine numbers: records taken, old, too far, repeated, differing; next, applied, highest, stop
 abbrev pub accountNumbers : Account → List ℕ
@@ -86,9 +83,9 @@ receiveAnswer u l a =
     (u .after .orders) (u .after .symbols) (u .after .shelf)
 
 -- ---- views
-abbrev pub sideOf : Bool → Side
-sideOf true = Side.Sell
-sideOf false = Side.Buy
+abbrev pub sideAsked : Bool → Side
+sideAsked true = Side.Sell
+sideAsked false = Side.Buy
 
 -- a number, what is lent to tell how much there is, and the run or text that is filled
 pub record FillCall : Type 0 where
@@ -100,13 +97,12 @@ abbrev pub fillCall : ℕ → List ℕ → List ℕ → FillCall
 fillCall n l o = record { number = n; told = l; filled = o }
 
 -- the number of all levels
-
-abbrev pub levelsShown : LadderAnswer → List ℕ → List ℕ
-levelsShown (LadderAnswer.Levels n) l = n ∷ []
-levelsShown (LadderAnswer.Refused r) l = l
+abbrev pub levelsTold : LadderAnswer → List ℕ → List ℕ
+levelsTold (LadderAnswer.Levels n) l = n ∷ []
+levelsTold (LadderAnswer.Refused r) l = l
 
 unfoldable pub ladderAnswer : Shown → List ℕ → FillCall
-ladderAnswer v l = fillCall (ladderNumber (v .answer)) (levelsShown (v .answer) l) (v .run)
+ladderAnswer v l = fillCall (ladderNumber (v .answer)) (levelsTold (v .answer) l) (v .run)
 
 -- a number, and the one thing lent for writing
 pub record Call : Type 0 where

@@ -1,8 +1,11 @@
--- A message as eight numbers: its type, its numbers in the order of their places (docs/MESSAGES.md), then zeros.
+-- A message as eight numbers: its type, its numbers in the order of their places (docs/MESSAGES.md), then zeros. The types are those of the one
+-- table ("The types and lengths of all eleven messages stand in one table").
 use Prim.Native.Nat.{ℕ}
 use mathlib.Core.List.{List, [], _∷_}
 use lib.Dec.{eqb}
 use Rattle.facts.specs.Pick.{pick}
+use Rattle.kinds.specs.declared.Kind.{Kind}
+use Rattle.kinds.specs.Table.{typeOf}
 use Rattle.fields.specs.Fields.{symbolOf, stateOf, numberOf}
 use Rattle.fields.specs.declared.TradingStatus.{TradingStatus}
 use Rattle.fields.specs.declared.SymbolClear.{SymbolClear}
@@ -17,63 +20,83 @@ use Rattle.fields.specs.declared.SystemState.{SystemState}
 use Rattle.fields.specs.declared.Body.{Body}
 use Rattle.api.specs.Calls.{Call, call}
 
+-- the first of the eight is the type, t in what follows
 abbrev pub eight : ℕ → ℕ → ℕ → ℕ → ℕ → ℕ → ℕ → ℕ → List ℕ
 eight a b c d e f g h = a ∷ b ∷ c ∷ d ∷ e ∷ f ∷ g ∷ h ∷ []
 
 -- Symbol Update: symbol, lot, market
-abbrev pub symbolFields : Symbol → List ℕ
-symbolFields m = eight 1 (m .id) (m .lot) (m .market) 0 0 0 0
+abbrev pub symbolFields : ℕ → Symbol → List ℕ
+symbolFields t m = eight t (m .id) (m .lot) (m .market) 0 0 0 0
 
 -- System State: nanoseconds, session, status
-abbrev pub stateFields : SystemState → List ℕ
-stateFields m = eight 83 (m .nanos) (m .session) (m .status) 0 0 0 0
+abbrev pub stateFields : ℕ → SystemState → List ℕ
+stateFields t m = eight t (m .nanos) (m .session) (m .status) 0 0 0 0
 
 -- Security Trading Status: nanoseconds, symbol, trading status, market, short sale restriction
-abbrev pub statusFields : TradingStatus → List ℕ
-statusFields m = eight 4 (m .nanos) (m .symbol) (m .trading) (m .market) (m .short) 0 0
+abbrev pub statusFields : ℕ → TradingStatus → List ℕ
+statusFields t m = eight t (m .nanos) (m .symbol) (m .trading) (m .market) (m .short) 0 0
 
 -- Symbol Clear: nanoseconds, symbol
-abbrev pub clearFields : SymbolClear → List ℕ
-clearFields m = eight 5 (m .nanos) (m .symbol) 0 0 0 0 0
+abbrev pub clearFields : ℕ → SymbolClear → List ℕ
+clearFields t m = eight t (m .nanos) (m .symbol) 0 0 0 0 0
 
 -- Add Order: nanoseconds, symbol, order, side, price, size, attributable ID
-abbrev pub addFields : AddOrder → List ℕ
-addFields m = eight 20 (m .nanos) (m .symbol) (m .order) (m .side) (m .price) (m .size) (m .attributable)
+abbrev pub addFields : ℕ → AddOrder → List ℕ
+addFields t m = eight t (m .nanos) (m .symbol) (m .order) (m .side) (m .price) (m .size) (m .attributable)
 
 -- Modify Order: nanoseconds, symbol, order, price, size, flags
-abbrev pub modifyFields : ModifyOrder → List ℕ
-modifyFields m = eight 21 (m .nanos) (m .symbol) (m .order) (m .price) (m .size) (m .flags) 0
+abbrev pub modifyFields : ℕ → ModifyOrder → List ℕ
+modifyFields t m = eight t (m .nanos) (m .symbol) (m .order) (m .price) (m .size) (m .flags) 0
 
 -- Delete Order: nanoseconds, symbol, order
-abbrev pub deleteFields : DeleteOrder → List ℕ
-deleteFields m = eight 23 (m .nanos) (m .symbol) (m .order) 0 0 0 0
+abbrev pub deleteFields : ℕ → DeleteOrder → List ℕ
+deleteFields t m = eight t (m .nanos) (m .symbol) (m .order) 0 0 0 0
 
 -- Order Execution: nanoseconds, symbol, order, trade, price, size, flags
-abbrev pub executionFields : OrderExecution → List ℕ
-executionFields m = eight 24 (m .nanos) (m .symbol) (m .order) (m .trade) (m .price) (m .size) (m .flags)
+abbrev pub executionFields : ℕ → OrderExecution → List ℕ
+executionFields t m = eight t (m .nanos) (m .symbol) (m .order) (m .trade) (m .price) (m .size) (m .flags)
 
 -- Trade: nanoseconds, symbol, trade, correction, price, size, flags
-abbrev pub tradeFields : Trade → List ℕ
-tradeFields m = eight 10 (m .nanos) (m .symbol) (m .trade) (m .correction) (m .price) (m .size) (m .flags)
+abbrev pub tradeFields : ℕ → Trade → List ℕ
+tradeFields t m = eight t (m .nanos) (m .symbol) (m .trade) (m .correction) (m .price) (m .size) (m .flags)
 
 -- Trade Cancel: nanoseconds, symbol, trade, correction, price, size
-abbrev pub cancelFields : TradeCancel → List ℕ
-cancelFields m = eight 11 (m .nanos) (m .symbol) (m .trade) (m .correction) (m .price) (m .size) 0
+abbrev pub cancelFields : ℕ → TradeCancel → List ℕ
+cancelFields t m = eight t (m .nanos) (m .symbol) (m .trade) (m .correction) (m .price) (m .size) 0
 
--- the numbers of a message, and of the body that holds those of a Symbol Update and of a System State; System Time is its second
+-- the numbers of a message behind its type, and of the body that holds those of a Symbol Update and of a System State; System Time is its second
+abbrev pub typed : ℕ → Body → List ℕ → List ℕ
+typed t (Body.SystemTime n) b = eight t n 0 0 0 0 0 0
+typed t Body.SymbolUpdate b = symbolFields t (symbolOf b)
+typed t Body.SystemState b = stateFields t (stateOf b)
+typed t (Body.TradingStatus m) b = statusFields t m
+typed t (Body.SymbolClear m) b = clearFields t m
+typed t (Body.Add m) b = addFields t m
+typed t (Body.Modify m) b = modifyFields t m
+typed t (Body.Delete m) b = deleteFields t m
+typed t (Body.Execution m) b = executionFields t m
+typed t (Body.Trade m) b = tradeFields t m
+typed t (Body.TradeCancel m) b = cancelFields t m
+typed t (Body.Refused r) b = eight t 0 0 0 0 0 0 0
+
+-- the kind of a message
+abbrev pub kindIn : Body → Kind
+kindIn (Body.SystemTime n) = Kind.SystemTime
+kindIn Body.SymbolUpdate = Kind.SymbolUpdate
+kindIn Body.SystemState = Kind.SystemState
+kindIn (Body.TradingStatus m) = Kind.TradingStatus
+kindIn (Body.SymbolClear m) = Kind.SymbolClear
+kindIn (Body.Add m) = Kind.Add
+kindIn (Body.Modify m) = Kind.Modify
+kindIn (Body.Delete m) = Kind.Delete
+kindIn (Body.Execution m) = Kind.Execution
+kindIn (Body.Trade m) = Kind.Trade
+kindIn (Body.TradeCancel m) = Kind.TradeCancel
+kindIn (Body.Refused r) = Kind.Unknown
+
+-- "The type byte decides the message": its type is its kind's in the table
 abbrev pub fieldsOf : Body → List ℕ → List ℕ
-fieldsOf (Body.SystemTime n) b = eight 49 n 0 0 0 0 0 0
-fieldsOf Body.SymbolUpdate b = symbolFields (symbolOf b)
-fieldsOf Body.SystemState b = stateFields (stateOf b)
-fieldsOf (Body.TradingStatus m) b = statusFields m
-fieldsOf (Body.SymbolClear m) b = clearFields m
-fieldsOf (Body.Add m) b = addFields m
-fieldsOf (Body.Modify m) b = modifyFields m
-fieldsOf (Body.Delete m) b = deleteFields m
-fieldsOf (Body.Execution m) b = executionFields m
-fieldsOf (Body.Trade m) b = tradeFields m
-fieldsOf (Body.TradeCancel m) b = cancelFields m
-fieldsOf (Body.Refused r) b = eight 0 0 0 0 0 0 0 0
+fieldsOf m b = typed (typeOf (kindIn m)) m b
 
 -- the numbers of a message that is not refused; a refusal leaves what is lent as it is
 unfoldable pub bodyAnswer : Body → List ℕ → List ℕ → Call

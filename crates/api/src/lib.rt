@@ -7,8 +7,8 @@ ghost use Rattle.packet.specs.Record.{readRecord};
 ghost use Rattle.packet.specs.Packet.{readPacket};
 ghost use Rattle.body.specs.Read.{readBody};
 ghost use Rattle.answer_sheet.specs.Sheet.{sheetView};
-ghost use Rattle.api.specs.Calls.{stateOf, accountNumbers, sideOf, startCall, startAnswer, receiveCall, receiveAnswer, fillCall, ladderAnswer, call, bitsOf, spreadAnswer, countsAnswer, packetAnswer, recordAnswer, wordOf, sheetAnswer};
-ghost use Rattle.api.specs.Messages.{symbolFields, stateFields, statusFields, clearFields, addFields, modifyFields, deleteFields, executionFields, tradeFields, cancelFields, fieldsOf, bodyAnswer};
+ghost use Rattle.api.specs.Calls.{stateIn, accountNumbers, sideAsked, startCall, startAnswer, receiveCall, receiveAnswer, fillCall, ladderAnswer, call, bitsOf, spreadAnswer, countsAnswer, packetAnswer, recordAnswer, wordOf, sheetAnswer};
+ghost use Rattle.api.specs.Messages.{symbolFields, stateFields, statusFields, clearFields, addFields, modifyFields, deleteFields, executionFields, tradeFields, cancelFields, typed, bodyAnswer};
 use answer_sheet::Recording;
 use answer_sheet::SheetAnswer;
 use fields::AddOrder;
@@ -53,8 +53,8 @@ pub extern "C" fn rimeheath_start(
 }
 
 // A receiver's state of three lent numbers.
-fn state_of(l: &[u64; 3]) -> State
-    ensures { λ r. ⌜ r ≡ stateOf (now (l .entry)) ⌝ }
+fn state_in(l: &[u64; 3]) -> State
+    ensures { λ r. ⌜ r ≡ stateIn (now (l .entry)) ⌝ }
 {
     State {
         next: l[0],
@@ -91,9 +91,9 @@ pub extern "C" fn rimeheath_receive(
     p: &[u8],
     account: &mut [u64; 9],
 ) -> u8
-    ensures { λ r. ⌜ receiveCall r (now (state .exit)) (now (account .exit)) (now (orders .exit)) (now (symbols .exit)) (now (shelf .exit)) ≡ receiveAnswer (received (lent (now (orders .entry)) (now (symbols .entry)) (now (shelf .entry)) (stateOf (now (state .entry)))) (now (p .entry))) (now (state .entry)) (now (account .entry)) ⌝ }
+    ensures { λ r. ⌜ receiveCall r (now (state .exit)) (now (account .exit)) (now (orders .exit)) (now (symbols .exit)) (now (shelf .exit)) ≡ receiveAnswer (received (lent (now (orders .entry)) (now (symbols .entry)) (now (shelf .entry)) (stateIn (now (state .entry)))) (now (p .entry))) (now (state .entry)) (now (account .entry)) ⌝ }
 {
-    let r = receiver::receive(orders, symbols, shelf, state_of(state), p);
+    let r = receiver::receive(orders, symbols, shelf, state_in(state), p);
     let s = r.state;
     let answer = r.answer;
     match answer {
@@ -106,8 +106,8 @@ pub extern "C" fn rimeheath_receive(
     }
 }
 
-fn side_of(sell: bool) -> Side
-    ensures { λ r. ⌜ r ≡ sideOf sell ⌝ }
+fn side_asked(sell: bool) -> Side
+    ensures { λ r. ⌜ r ≡ sideAsked sell ⌝ }
 {
     if sell { Side::Sell } else { Side::Buy }
 }
@@ -122,9 +122,9 @@ pub extern "C" fn rimeheath_ladder(
     run: &mut [u64],
     levels: &mut [u64; 1],
 ) -> u8
-    ensures { λ r. ⌜ fillCall r (now (levels .exit)) (now (run .exit)) ≡ ladderAnswer (ladderView (sideOf sell) symbol (now (orders .entry)) (now (symbols .entry)) (now (run .entry))) (now (levels .entry)) ⌝ }
+    ensures { λ r. ⌜ fillCall r (now (levels .exit)) (now (run .exit)) ≡ ladderAnswer (ladderView (sideAsked sell) symbol (now (orders .entry)) (now (symbols .entry)) (now (run .entry))) (now (levels .entry)) ⌝ }
 {
-    match views::ladder(orders, symbols, symbol, side_of(sell), run) {
+    match views::ladder(orders, symbols, symbol, side_asked(sell), run) {
         LadderAnswer::Refused(r) => r.number,
         LadderAnswer::Levels(n) => {
             *levels = [n as u64];
@@ -137,11 +137,11 @@ pub extern "C" fn rimeheath_ladder(
 fn bits_of(n: i64) -> u64
     ensures { λ r. ⌜ r ≡ bitsOf n ⌝ }
 {
+    let m = text::magnitude(n);
     if n < 0 {
-        let m = -(n + 1);
-        return 18446744073709551615 - (m as u64);
+        return 18446744073709551615 - (m - 1);
     }
-    n as u64
+    m
 }
 
 // The spread of a symbol: 1 and the signed number as 64 bits, or two zeros where a side is empty.
@@ -209,18 +209,18 @@ pub extern "C" fn rimeheath_record(rest: &[u8], head: &mut [u64; 2]) -> u8
     }
 }
 
-// The numbers of each message, in the order of their places: its type first, zeros behind them.
-fn symbol_fields(s: Symbol) -> [u64; 8]
-    ensures { λ r. ⌜ r ≡ symbolFields s ⌝ }
+// The numbers of each message, in the order of their places: its type t first, zeros behind them.
+fn symbol_fields(t: u64, s: Symbol) -> [u64; 8]
+    ensures { λ r. ⌜ r ≡ symbolFields t s ⌝ }
 {
-    [1, s.id as u64, s.lot as u64, s.market as u64, 0, 0, 0, 0]
+    [t, s.id as u64, s.lot as u64, s.market as u64, 0, 0, 0, 0]
 }
 
-fn state_fields(s: SystemState) -> [u64; 8]
-    ensures { λ r. ⌜ r ≡ stateFields s ⌝ }
+fn state_fields(t: u64, s: SystemState) -> [u64; 8]
+    ensures { λ r. ⌜ r ≡ stateFields t s ⌝ }
 {
     [
-        83,
+        t,
         s.nanos as u64,
         s.session as u64,
         s.status as u64,
@@ -231,11 +231,11 @@ fn state_fields(s: SystemState) -> [u64; 8]
     ]
 }
 
-fn status_fields(s: TradingStatus) -> [u64; 8]
-    ensures { λ r. ⌜ r ≡ statusFields s ⌝ }
+fn status_fields(t: u64, s: TradingStatus) -> [u64; 8]
+    ensures { λ r. ⌜ r ≡ statusFields t s ⌝ }
 {
     [
-        4,
+        t,
         s.nanos as u64,
         s.symbol as u64,
         s.trading as u64,
@@ -246,17 +246,17 @@ fn status_fields(s: TradingStatus) -> [u64; 8]
     ]
 }
 
-fn clear_fields(s: SymbolClear) -> [u64; 8]
-    ensures { λ r. ⌜ r ≡ clearFields s ⌝ }
+fn clear_fields(t: u64, s: SymbolClear) -> [u64; 8]
+    ensures { λ r. ⌜ r ≡ clearFields t s ⌝ }
 {
-    [5, s.nanos as u64, s.symbol as u64, 0, 0, 0, 0, 0]
+    [t, s.nanos as u64, s.symbol as u64, 0, 0, 0, 0, 0]
 }
 
-fn add_fields(s: AddOrder) -> [u64; 8]
-    ensures { λ r. ⌜ r ≡ addFields s ⌝ }
+fn add_fields(t: u64, s: AddOrder) -> [u64; 8]
+    ensures { λ r. ⌜ r ≡ addFields t s ⌝ }
 {
     [
-        20,
+        t,
         s.nanos as u64,
         s.symbol as u64,
         s.order,
@@ -267,11 +267,11 @@ fn add_fields(s: AddOrder) -> [u64; 8]
     ]
 }
 
-fn modify_fields(s: ModifyOrder) -> [u64; 8]
-    ensures { λ r. ⌜ r ≡ modifyFields s ⌝ }
+fn modify_fields(t: u64, s: ModifyOrder) -> [u64; 8]
+    ensures { λ r. ⌜ r ≡ modifyFields t s ⌝ }
 {
     [
-        21,
+        t,
         s.nanos as u64,
         s.symbol as u64,
         s.order,
@@ -282,17 +282,17 @@ fn modify_fields(s: ModifyOrder) -> [u64; 8]
     ]
 }
 
-fn delete_fields(s: DeleteOrder) -> [u64; 8]
-    ensures { λ r. ⌜ r ≡ deleteFields s ⌝ }
+fn delete_fields(t: u64, s: DeleteOrder) -> [u64; 8]
+    ensures { λ r. ⌜ r ≡ deleteFields t s ⌝ }
 {
-    [23, s.nanos as u64, s.symbol as u64, s.order, 0, 0, 0, 0]
+    [t, s.nanos as u64, s.symbol as u64, s.order, 0, 0, 0, 0]
 }
 
-fn execution_fields(s: OrderExecution) -> [u64; 8]
-    ensures { λ r. ⌜ r ≡ executionFields s ⌝ }
+fn execution_fields(t: u64, s: OrderExecution) -> [u64; 8]
+    ensures { λ r. ⌜ r ≡ executionFields t s ⌝ }
 {
     [
-        24,
+        t,
         s.nanos as u64,
         s.symbol as u64,
         s.order,
@@ -303,11 +303,11 @@ fn execution_fields(s: OrderExecution) -> [u64; 8]
     ]
 }
 
-fn trade_fields(s: Trade) -> [u64; 8]
-    ensures { λ r. ⌜ r ≡ tradeFields s ⌝ }
+fn trade_fields(t: u64, s: Trade) -> [u64; 8]
+    ensures { λ r. ⌜ r ≡ tradeFields t s ⌝ }
 {
     [
-        10,
+        t,
         s.nanos as u64,
         s.symbol as u64,
         s.trade,
@@ -318,11 +318,11 @@ fn trade_fields(s: Trade) -> [u64; 8]
     ]
 }
 
-fn cancel_fields(s: TradeCancel) -> [u64; 8]
-    ensures { λ r. ⌜ r ≡ cancelFields s ⌝ }
+fn cancel_fields(t: u64, s: TradeCancel) -> [u64; 8]
+    ensures { λ r. ⌜ r ≡ cancelFields t s ⌝ }
 {
     [
-        11,
+        t,
         s.nanos as u64,
         s.symbol as u64,
         s.trade,
@@ -334,26 +334,26 @@ fn cancel_fields(s: TradeCancel) -> [u64; 8]
 }
 
 // A Symbol Update and a System State hold arrays, so their numbers are read from the body.
-fn fields_of(m: Body, b: &[u8]) -> [u64; 8]
-    ensures { λ r. ⌜ r ≡ fieldsOf m (now (b .entry)) ⌝ }
+fn fields_of(t: u64, m: Body, b: &[u8]) -> [u64; 8]
+    ensures { λ r. ⌜ r ≡ typed t m (now (b .entry)) ⌝ }
 {
     match m {
-        Body::SystemTime(n) => [49, n as u64, 0, 0, 0, 0, 0, 0],
-        Body::SymbolUpdate => symbol_fields(fields::symbol_of(b)),
-        Body::SystemState => state_fields(fields::state_of(b)),
-        Body::TradingStatus(s) => status_fields(s),
-        Body::SymbolClear(s) => clear_fields(s),
-        Body::Add(s) => add_fields(s),
-        Body::Modify(s) => modify_fields(s),
-        Body::Delete(s) => delete_fields(s),
-        Body::Execution(s) => execution_fields(s),
-        Body::Trade(s) => trade_fields(s),
-        Body::TradeCancel(s) => cancel_fields(s),
-        Body::Refused(_) => [0, 0, 0, 0, 0, 0, 0, 0],
+        Body::SystemTime(n) => [t, n as u64, 0, 0, 0, 0, 0, 0],
+        Body::SymbolUpdate => symbol_fields(t, fields::symbol_of(b)),
+        Body::SystemState => state_fields(t, fields::state_of(b)),
+        Body::TradingStatus(s) => status_fields(t, s),
+        Body::SymbolClear(s) => clear_fields(t, s),
+        Body::Add(s) => add_fields(t, s),
+        Body::Modify(s) => modify_fields(t, s),
+        Body::Delete(s) => delete_fields(t, s),
+        Body::Execution(s) => execution_fields(t, s),
+        Body::Trade(s) => trade_fields(t, s),
+        Body::TradeCancel(s) => cancel_fields(t, s),
+        Body::Refused(_) => [t, 0, 0, 0, 0, 0, 0, 0],
     }
 }
 
-// Judges a body and reads its numbers.
+// Judges a body and reads its numbers. A good body starts with its type.
 #[no_mangle]
 pub extern "C" fn rimeheath_body(b: &[u8], numbers: &mut [u64; 8]) -> u8
     ensures { λ r. ⌜ call r (now (numbers .exit)) ≡ bodyAnswer (readBody (now (b .entry))) (now (b .entry)) (now (numbers .entry)) ⌝ }
@@ -363,7 +363,7 @@ pub extern "C" fn rimeheath_body(b: &[u8], numbers: &mut [u64; 8]) -> u8
     if n != 0 {
         return n;
     }
-    *numbers = fields_of(m, b);
+    *numbers = fields_of(wire::u8_at(b, 0) as u64, m, b);
     0
 }
 
@@ -388,9 +388,9 @@ pub extern "C" fn rimeheath_sheet(
     cut: bool,
     written: &mut [u64; 1],
 ) -> u8
-    ensures { λ r. ⌜ fillCall r (now (written .exit)) (now (buf .exit)) ≡ sheetAnswer (sheetView (wordOf cut) bad (stateOf (now (state .entry))) (now (orders .entry)) (now (symbols .entry)) (now (buf .entry))) (now (written .entry)) ⌝ }
+    ensures { λ r. ⌜ fillCall r (now (written .exit)) (now (buf .exit)) ≡ sheetAnswer (sheetView (wordOf cut) bad (stateIn (now (state .entry))) (now (orders .entry)) (now (symbols .entry)) (now (buf .entry))) (now (written .entry)) ⌝ }
 {
-    let s = state_of(state);
+    let s = state_in(state);
     match answer_sheet::sheet(buf, orders, symbols, s, bad, word_of(cut)) {
         SheetAnswer::Refused(r) => r.number,
         SheetAnswer::Written(n) => {

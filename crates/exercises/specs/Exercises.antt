@@ -17,10 +17,9 @@ use Rattle.views.specs.declared.SpreadAnswer.{SpreadAnswer}
 use Rattle.views.specs.Views.{spreadView}
 use Rattle.arbitration.specs.Slots.{sameBytes}
 use Rattle.shelf.specs.Shelf.{shelfSize}
-use Rattle.receiver.specs.declared.State.{State}
 use Rattle.receiver.specs.declared.Account.{Account}
 use Rattle.receiver.specs.declared.Received.{Received}
-use Rattle.receiver.specs.Lent.{Lent, Outcome, outcome, fresh, received, numberOf}
+use Rattle.receiver.specs.Lent.{stateNumbers, Lent, Outcome, outcome, fresh, received, numberOf}
 
 -- ---- the words of an exercise
 -- what can be asked after a packet
@@ -96,9 +95,6 @@ goesOn w p = now (w .last .after) (received (w .last .after) p)
 unfoldable pub ofAccount : (Account → ℕ) → Received → Told
 ofAccount f (Received.Accepted a) = number (f a)
 ofAccount f (Received.Refused r) = refusal-by (r .number)
-
-abbrev pub stateNumbers : State → List ℕ
-stateNumbers s = s .next ∷ s .second ∷ s .stop ∷ []
 
 unfoldable pub differ : List ℕ → List ℕ → ℕ
 differ s t = pick (sameBytes s t) 0 1

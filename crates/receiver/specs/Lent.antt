@@ -1,7 +1,7 @@
 -- A receiver with its lent tables, what a start makes of them, and what a packet does (document 01, "Lent tables and the shelf", "Refused, and what is left").
 use Prim.Native.Nat.{ℕ}
 use mathlib.Core.Bool.{Bool}
-use mathlib.Core.List.{List}
+use mathlib.Core.List.{List, [], _∷_}
 use mathlib.Core.Path.{_≡_}
 use lib.ListN.{length, replicate}
 use lib.Dec.{leb}
@@ -68,6 +68,10 @@ sizesOk o s h = both (goodRows o) (both (goodEntries s) (goodShelf h))
 -- "or a next number outside 1 to 10^12 + 1": 6
 unfoldable pub nextOk : ℕ → Bool
 nextOk n = both (leb 1 n) (leb n 1000000000001)
+
+-- a receiver's state as three numbers
+abbrev pub stateNumbers : State → List ℕ
+stateNumbers s = s .next ∷ s .second ∷ s .stop ∷ []
 
 -- a receiver and what it is lent
 pub record Lent : Type 0 where

@@ -1,14 +1,13 @@
 -- One text behind another is one text, since a store past the end of a buffer changes nothing: an append needs no room, and what it leaves is decided all the same.
 -- Assumes nothing.
-use Prim.Native.Nat.{ℕ, zero, suc, _+_, _-_, _*_, _≤_, _<_, min}
+use Prim.Native.Nat.{ℕ, suc, _+_, _-_, _≤_, _<_, min}
 use mathlib.Core.Path.{_≡_, refl, sym, ap, _∙_}
 use mathlib.Core.List.{List, [], _∷_, _++_, map, append-assoc}
 use native.Mathlib.Decide.{decLe}
-use native.Mathlib.Nat.{suc-mul}
 use native.Mathlib.Omega.{arith}
 use native.Mathlib.Numerals.{add-one}
 use lib.ListN.{length, getD, take, drop, set, length-set, length-append}
-use lib.Seq.{sets, length-sets, sets-eq, set-out, take-suc, take-all, take-at, drop-at, length-take-le}
+use lib.Seq.{sets, length-sets, sets-eq, set-out, take-suc, take-all, take-at, drop-at}
 use Rattle.facts.proofs.Picks.{no-second}
 use Rattle.text.specs.Text.{Wrote, each}
 
@@ -83,22 +82,10 @@ each-more f {i} p q = rw add-one (wrote-then p q)
 pub each-all : (f : ℕ → List ℕ) {i n : ℕ} {b b' : List ℕ} {at r : ℕ} → i ≤ n → n ≤ i → Wrote b at (each f i) b' r → Wrote b at (each f n) b' r
 each-all f {i} {n} h h' p = let e : i ≡ n = omega arith in rw e at p
 
--- where no text of each has more than m bytes, n of them have at most n * m
-pub each-length : (f : ℕ → List ℕ) (m n : ℕ) → ((i : ℕ) → i < n → length (f i) ≤ m) → length (each f n) ≤ n * m
-unfolding each
-each-length f m zero h = omega arith
-each-length f m (suc n) h = omega (arith, length-append (each f n) (f n), h n (omega arith), each-length f m n (λ i l. h i (omega arith)), suc-mul n m)
-
 -- ---- what an append says
 -- no second outcome fits
 pub wrote-unique : {b t c d : List ℕ} {at r s : ℕ} → Wrote b at t c r → Wrote b at t d s → (c ≡ d) × (r ≡ s)
 wrote-unique p q = (no-second (p .bytes) (q .bytes), no-second (p .end) (q .end))
-
--- it ends within the buffer: the two facts that `&buf[..r]` asks
-pub wrote-counts : {b b' t : List ℕ} {at r : ℕ} → Wrote b at t b' r → at ≤ length b → (r ≤ length b') × (r ≡ length (take r b'))
-wrote-counts {b} {b'} {t} {at} {r} p h =
-    let l : r ≤ length b' = omega (arith, p .end, wrote-kept p) in
-    (l, sym (length-take-le r b' l))
 
 -- where the text fits, the buffer is what lay before it, the text, and what lay behind it
 pub wrote-part : {b b' t : List ℕ} {at r : ℕ} → Wrote b at t b' r → at + length t ≤ length b → (r ≡ at + length t) × (b' ≡ take at b ++ (t ++ drop r b))
@@ -112,7 +99,3 @@ wrote-whole {b} {b'} {t} {r} p h =
     let w = wrote-part p (omega arith) in
     let n : length t ≡ r = omega (arith, w .0) in
     (sym n, ap (take r) (w .1) ∙ take-at t (drop r b) r n, ap (drop r) (w .1) ∙ drop-at t (drop r b) r n)
-
--- where the end lies before that of the buffer, the text fitted
-pub wrote-fits : {b b' t : List ℕ} {at r : ℕ} → Wrote b at t b' r → r < length b → at + length t ≤ length b
-wrote-fits p h = omega (arith, p .end)

@@ -84,14 +84,6 @@ unfolding signedOf
 signed-length k (pos n) h = omega (arith, decimal-length k n h)
 signed-length k (negsuc n) h = omega (arith, length-append (45 ∷ []) (decimalOf (suc n)), decimal-length k (suc n) h)
 
-abs-fits : (z : ℤ) → SFits w64 z → natAbs z ≤ 2 ^ 63
-abs-fits (pos n) s = omega (arith, s .sfits)
-abs-fits (negsuc n) s = omega (arith, s .sfits)
-
--- a number of 64 bits, the least one too
-pub signed-le : (z : ℤ) → SFits w64 z → length (signedOf z) ≤ 20
-signed-le z s = signed-length 18 z (omega (arith, abs-fits z s))
-
 -- a spread: the difference of two prices, which are at most 10^15
 pub spread-le : (z : ℤ) → natAbs z ≤ 1000000000000000 → length (signedOf z) ≤ 17
 spread-le z h = signed-length 15 z (omega arith)

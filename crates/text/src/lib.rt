@@ -62,7 +62,7 @@ pub fn decimal(buf: &mut [u8], at: usize, n: u64) -> usize
 }
 
 // How far a number is from 0, the least one too.
-fn magnitude(n: i64) -> u64
+pub fn magnitude(n: i64) -> u64
     ensures { λ r. ⌜ r ≡ natAbs n ⌝ }
 {
     if n < 0 {

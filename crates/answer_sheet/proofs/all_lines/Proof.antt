@@ -2,7 +2,7 @@
 -- Assumes nothing.
 use Rattle.text.proofs.Laws.{wrote-as, wrote-then}
 use Rattle.answer_sheet.specs.Sheet.{sheetOf}
-use Rattle.answer_sheet.proofs.Exits.{counted-good, counted-totals}
+use Rattle.answer_sheet.proofs.Exits.{counted-good, counted-lines}
 use borrow.Author.Needs.{needs}
 use Rattle.answer_sheet.proofs.all_lines.Statement.{statement}
 use Rattle.answer_sheet.proofs.all_lines.Tie as tie
@@ -10,8 +10,8 @@ use Rattle.answer_sheet.proofs.all_lines.Tie as tie
 head-requires : tie.Need-head-requires
 head-requires c κs = search needs
 
-totals-requires : tie.Need-totals-requires
-totals-requires c κs = search needs
+table-lines-requires : tie.Need-table-lines-requires
+table-lines-requires c κs = search needs
 
 blocks-requires : tie.Need-blocks-requires
 blocks-requires c κs = let a = c .before .before .before .before .before .before .before .before .before .before .before .before .args in counted-good (a .orders .now) (a .symbols .now) (a .sizes) (c .before .before .before .before .before .before .before .before .before .before .before .before .pre)
@@ -26,9 +26,9 @@ returns c =
     let first = summed .before .before .before .before in
     let start = first .before .before .before .before .before in
     let a = start .args in
-    let e = counted-totals (a .orders .now) (a .symbols .now) _ (a .sizes) (start .pre) in
-    wrote-then (first .head .ensures) (wrote-then (wrote-as e (summed .totals .ensures)) (c .before .before .blocks2 .ensures))
+    let e = counted-lines (a .orders .now) (a .symbols .now) _ (a .sizes) (start .pre) in
+    wrote-then (first .head .ensures) (wrote-then (wrote-as e (summed .table-lines .ensures)) (c .before .before .blocks2 .ensures))
 
 pub all-lines-spec : {M : Type 1} → statement M
 all-lines-spec =
-    tie.close (tie.spec head-requires totals-requires blocks-requires same-length returns)
+    tie.close (tie.spec head-requires table-lines-requires blocks-requires same-length returns)

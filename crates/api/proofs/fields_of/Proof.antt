@@ -10,8 +10,8 @@ use Rattle.api.proofs.fields_of.Tie as tie
 enum-known-m : tie.Need-enum-known-m
 enum-known-m c = search needs
 
-cast-t13 : tie.Need-cast-t13
-cast-t13 c = search needs
+cast-t14 : tie.Need-cast-t14
+cast-t14 c = search needs
 
 enum-told : tie.Need-enum-told
 enum-told c = search needs
@@ -83,47 +83,47 @@ enum-told-3 : tie.Need-enum-told-3
 enum-told-3 c = search needs
 
 returns : tie.Need-returns
-returns c = case-fields _ _ (c .before .m .given .1) _ _ refl
+returns c = case-fields _ _ _ (c .before .m .given .1) _ _ refl
 
 returns-2 : tie.Need-returns-2
-returns-2 c = case-fields _ _ (c .before .before .enum-told .given .1) _ _ (c .symbol-fields .ensures ∙ ap symbolFields (c .before .symbol-of .ensures))
+returns-2 c = case-fields _ _ _ (c .before .before .enum-told .given .1) _ _ (c .symbol-fields .ensures ∙ ap (symbolFields _) (c .before .symbol-of .ensures))
 
 returns-3 : tie.Need-returns-3
-returns-3 c = case-fields _ _ (c .before .before .enum-told2 .given .1) _ _ (c .state-fields .ensures ∙ ap stateFields (c .before .state-of .ensures))
+returns-3 c = case-fields _ _ _ (c .before .before .enum-told2 .given .1) _ _ (c .state-fields .ensures ∙ ap (stateFields _) (c .before .state-of .ensures))
 
 returns-4 : tie.Need-returns-4
-returns-4 c = case-fields _ _ (c .before .before .m2 .given .1) _ _ (c .status-fields .ensures)
+returns-4 c = case-fields _ _ _ (c .before .before .m2 .given .1) _ _ (c .status-fields .ensures)
 
 returns-5 : tie.Need-returns-5
-returns-5 c = case-fields _ _ (c .before .before .m3 .given .1) _ _ (c .clear-fields .ensures)
+returns-5 c = case-fields _ _ _ (c .before .before .m3 .given .1) _ _ (c .clear-fields .ensures)
 
 returns-6 : tie.Need-returns-6
-returns-6 c = case-fields _ _ (c .before .before .m4 .given .1) _ _ (c .add-fields .ensures)
+returns-6 c = case-fields _ _ _ (c .before .before .m4 .given .1) _ _ (c .add-fields .ensures)
 
 returns-7 : tie.Need-returns-7
-returns-7 c = case-fields _ _ (c .before .before .m5 .given .1) _ _ (c .modify-fields .ensures)
+returns-7 c = case-fields _ _ _ (c .before .before .m5 .given .1) _ _ (c .modify-fields .ensures)
 
 returns-8 : tie.Need-returns-8
-returns-8 c = case-fields _ _ (c .before .before .m6 .given .1) _ _ (c .delete-fields .ensures)
+returns-8 c = case-fields _ _ _ (c .before .before .m6 .given .1) _ _ (c .delete-fields .ensures)
 
 returns-9 : tie.Need-returns-9
-returns-9 c = case-fields _ _ (c .before .before .m7 .given .1) _ _ (c .execution-fields .ensures)
+returns-9 c = case-fields _ _ _ (c .before .before .m7 .given .1) _ _ (c .execution-fields .ensures)
 
 returns-10 : tie.Need-returns-10
-returns-10 c = case-fields _ _ (c .before .before .m8 .given .1) _ _ (c .trade-fields .ensures)
+returns-10 c = case-fields _ _ _ (c .before .before .m8 .given .1) _ _ (c .trade-fields .ensures)
 
 returns-11 : tie.Need-returns-11
-returns-11 c = case-fields _ _ (c .before .before .m9 .given .1) _ _ (c .cancel-fields .ensures)
+returns-11 c = case-fields _ _ _ (c .before .before .m9 .given .1) _ _ (c .cancel-fields .ensures)
 
 returns-12 : tie.Need-returns-12
-returns-12 c = search needs
+returns-12 c = case-fields _ _ _ (c .enum-told3 .given .1) _ _ refl
 
 pub fields-of-spec : {M : Type 1} → statement M
 fields-of-spec =
     tie.close
     (tie.spec
     enum-known-m
-    cast-t13
+    cast-t14
     enum-told
     symbol-of-requires
     symbol-fields-requires

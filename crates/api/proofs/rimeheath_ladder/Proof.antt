@@ -7,8 +7,8 @@ use borrow.Author.Needs.{needs}
 use Rattle.api.proofs.rimeheath_ladder.Statement.{statement}
 use Rattle.api.proofs.rimeheath_ladder.Tie as tie
 
-side-of-requires : tie.Need-side-of-requires
-side-of-requires c κs = search needs
+side-asked-requires : tie.Need-side-asked-requires
+side-asked-requires c κs = search needs
 
 ladder-requires : tie.Need-ladder-requires
 ladder-requires c κs = search needs
@@ -24,20 +24,20 @@ same-length c = search needs
 
 returns : tie.Need-returns
 unfolding ladderAnswer ladderNumber
-returns c = ladder-handed _ _ (c .before .r .given .1) _ _ (rw (c .before .before .before .before .before .before .before .side-of .ensures) at (c .before .before .before .before .before .ladder .ensures)) (c .before .before .before .before .before .before .before .before .before .before .before .args .levels .now)
+returns c = ladder-handed _ _ (c .before .r .given .1) _ _ (rw (c .before .before .before .before .before .before .before .side-asked .ensures) at (c .before .before .before .before .before .ladder .ensures)) (c .before .before .before .before .before .before .before .before .before .before .before .args .levels .now)
 
 same-length-2 : tie.Need-same-length-2
 same-length-2 c = search needs
 
 returns-2 : tie.Need-returns-2
 unfolding ladderAnswer ladderNumber
-returns-2 c = ladder-handed _ _ (c .before .before .n .given .1) _ _ (rw (c .before .before .before .before .before .before .before .before .side-of .ensures) at (c .before .before .before .before .before .before .ladder .ensures)) (c .before .before .before .before .before .before .before .before .before .before .before .before .args .levels .now)
+returns-2 c = ladder-handed _ _ (c .before .before .n .given .1) _ _ (rw (c .before .before .before .before .before .before .before .before .side-asked .ensures) at (c .before .before .before .before .before .before .ladder .ensures)) (c .before .before .before .before .before .before .before .before .before .before .before .before .args .levels .now)
 
 pub rimeheath-ladder-spec : {M : Type 1} → statement M
 rimeheath-ladder-spec =
     tie.close
     (tie.spec
-    side-of-requires
+    side-asked-requires
     ladder-requires
     enum-known-r
     enum-known-n

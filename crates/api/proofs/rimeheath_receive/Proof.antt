@@ -6,8 +6,8 @@ use borrow.Author.Needs.{needs}
 use Rattle.api.proofs.rimeheath_receive.Statement.{statement}
 use Rattle.api.proofs.rimeheath_receive.Tie as tie
 
-state-of-requires : tie.Need-state-of-requires
-state-of-requires c κs = search needs
+state-in-requires : tie.Need-state-in-requires
+state-in-requires c κs = search needs
 
 receive-requires : tie.Need-receive-requires
 receive-requires c κs = search needs
@@ -38,7 +38,7 @@ same-length-3 c = search needs
 
 returns : tie.Need-returns
 unfolding receiveAnswer
-returns c = receive-handed _ _ _ _ _ _ (rw (c .before .before .before .before .before .before .before .before .before .before .before .state-of .ensures) at (c .before .before .before .before .before .before .before .before .before .before .receive .ensures)) (c .before .before .before .before .before .before .before .before .before .before .before .before .before .before .before .before .before .before .before .before .args .state .now) (c .before .before .before .before .before .before .before .before .before .before .before .before .before .before .before .before .before .before .before .before .args .account .now) _ (c .before .answer .given .1)
+returns c = receive-handed _ _ _ _ _ _ (rw (c .before .before .before .before .before .before .before .before .before .before .before .state-in .ensures) at (c .before .before .before .before .before .before .before .before .before .before .receive .ensures)) (c .before .before .before .before .before .before .before .before .before .before .before .before .before .before .before .before .before .before .before .before .args .state .now) (c .before .before .before .before .before .before .before .before .before .before .before .before .before .before .before .before .before .before .before .before .args .account .now) _ (c .before .answer .given .1)
 
 same-length-4 : tie.Need-same-length-4
 same-length-4 c = search needs
@@ -50,13 +50,13 @@ same-length-6 : tie.Need-same-length-6
 same-length-6 c = search needs
 
 returns-2 : tie.Need-returns-2
-returns-2 c = receive-accepted _ _ _ _ _ _ (rw (c .before .before .before .before .before .before .before .before .before .before .before .before .before .before .before .state-of .ensures) at (c .before .before .before .before .before .before .before .before .before .before .before .before .before .before .receive .ensures)) _ _ _ (c .before .before .before .before .before .answer2 .given .1) _ (c .account-numbers .ensures)
+returns-2 c = receive-accepted _ _ _ _ _ _ (rw (c .before .before .before .before .before .before .before .before .before .before .before .before .before .before .before .state-in .ensures) at (c .before .before .before .before .before .before .before .before .before .before .before .before .before .before .receive .ensures)) _ _ _ (c .before .before .before .before .before .answer2 .given .1) _ (c .account-numbers .ensures)
 
 pub rimeheath-receive-spec : {M : Type 1} → statement M
 rimeheath-receive-spec =
     tie.close
     (tie.spec
-    state-of-requires
+    state-in-requires
     receive-requires
     enum-known-answer
     enum-known-answer-2

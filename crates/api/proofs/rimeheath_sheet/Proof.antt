@@ -7,8 +7,8 @@ use borrow.Author.Needs.{needs}
 use Rattle.api.proofs.rimeheath_sheet.Statement.{statement}
 use Rattle.api.proofs.rimeheath_sheet.Tie as tie
 
-state-of-requires : tie.Need-state-of-requires
-state-of-requires c κs = search needs
+state-in-requires : tie.Need-state-in-requires
+state-in-requires c κs = search needs
 
 word-of-requires : tie.Need-word-of-requires
 word-of-requires c κs = search needs
@@ -27,20 +27,20 @@ same-length c = search needs
 
 returns : tie.Need-returns
 unfolding sheetAnswer sheetNumber
-returns c = sheet-handed _ _ (c .before .r .given .1) _ _ (rw (c .before .before .before .before .before .before .before .before .state-of .ensures, c .before .before .before .before .before .before .word-of .ensures) at (c .before .before .before .before .before .sheet .ensures)) (c .before .before .before .before .before .before .before .before .before .before .before .before .args .written .now)
+returns c = sheet-handed _ _ (c .before .r .given .1) _ _ (rw (c .before .before .before .before .before .before .before .before .state-in .ensures, c .before .before .before .before .before .before .word-of .ensures) at (c .before .before .before .before .before .sheet .ensures)) (c .before .before .before .before .before .before .before .before .before .before .before .before .args .written .now)
 
 same-length-2 : tie.Need-same-length-2
 same-length-2 c = search needs
 
 returns-2 : tie.Need-returns-2
 unfolding sheetAnswer sheetNumber
-returns-2 c = sheet-handed _ _ (c .before .before .n .given .1) _ _ (rw (c .before .before .before .before .before .before .before .before .before .state-of .ensures, c .before .before .before .before .before .before .before .word-of .ensures) at (c .before .before .before .before .before .before .sheet .ensures)) (c .before .before .before .before .before .before .before .before .before .before .before .before .before .args .written .now)
+returns-2 c = sheet-handed _ _ (c .before .before .n .given .1) _ _ (rw (c .before .before .before .before .before .before .before .before .before .state-in .ensures, c .before .before .before .before .before .before .before .word-of .ensures) at (c .before .before .before .before .before .before .sheet .ensures)) (c .before .before .before .before .before .before .before .before .before .before .before .before .before .args .written .now)
 
 pub rimeheath-sheet-spec : {M : Type 1} → statement M
 rimeheath-sheet-spec =
     tie.close
     (tie.spec
-    state-of-requires
+    state-in-requires
     word-of-requires
     sheet-requires
     enum-known-r

@@ -1,11 +1,11 @@
 -- Three appends, each where the one before ended.
 -- Assumes nothing.
 use Rattle.answer_sheet.specs.Keys.{secondKey, symbolsKey, ordersKey}
-use Rattle.answer_sheet.specs.Sheet.{totalsOf}
+use Rattle.answer_sheet.specs.Sheet.{tableLines}
 use Rattle.text.proofs.Laws.{wrote-then}
 use borrow.Author.Needs.{needs}
-use Rattle.answer_sheet.proofs.totals.Statement.{statement}
-use Rattle.answer_sheet.proofs.totals.Tie as tie
+use Rattle.answer_sheet.proofs.table_lines.Statement.{statement}
+use Rattle.answer_sheet.proofs.table_lines.Tie as tie
 
 slice-aggregate-line : tie.Need-slice-aggregate-line
 slice-aggregate-line c = search needs
@@ -29,11 +29,11 @@ same-length : tie.Need-same-length
 same-length c = search needs
 
 returns : tie.Need-returns
-unfolding totalsOf secondKey symbolsKey ordersKey
+unfolding tableLines secondKey symbolsKey ordersKey
 returns c = wrote-then (c .before .before .before .before .before .before .before .before .before .before .before .before .line .ensures) (wrote-then (c .before .before .before .before .before .before .before .line2 .ensures) (c .before .before .line3 .ensures))
 
-pub totals-spec : {M : Type 1} → statement M
-totals-spec =
+pub table-lines-spec : {M : Type 1} → statement M
+table-lines-spec =
     tie.close
     (tie.spec
     slice-aggregate-line

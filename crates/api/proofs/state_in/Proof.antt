@@ -1,8 +1,8 @@
 -- The three numbers are taken as they stand, each as wide as its field.
 -- Assumes nothing.
 use borrow.Author.Needs.{needs}
-use Rattle.api.proofs.state_of.Statement.{statement}
-use Rattle.api.proofs.state_of.Tie as tie
+use Rattle.api.proofs.state_in.Statement.{statement}
+use Rattle.api.proofs.state_in.Tie as tie
 
 element-copy-out-t4 : tie.Need-element-copy-out-t4
 element-copy-out-t4 c = search needs
@@ -22,8 +22,8 @@ cast-t14 c = search needs
 returns : tie.Need-returns
 returns c = search needs
 
-pub state-of-spec : {M : Type 1} → statement M
-state-of-spec =
+pub state-in-spec : {M : Type 1} → statement M
+state-in-spec =
     tie.close
     (tie.spec
     element-copy-out-t4

@@ -1,0 +1,69 @@
+-- Document 01's whole example from messages to text: its packet leaves the tables whose sheet answer_sheet computed, because both sides compute to
+-- the same numbers, as in Right.antt.
+-- Assumes nothing.
+use mathlib.Core.Path.{_≡_, refl, ap, _∙_}
+use lib.ListN.{replicate}
+use Rattle.facts.specs.Pick.{pick, both, either}
+use Rattle.facts.specs.Search.{first}
+use Rattle.facts.specs.Pieces.{cut, pieces, join, putPiece}
+use Rattle.wire.specs.Le.{le, field, padded}
+use Rattle.kinds.specs.Table as kinds
+use Rattle.fields.specs.Fields as fields
+use Rattle.body.specs.Ranges as ranges
+use Rattle.body.specs.Faults as faults
+use Rattle.body.specs.Read as read
+use Rattle.packet.specs.Record as head
+use Rattle.packet.specs.Packet as packet
+use Rattle.rows.specs.Rows as rows
+use Rattle.rows.specs.Find as find-row
+use Rattle.symbols.specs.Entries as entries
+use Rattle.symbols.specs.Find as find-entry
+use Rattle.symbols.specs.Update as update
+use Rattle.orders.specs.Rules as orders
+use Rattle.book.specs.Rules as rules
+use Rattle.book.specs.Book as book
+use Rattle.arbitration.specs.Slots as slots
+use Rattle.arbitration.specs.Receive as theory
+use Rattle.shelf.specs.Shelf as shelf
+use Rattle.receiver.specs.Rules as engine
+use Rattle.receiver.specs.Lent as receiver
+use Rattle.answer_sheet.specs.declared.Recording.{Recording}
+use Rattle.answer_sheet.specs.Sheet.{sheetOf}
+use Rattle.answer_sheet.proofs.Vectors.{after, three, symbol7, thirteen, example-is}
+use Rattle.exercises.specs.Messages as messages
+use Rattle.exercises.specs.Exercises as exercises
+
+-- a receiver with room for three orders and one symbol, after the whole example in one packet
+abbrev pub afterExample : receiver.Lent
+afterExample = exercises.goesOn (exercises.begins 3 1) messages.wholeExample .last .after
+
+-- all five messages are applied, and the shelf is empty again
+pub example-leaves : afterExample ≡ receiver.lent three symbol7 (replicate shelf.shelfSize 0) after
+unfolding exercises.begins exercises.goesOn
+    messages.numbered messages.systemTime messages.symbolUpdate messages.addOrder messages.example messages.ofExample messages.wholeExample
+    pick both either first cut pieces join putPiece le field padded
+    kinds.table kinds.lookup kinds.lengthOf kinds.kindOf
+    fields.decoded
+    ranges.oneOf ranges.sideOk ranges.priceOk ranges.sizeOk ranges.testOk ranges.marketOk
+    faults.faultAt faults.firstOf faults.dealFault faults.faultOf
+    read.framed read.judged read.readBody read.goodBody
+    head.numberOk head.bodyOf head.bodyJudged head.readRecord
+    packet.before packet.behind packet.framesFrom packet.framing
+    rows.rowOf rows.numbersOf rows.rows rows.putRow rows.zeroRow rows.free rows.live rows.maxRows rows.goodRows
+    find-row.isOrder find-row.findOrder find-row.findFree
+    entries.entrySize entries.maxEntries entries.goodEntries entries.entries entries.rest entries.entryOf entries.used entries.freeEntry
+    find-entry.isSymbol find-entry.findSymbol find-entry.findFreeEntry find-entry.knownSymbol find-entry.placeFor
+    update.updatedAt update.updated update.onEntries
+    orders.roomIn orders.roomFor orders.upon orders.added
+    rules.sideOf rules.rowFor rules.ofKnown rules.addRule rules.symbolRule
+    book.appliedBy book.applied
+    slots.sameBytes slots.sameSlot
+    theory.judge theory.goodSlot theory.highest theory.count theory.countsOf theory.try theory.stop theory.drain theory.after theory.run theory.said theory.told
+    shelf.shelfSize shelf.goodShelf shelf.toLe shelf.slotOf shelf.bytesOf shelf.slotAt shelf.putSlot
+    engine.appliedTo
+    receiver.received receiver.framed receiver.sizesOk receiver.nextOk
+example-leaves = refl
+
+-- "Whole example, for numbers 1 to 5": its sheet is the thirteen lines
+pub example-sheet : sheetOf Recording.Whole 0 (afterExample .state) (afterExample .orders) (afterExample .symbols) ≡ thirteen
+example-sheet = ap (λ (k : receiver.Lent). sheetOf Recording.Whole 0 (k .state) (k .orders) (k .symbols)) example-leaves ∙ example-is
