@@ -295,6 +295,25 @@ pub struct ListSettings {
     pub ending: u8,
 }
 
+impl ListSettings {
+    /// A list that fills tables of full capacity to the last row and entry; its last message finds
+    /// no row (25) or no entry (26).
+    pub fn filling(ending: u8) -> ListSettings {
+        ListSettings {
+            messages: 2_650,
+            rows: MOST_ROWS,
+            entries: MOST_ENTRIES,
+            symbols: 1_005,
+            orders: 10_000,
+            levels: 30,
+            crossing: 100,
+            breaking: 0,
+            filling: true,
+            ending,
+        }
+    }
+}
+
 /// A list in the making, with the tables and the second as its messages so far leave them. (What
 /// comes behind a message that breaks a rule is made as if that message were not there.)
 pub struct ListMaker {

@@ -141,6 +141,156 @@ pub struct Record<'a> {
     pub message: Message,
 }
 
+impl Message {
+    /// The type byte and the message's numbers in the order of their places; arrays of letters are
+    /// left out. An attributable ID is the number that its four letters are in little-endian.
+    pub fn numbers(&self) -> Vec<u64> {
+        let (kind, mut numbers): (u8, Vec<u64>) = match *self {
+            Message::SystemTime { seconds } => (SYSTEM_TIME, vec![seconds.into()]),
+            Message::SymbolUpdate(update) => (
+                SYMBOL_UPDATE,
+                vec![
+                    update.symbol.into(),
+                    update.lot.into(),
+                    update.market.into(),
+                ],
+            ),
+            Message::SystemState {
+                nanoseconds,
+                session,
+                status,
+                ..
+            } => (
+                SYSTEM_STATE,
+                vec![nanoseconds.into(), session.into(), status.into()],
+            ),
+            Message::TradingStatus {
+                nanoseconds,
+                symbol,
+                trading,
+                market_state,
+                short_sale,
+            } => (
+                TRADING_STATUS,
+                vec![
+                    nanoseconds.into(),
+                    symbol.into(),
+                    trading.into(),
+                    market_state.into(),
+                    short_sale.into(),
+                ],
+            ),
+            Message::SymbolClear {
+                nanoseconds,
+                symbol,
+            } => (SYMBOL_CLEAR, vec![nanoseconds.into(), symbol.into()]),
+            Message::AddOrder {
+                nanoseconds,
+                symbol,
+                order,
+                side,
+                price,
+                size,
+                attributable,
+            } => (
+                ADD_ORDER,
+                vec![
+                    nanoseconds.into(),
+                    symbol.into(),
+                    order,
+                    u64::from(if side == Side::Buy { b'B' } else { b'S' }),
+                    price,
+                    size.into(),
+                    u32::from_le_bytes(attributable).into(),
+                ],
+            ),
+            Message::ModifyOrder {
+                nanoseconds,
+                symbol,
+                order,
+                price,
+                size,
+                flags,
+            } => (
+                MODIFY_ORDER,
+                vec![
+                    nanoseconds.into(),
+                    symbol.into(),
+                    order,
+                    price,
+                    size.into(),
+                    flags.into(),
+                ],
+            ),
+            Message::DeleteOrder {
+                nanoseconds,
+                symbol,
+                order,
+            } => (DELETE_ORDER, vec![nanoseconds.into(), symbol.into(), order]),
+            Message::OrderExecution {
+                nanoseconds,
+                symbol,
+                order,
+                trade,
+                price,
+                size,
+                flags,
+            } => (
+                ORDER_EXECUTION,
+                vec![
+                    nanoseconds.into(),
+                    symbol.into(),
+                    order,
+                    trade,
+                    price,
+                    size.into(),
+                    flags.into(),
+                ],
+            ),
+            Message::Trade {
+                nanoseconds,
+                symbol,
+                trade,
+                correction,
+                price,
+                size,
+                flags,
+            } => (
+                TRADE,
+                vec![
+                    nanoseconds.into(),
+                    symbol.into(),
+                    trade,
+                    correction.into(),
+                    price,
+                    size.into(),
+                    flags.into(),
+                ],
+            ),
+            Message::TradeCancel {
+                nanoseconds,
+                symbol,
+                trade,
+                correction,
+                price,
+                size,
+            } => (
+                TRADE_CANCEL,
+                vec![
+                    nanoseconds.into(),
+                    symbol.into(),
+                    trade,
+                    correction.into(),
+                    price,
+                    size.into(),
+                ],
+            ),
+        };
+        numbers.insert(0, kind.into());
+        numbers
+    }
+}
+
 /// "All numbers are unsigned and little-endian": the last byte counts most.
 pub fn little(bytes: &[u8]) -> u64 {
     let mut value = 0;

@@ -278,18 +278,7 @@ fn fill_rows(dice: &mut Dice, maker: &mut ListMaker) {
 
 /// From nothing to the last row and entry of full capacities.
 fn filling(dice: &mut Dice, twins: &mut Twins) -> Outcome {
-    let settings = ListSettings {
-        messages: 2_650,
-        rows: MOST_ROWS,
-        entries: MOST_ENTRIES,
-        symbols: 1_005,
-        orders: 10_000,
-        levels: 30,
-        crossing: 100,
-        breaking: 0,
-        filling: true,
-        ending: dice.between(25, 26) as u8,
-    };
+    let settings = ListSettings::filling(dice.between(25, 26) as u8);
     let list = list(dice.bits(), settings);
     twins.restart(settings.rows, settings.entries)?;
     let mut how = true_delivery(dice.bits());

@@ -16,143 +16,27 @@ fn vectors(word: &str) -> Vec<u8> {
     output.stdout
 }
 
-/// The fields of a message as the vectors print them.
+/// The fields of a message as the vectors print them: its numbers, and the letters of the two that have some.
 fn fields(message: &Message) -> Vec<u64> {
     let spell = |bytes: &[u8]| bytes.iter().map(|byte| *byte as u64).collect::<Vec<u64>>();
+    let numbers = message.numbers();
     match *message {
-        Message::SystemTime { seconds } => vec![49, seconds as u64],
         Message::SymbolUpdate(update) => [
-            vec![1, update.symbol as u64],
+            numbers[..2].to_vec(),
             spell(&update.ticker),
-            vec![update.lot as u64],
+            numbers[2..3].to_vec(),
             spell(&update.opening),
             spell(&update.closing),
-            vec![update.market as u64],
+            numbers[3..].to_vec(),
         ]
         .concat(),
-        Message::SystemState {
-            nanoseconds,
-            version,
-            session,
-            status,
-        } => [
-            vec![83, nanoseconds as u64],
+        Message::SystemState { version, .. } => [
+            numbers[..2].to_vec(),
             spell(&version),
-            vec![session as u64, status as u64],
+            numbers[2..].to_vec(),
         ]
         .concat(),
-        Message::TradingStatus {
-            nanoseconds,
-            symbol,
-            trading,
-            market_state,
-            short_sale,
-        } => vec![
-            4,
-            nanoseconds as u64,
-            symbol as u64,
-            trading as u64,
-            market_state as u64,
-            short_sale as u64,
-        ],
-        Message::SymbolClear {
-            nanoseconds,
-            symbol,
-        } => vec![5, nanoseconds as u64, symbol as u64],
-        Message::AddOrder {
-            nanoseconds,
-            symbol,
-            order,
-            side,
-            price,
-            size,
-            attributable,
-        } => vec![
-            20,
-            nanoseconds as u64,
-            symbol as u64,
-            order,
-            match side {
-                Side::Buy => 66,
-                Side::Sell => 83,
-            },
-            price,
-            size as u64,
-            little(&attributable),
-        ],
-        Message::ModifyOrder {
-            nanoseconds,
-            symbol,
-            order,
-            price,
-            size,
-            flags,
-        } => vec![
-            21,
-            nanoseconds as u64,
-            symbol as u64,
-            order,
-            price,
-            size as u64,
-            flags as u64,
-        ],
-        Message::DeleteOrder {
-            nanoseconds,
-            symbol,
-            order,
-        } => vec![23, nanoseconds as u64, symbol as u64, order],
-        Message::OrderExecution {
-            nanoseconds,
-            symbol,
-            order,
-            trade,
-            price,
-            size,
-            flags,
-        } => vec![
-            24,
-            nanoseconds as u64,
-            symbol as u64,
-            order,
-            trade,
-            price,
-            size as u64,
-            flags as u64,
-        ],
-        Message::Trade {
-            nanoseconds,
-            symbol,
-            trade,
-            correction,
-            price,
-            size,
-            flags,
-        } => vec![
-            10,
-            nanoseconds as u64,
-            symbol as u64,
-            trade,
-            correction as u64,
-            price,
-            size as u64,
-            flags as u64,
-        ],
-        Message::TradeCancel {
-            nanoseconds,
-            symbol,
-            trade,
-            correction,
-            price,
-            size,
-        } => vec![
-            11,
-            nanoseconds as u64,
-            symbol as u64,
-            trade,
-            correction as u64,
-            price,
-            size as u64,
-        ],
+        _ => numbers,
     }
 }
 
