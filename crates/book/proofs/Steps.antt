@@ -1,6 +1,7 @@
--- What every message does alike: by the case of its body, what the orders' and the symbols' laws say of the one table that it concerns.
+-- What every message does alike: a plan that stops changes nothing, one that goes on leaves each table by its own work; and which of them
+-- a message may change, by the case of its body.
 -- Assumes nothing.
-use mathlib.Core.Path.{_≡_, refl, sym, ap, _∙_}
+use mathlib.Core.Path.{_≡_, refl, sym, ap, subst, _∙_}
 use mathlib.Core.Bool.{true, false}
 use mathlib.Core.List.{List}
 use mathlib.Core.Logic.{_⊎_, inl, inr, ⊎-elim}
@@ -9,234 +10,297 @@ use native.Mathlib.Omega.{arith}
 use lib.ListN.{length}
 use borrow.Author.Tests.{eqb-false}
 use Rattle.facts.specs.declared.Found.{Found}
-use Rattle.facts.proofs.Picks.{upheld, pick-ind}
+use Rattle.facts.specs.declared.Found.the-variants.{At, Nothing}
+use Rattle.facts.proofs.Picks.{upheld}
 use Rattle.fields.specs.Fields.{numberOf}
 use Rattle.fields.specs.declared.Body.{Body}
+use Rattle.fields.specs.declared.TradingStatus.{TradingStatus}
+use Rattle.fields.specs.declared.SymbolClear.{SymbolClear}
 use Rattle.fields.specs.declared.AddOrder.{AddOrder}
 use Rattle.fields.specs.declared.ModifyOrder.{ModifyOrder}
 use Rattle.fields.specs.declared.DeleteOrder.{DeleteOrder}
 use Rattle.fields.specs.declared.OrderExecution.{OrderExecution}
-use Rattle.fields.specs.declared.SymbolClear.{SymbolClear}
+use Rattle.fields.specs.declared.Trade.{Trade}
+use Rattle.fields.specs.declared.TradeCancel.{TradeCancel}
+use Rattle.fields.specs.declared.Refusal.{Refusal}
 use Rattle.body.specs.Read.{readBody, goodBody}
-use Rattle.symbols.specs.Entries.{entries, putEntry, idOf}
-use Rattle.symbols.specs.Find.{knownSymbol, placeFor}
-use Rattle.symbols.proofs.EntryLaws.{length-put-entry}
-use Rattle.symbols.proofs.UpdateLaws.{on-put, on-full}
-use Rattle.orders.specs.Rules.{Change, change, added, modified, deleted, executed, cleared}
-use Rattle.orders.proofs.Applied.{add-rules, add-broken, add-length, modify-rules, modify-broken, modify-length, delete-rules, delete-broken, delete-length, execute-rules, execute-broken, execute-length}
-use Rattle.orders.proofs.Clears.{clear-length}
-use Rattle.book.specs.Rules.{moves, rowFor, ofKnown, addRule, modifyRule, deleteRule, executionRule, clearRule, symbolRule}
-use Rattle.book.specs.Book.{Book, book, Outcome, onOrders, onSymbols, appliedBy, applied, ruleOf}
-use Rattle.book.proofs.Laws.{stops-add, stops-modify, applied-by}
+use Rattle.rows.specs.Rows.{zeroRow}
+use Rattle.symbols.specs.declared.EntryWork.{EntryWork}
+use Rattle.symbols.specs.Entries.{entries, idOf}
+use Rattle.symbols.specs.Find.{knownSymbol}
+use Rattle.symbols.proofs.FindLaws.{unknown-nowhere}
+use Rattle.symbols.specs.Work.{entered}
+use Rattle.symbols.proofs.UpdateLaws.{entered-length}
+use Rattle.orders.specs.declared.RowWork.{RowWork}
+use Rattle.orders.specs.Work.{committed, remade}
+use Rattle.orders.proofs.Commits.{committed-length}
+use Rattle.book.specs.declared.Clock.{Clock}
+use Rattle.book.specs.declared.Works.{Works}
+use Rattle.book.specs.declared.Plan.{Plan}
+use Rattle.book.specs.declared.Plan.the-variants.{Stop, Go}
+use Rattle.book.specs.Plan.{clock, works, onRows, idle, ofKnown, target, upon, moves, rowFor, roomFor, addPlan, modified, modifyPlan, deleted, deletePlan, executed, executionPlan, clearPlan, updatePlan, Finds, planBy}
+use Rattle.book.specs.Book.{Book, book, outcome, scans, planned, carried, applied}
+use Rattle.book.proofs.Laws.{planned-by, carried-by}
+use Rattle.book.proofs.Plans.{Ruled, stops, goes, OnOrders, stops-orders, goes-orders, ruled, known-orders, room-orders, named-orders, executed-orders}
 
--- ---- a rule on one table
+-- ---- any plan
 -- the numbers of the book rules
 abbrev pub Numbered : ℕ → Type 0
 Numbered n = (n ≡ 0) ⊎ ((20 ≤ n) × (n ≤ 27))
 
-record Lawful (t : List ℕ) (c : Change) : Type 0 where
-  broken : (c .rule ≡ 0 → ⊥) → c .table ≡ t
-  same-length : length (c .table) ≡ length t
-  numbers : Numbered (c .rule)
+module _ (b : List ℕ) (k : Book) where
+  carried-broken : (p : Plan) → (carried p b k .rule ≡ 0 → ⊥) → carried p b k .after ≡ k
+  unfolding carried
+  carried-broken (Stop n) h = refl
+  carried-broken (Go w) h = absurd (h refl)
 
-numbered : {A : Type 0} {n : ℕ} → (A → (20 ≤ n) × (n ≤ 27)) → (n ≡ 0) ⊎ A → Numbered n
-numbered f (inl e) = inl e
-numbered f (inr a) = inr (f a)
+  carried-orders : (p : Plan) → length (carried p b k .after .orders) ≡ length (k .orders)
+  unfolding carried
+  carried-orders (Stop n) = refl
+  carried-orders (Go w) = committed-length (w .orders) (k .orders)
 
--- the two of a message that names an order
-named : {n : ℕ} → (n ≡ 22) ⊎ (n ≡ 23) → (20 ≤ n) × (n ≤ 27)
-named (inl e) = (omega arith, omega arith)
-named (inr e) = (omega arith, omega arith)
+  carried-symbols : (p : Plan) → length (carried p b k .after .symbols) ≡ length (k .symbols)
+  unfolding carried
+  carried-symbols (Stop n) = refl
+  carried-symbols (Go w) = entered-length (w .symbols) b (k .symbols)
 
-stopped : (n : ℕ) (t : List ℕ) → 20 ≤ n → n ≤ 27 → Lawful t (change n t)
-stopped n t a b = record { broken = λ h. refl; same-length = refl; numbers = inr (a, b) }
+  carried-numbers : {p : Plan} → Ruled p → Numbered (carried p b k .rule)
+  unfolding carried
+  carried-numbers (stops n l h) = inr (l, h)
+  carried-numbers (goes w) = inl refl
 
-applies : (t u : List ℕ) → length u ≡ length t → Lawful t (change 0 u)
-applies t u e = record { broken = λ h. absurd (h refl); same-length = e; numbers = inl refl }
+  carried-went : (p : Plan) → Ruled p → carried p b k .rule ≡ 0
+      → (w : Works) × (p ≡ Go w) × (carried p b k .after ≡ book (committed (w .orders) (k .orders)) (entered (w .symbols) b (k .symbols)) (w .clock))
+  unfolding carried
+  carried-went (Stop n) (stops m l h) z = absurd (omega arith)
+  carried-went (Go w) r z = (w, refl, refl)
 
-known : (symbol : ℕ) (f : List ℕ → Change) (symbols t : List ℕ) → Lawful t (f t) → Lawful t (ofKnown symbol f symbols t)
-unfolding ofKnown
-known symbol f symbols t l = pick-ind (Lawful t) (knownSymbol symbol (entries symbols)) (f t) (change 20 t) (λ e. l) (λ e. stopped 20 t (omega arith) (omega arith))
+-- ---- messages that name a symbol, which alone change the order table, and the four that change none
+pub data Names : Body → ℕ → Type 0 where
+  clear : (m : SymbolClear) → Names (Body.SymbolClear m) (m .symbol)
+  add : (m : AddOrder) → Names (Body.Add m) (m .symbol)
+  modify : (m : ModifyOrder) → Names (Body.Modify m) (m .symbol)
+  delete : (m : DeleteOrder) → Names (Body.Delete m) (m .symbol)
+  execution : (m : OrderExecution) → Names (Body.Execution m) (m .symbol)
 
-module _ (s t : List ℕ) where
-  add-lawful : (m : AddOrder) (n : ℕ) → Lawful t (addRule m n s t)
-  unfolding addRule
-  add-lawful m n =
-      let r = rowFor m n in
-      known (m .symbol) (added r) s t
-      (record {
-        broken = add-broken r t;
-        same-length = add-length r t;
-        numbers = numbered (⊎-elim (λ e. (omega arith, omega arith)) (λ e. (omega arith, omega arith))) (add-rules r t);
-      })
+pub data Other : Body → Type 0 where
+  state : Other Body.SystemState
+  status : (m : TradingStatus) → Other (Body.TradingStatus m)
+  trade : (m : Trade) → Other (Body.Trade m)
+  cancel : (m : TradeCancel) → Other (Body.TradeCancel m)
 
-  modify-lawful : (m : ModifyOrder) (n : ℕ) → Lawful t (modifyRule m n s t)
-  unfolding modifyRule
-  modify-lawful m n =
-      known (m .symbol) (modified (m .order) (m .symbol) (m .price) (m .size) (moves (m .flags)) n) s t
-      (record {
-        broken = modify-broken (m .order) (m .symbol) (m .price) (m .size) (moves (m .flags)) n t;
-        same-length = modify-length (m .order) (m .symbol) (m .price) (m .size) (moves (m .flags)) n t;
-        numbers = numbered named (modify-rules (m .order) (m .symbol) (m .price) (m .size) (moves (m .flags)) n t);
-      })
+-- what a body is, as far as the tables go
+pub data Kind : Body → Type 0 where
+  time : (s : ℕ) → Kind (Body.SystemTime s)
+  update : Kind Body.SymbolUpdate
+  names : {m : Body} {s : ℕ} → Names m s → Kind m
+  other : {m : Body} → Other m → Kind m
+  refused : (r : Refusal) → Kind (Body.Refused r)
 
-  delete-lawful : (m : DeleteOrder) → Lawful t (deleteRule m s t)
-  unfolding deleteRule
-  delete-lawful m =
-      known (m .symbol) (deleted (m .order) (m .symbol)) s t
-      (record {
-        broken = delete-broken (m .order) (m .symbol) t;
-        same-length = delete-length (m .order) (m .symbol) t;
-        numbers = numbered named (delete-rules (m .order) (m .symbol) t);
-      })
+pub kind-of : (m : Body) → Kind m
+kind-of (Body.SystemTime s) = time s
+kind-of Body.SymbolUpdate = update
+kind-of (Body.SymbolClear m) = names (clear m)
+kind-of (Body.Add m) = names (add m)
+kind-of (Body.Modify m) = names (modify m)
+kind-of (Body.Delete m) = names (delete m)
+kind-of (Body.Execution m) = names (execution m)
+kind-of Body.SystemState = other state
+kind-of (Body.TradingStatus m) = other (status m)
+kind-of (Body.Trade m) = other (trade m)
+kind-of (Body.TradeCancel m) = other (cancel m)
+kind-of (Body.Refused r) = refused r
 
-  execution-lawful : (m : OrderExecution) → Lawful t (executionRule m s t)
-  unfolding executionRule
-  execution-lawful m =
-      known (m .symbol) (executed (m .order) (m .symbol) (m .size)) s t
-      (record {
-        broken = execute-broken (m .order) (m .symbol) (m .size) t;
-        same-length = execute-length (m .order) (m .symbol) (m .size) t;
-        numbers = numbered (⊎-elim named (λ e. (omega arith, omega arith))) (execute-rules (m .order) (m .symbol) (m .size) t);
-      })
+names-good : {m : Body} {s : ℕ} → Names m s → numberOf m ≡ 0
+names-good (clear m) = refl
+names-good (add m) = refl
+names-good (modify m) = refl
+names-good (delete m) = refl
+names-good (execution m) = refl
 
-  clear-lawful : (m : SymbolClear) → Lawful t (clearRule m s t)
-  unfolding clearRule
-  clear-lawful m = known (m .symbol) (λ x. change 0 (cleared (m .symbol) x)) s t (applies t (cleared (m .symbol) t) (clear-length (m .symbol) t))
+other-good : {m : Body} → Other m → numberOf m ≡ 0
+other-good state = refl
+other-good (status m) = refl
+other-good (trade m) = refl
+other-good (cancel m) = refl
 
-symbol-lawful : (b t : List ℕ) → Lawful t (symbolRule b t)
-unfolding symbolRule
-symbol-lawful b t = go (placeFor (idOf b) (entries t)) refl
-  where
-    go : (f : Found) → placeFor (idOf b) (entries t) ≡ f → Lawful t (symbolRule b t)
-    go (Found.At i) e = rw (on-put b t i e) (applies t (putEntry t i b) (length-put-entry t i b))
-    go Found.Nothing e = rw (on-full b t e) (stopped 26 t (omega arith) (omega arith))
+-- ---- the plan of each
+module _ (n : ℕ) (b : List ℕ) (c : Clock) (f : Finds) where
+  names-orders : {m : Body} {s : ℕ} → Names m s → OnOrders c (planBy m n b c f)
+  unfolding planBy addPlan modifyPlan deletePlan executionPlan clearPlan
+  names-orders (clear m) = known-orders c (f .entry (m .symbol)) (onRows c (RowWork.Clear (m .symbol))) (goes-orders (RowWork.Clear (m .symbol)))
+  names-orders (add m) = known-orders c (f .entry (m .symbol)) (roomFor c (rowFor m n) (f .order (m .order)) (f .free)) (room-orders c (rowFor m n) (f .order (m .order)) (f .free))
+  names-orders (modify m) =
+      known-orders c (f .entry (m .symbol)) (upon (target (f .order (m .order)) (m .symbol)) (modified c m n))
+      (named-orders c (f .order (m .order)) (m .symbol) (modified c m n) (λ i r. goes-orders (RowWork.Put i (remade (m .price) (m .size) (moves (m .flags)) n r))))
+  names-orders (delete m) =
+      known-orders c (f .entry (m .symbol)) (upon (target (f .order (m .order)) (m .symbol)) (deleted c))
+      (named-orders c (f .order (m .order)) (m .symbol) (deleted c) (λ i r. goes-orders (RowWork.Put i zeroRow)))
+  names-orders (execution m) =
+      known-orders c (f .entry (m .symbol)) (upon (target (f .order (m .order)) (m .symbol)) (executed c m))
+      (named-orders c (f .order (m .order)) (m .symbol) (executed c m) (executed-orders c m))
 
--- ---- a message on the book
-record Step (k : Book) (o : Outcome) : Type 0 where
-  broken : (o .rule ≡ 0 → ⊥) → o .after ≡ k
-  orders-length : length (o .after .orders) ≡ length (k .orders)
-  symbols-length : length (o .after .symbols) ≡ length (k .symbols)
-  numbers : Numbered (o .rule)
+  names-unknown : {m : Body} {s : ℕ} → Names m s → f .entry s ≡ Nothing → planBy m n b c f ≡ Stop 20
+  unfolding planBy addPlan modifyPlan deletePlan executionPlan clearPlan ofKnown
+  names-unknown (clear m) e = rw e
+  names-unknown (add m) e = rw e
+  names-unknown (modify m) e = rw e
+  names-unknown (delete m) e = rw e
+  names-unknown (execution m) e = rw e
 
--- a message that leaves both tables
-left : (n : ℕ) (k : Book) → Numbered n → Step k (record { rule = n; after = k })
-left n k h = record { broken = λ e. refl; orders-length = refl; symbols-length = refl; numbers = h }
+  pub other-idle : {m : Body} → Other m → planBy m n b c f ≡ idle c
+  unfolding planBy
+  other-idle state = refl
+  other-idle (status m) = refl
+  other-idle (trade m) = refl
+  other-idle (cancel m) = refl
 
-on-orders : (k : Book) (f : List ℕ → List ℕ → Change) → Lawful (k .orders) (f (k .symbols) (k .orders)) → Step k (onOrders k f)
-on-orders k f l =
-    record {
-      broken = λ h. ap (λ t. book t (k .symbols) (k .second)) (l .broken h);
-      orders-length = l .same-length;
-      symbols-length = refl;
-      numbers = l .numbers;
-    }
+  update-ruled : (place : Found) → Ruled (updatePlan c place)
+  unfolding updatePlan
+  update-ruled (At i) = goes (works c RowWork.Keep (EntryWork.Put i))
+  update-ruled Nothing = stops 26 (omega arith) (omega arith)
 
-on-symbols : (k : Book) (f : List ℕ → Change) → Lawful (k .symbols) (f (k .symbols)) → Step k (onSymbols k f)
-on-symbols k f l =
-    record {
-      broken = λ h. ap (λ t. book (k .orders) t (k .second)) (l .broken h);
-      orders-length = refl;
-      symbols-length = l .same-length;
-      numbers = l .numbers;
-    }
+  kind-ruled : {m : Body} → Kind m → Ruled (planBy m n b c f)
+  unfolding planBy
+  kind-ruled (time s) = goes (works (clock s) RowWork.Keep EntryWork.Keep)
+  kind-ruled update = update-ruled (f .room (idOf b))
+  kind-ruled (names h) = ruled (names-orders h)
+  kind-ruled (other h) = subst Ruled (sym (other-idle h)) (goes (works c RowWork.Keep EntryWork.Keep))
+  kind-ruled (refused r) = stops 27 (omega arith) (omega arith)
 
-step-by : (m : Body) (n : ℕ) (b : List ℕ) (k : Book) → Step k (appliedBy m n b k)
-unfolding appliedBy
-step-by (Body.SystemTime c) n b k = record { broken = λ h. absurd (h refl); orders-length = refl; symbols-length = refl; numbers = inl refl }
-step-by Body.SymbolUpdate n b k = on-symbols k (symbolRule b) (symbol-lawful b (k .symbols))
-step-by (Body.SymbolClear m) n b k = on-orders k (clearRule m) (clear-lawful (k .symbols) (k .orders) m)
-step-by (Body.Add m) n b k = on-orders k (addRule m n) (add-lawful (k .symbols) (k .orders) m n)
-step-by (Body.Modify m) n b k = on-orders k (modifyRule m n) (modify-lawful (k .symbols) (k .orders) m n)
-step-by (Body.Delete m) n b k = on-orders k (deleteRule m) (delete-lawful (k .symbols) (k .orders) m)
-step-by (Body.Execution m) n b k = on-orders k (executionRule m) (execution-lawful (k .symbols) (k .orders) m)
-step-by Body.SystemState n b k = left 0 k (inl refl)
-step-by (Body.TradingStatus m) n b k = left 0 k (inl refl)
-step-by (Body.Trade m) n b k = left 0 k (inl refl)
-step-by (Body.TradeCancel m) n b k = left 0 k (inl refl)
-step-by (Body.Refused r) n b k = left 27 k (inr (omega arith, omega arith))
+  kind-bad : {m : Body} → Kind m → (numberOf m ≡ 0 → ⊥) → planBy m n b c f ≡ Stop 27
+  unfolding planBy
+  kind-bad (time s) h = absurd (h refl)
+  kind-bad update h = absurd (h refl)
+  kind-bad (names x) h = absurd (h (names-good x))
+  kind-bad (other x) h = absurd (h (other-good x))
+  kind-bad (refused r) h = refl
 
--- ---- the rule without the message's number and the second
-rule-any-by : (m : Body) (n c : ℕ) (b o s : List ℕ) → appliedBy m n b (book o s c) .rule ≡ appliedBy m 0 b (book o s 0) .rule
-unfolding appliedBy
-rule-any-by (Body.SystemTime x) n c b o s = refl
-rule-any-by Body.SymbolUpdate n c b o s = refl
-rule-any-by (Body.SymbolClear m) n c b o s = refl
-rule-any-by (Body.Add m) n c b o s = sym (stops-add m n s o) ∙ stops-add m 0 s o
-rule-any-by (Body.Modify m) n c b o s = sym (stops-modify m n s o) ∙ stops-modify m 0 s o
-rule-any-by (Body.Delete m) n c b o s = refl
-rule-any-by (Body.Execution m) n c b o s = refl
-rule-any-by Body.SystemState n c b o s = refl
-rule-any-by (Body.TradingStatus m) n c b o s = refl
-rule-any-by (Body.Trade m) n c b o s = refl
-rule-any-by (Body.TradeCancel m) n c b o s = refl
-rule-any-by (Body.Refused r) n c b o s = refl
+-- ---- the work of a plan on each part of the book: what is left to itself stays
+abbrev rowsOf : Plan → RowWork
+rowsOf (Stop n) = RowWork.Keep
+rowsOf (Go w) = w .orders
 
-pub rule-any : (n c : ℕ) (b o s : List ℕ) → applied n b (book o s c) .rule ≡ ruleOf b o s
-unfolding applied ruleOf
-rule-any n c b o s = rule-any-by (readBody b) n c b o s
+abbrev entriesOf : Plan → EntryWork
+entriesOf (Stop n) = EntryWork.Keep
+entriesOf (Go w) = w .symbols
 
--- ---- a refused body
-bad-by : (m : Body) (n : ℕ) (b : List ℕ) (k : Book) → (numberOf m ≡ 0 → ⊥) → appliedBy m n b k .rule ≡ 27
-unfolding appliedBy
-bad-by (Body.SystemTime c) n b k h = absurd (h refl)
-bad-by Body.SymbolUpdate n b k h = absurd (h refl)
-bad-by (Body.SymbolClear m) n b k h = absurd (h refl)
-bad-by (Body.Add m) n b k h = absurd (h refl)
-bad-by (Body.Modify m) n b k h = absurd (h refl)
-bad-by (Body.Delete m) n b k h = absurd (h refl)
-bad-by (Body.Execution m) n b k h = absurd (h refl)
-bad-by Body.SystemState n b k h = absurd (h refl)
-bad-by (Body.TradingStatus m) n b k h = absurd (h refl)
-bad-by (Body.Trade m) n b k h = absurd (h refl)
-bad-by (Body.TradeCancel m) n b k h = absurd (h refl)
-bad-by (Body.Refused r) n b k h = refl
+abbrev clockOf : Clock → Plan → Clock
+clockOf c (Stop n) = c
+clockOf c (Go w) = w .clock
 
--- ---- the second
-second-by : (m : Body) (n : ℕ) (b : List ℕ) (k : Book) → ((c : ℕ) → m ≡ Body.SystemTime c → ⊥) → appliedBy m n b k .after .second ≡ k .second
-unfolding appliedBy
-second-by (Body.SystemTime c) n b k h = absurd (h c refl)
-second-by Body.SymbolUpdate n b k h = refl
-second-by (Body.SymbolClear m) n b k h = refl
-second-by (Body.Add m) n b k h = refl
-second-by (Body.Modify m) n b k h = refl
-second-by (Body.Delete m) n b k h = refl
-second-by (Body.Execution m) n b k h = refl
-second-by Body.SystemState n b k h = refl
-second-by (Body.TradingStatus m) n b k h = refl
-second-by (Body.Trade m) n b k h = refl
-second-by (Body.TradeCancel m) n b k h = refl
-second-by (Body.Refused r) n b k h = refl
+carried-all : (p : Plan) (b : List ℕ) (k : Book) → carried p b k .after ≡ book (committed (rowsOf p) (k .orders)) (entered (entriesOf p) b (k .symbols)) (clockOf (k .clock) p)
+unfolding carried committed entered
+carried-all (Stop n) b k = refl
+carried-all (Go w) b k = refl
 
+orders-entries : {c : Clock} {p : Plan} → OnOrders c p → (entriesOf p ≡ EntryWork.Keep) × (clockOf c p ≡ c)
+orders-entries (stops-orders n l h) = (refl, refl)
+orders-entries (goes-orders w) = (refl, refl)
+
+module _ (n : ℕ) (b : List ℕ) (c : Clock) (f : Finds) where
+  update-rows : (place : Found) → (rowsOf (updatePlan c place) ≡ RowWork.Keep) × (clockOf c (updatePlan c place) ≡ c)
+  unfolding updatePlan
+  update-rows (At i) = (refl, refl)
+  update-rows Nothing = (refl, refl)
+
+  kind-rows : {m : Body} → Kind m → ((s : ℕ) × Names m s) ⊎ (rowsOf (planBy m n b c f) ≡ RowWork.Keep)
+  unfolding planBy
+  kind-rows (time s) = inr refl
+  kind-rows update = inr (update-rows (f .room (idOf b)) .0)
+  kind-rows (names {s = s} x) = inl (s, x)
+  kind-rows (other x) = inr (ap rowsOf (other-idle n b c f x))
+  kind-rows (refused r) = inr refl
+
+  kind-entries : {m : Body} → Kind m → (m ≡ Body.SymbolUpdate) ⊎ (entriesOf (planBy m n b c f) ≡ EntryWork.Keep)
+  unfolding planBy
+  kind-entries (time s) = inr refl
+  kind-entries update = inl refl
+  kind-entries (names x) = inr (orders-entries (names-orders n b c f x) .0)
+  kind-entries (other x) = inr (ap entriesOf (other-idle n b c f x))
+  kind-entries (refused r) = inr refl
+
+  kind-clock : {m : Body} → Kind m → ((s : ℕ) × (m ≡ Body.SystemTime s)) ⊎ (clockOf c (planBy m n b c f) ≡ c)
+  unfolding planBy
+  kind-clock (time s) = inl (s, refl)
+  kind-clock update = inr (update-rows (f .room (idOf b)) .1)
+  kind-clock (names x) = inr (orders-entries (names-orders n b c f x) .1)
+  kind-clock (other x) = inr (ap (clockOf c) (other-idle n b c f x))
+  kind-clock (refused r) = inr refl
+
+-- ---- any message
 module _ (n : ℕ) (b : List ℕ) (k : Book) where
-  step : Step k (applied n b k)
-  unfolding applied
-  step = step-by (readBody b) n b k
+  plan-ruled : Ruled (planned n b k)
+  unfolding planned
+  plan-ruled = kind-ruled n b (k .clock) (scans k) (kind-of (readBody b))
 
   -- "the first broken one counts": and changes nothing
   pub broken-keeps : (applied n b k .rule ≡ 0 → ⊥) → applied n b k .after ≡ k
-  broken-keeps h = step .broken h
+  unfolding applied
+  broken-keeps h = carried-broken b k (planned n b k) h
+
+  -- a message that breaks none: each table by its work
+  pub went : applied n b k .rule ≡ 0
+      → (w : Works) × (planned n b k ≡ Go w) × (applied n b k .after ≡ book (committed (w .orders) (k .orders)) (entered (w .symbols) b (k .symbols)) (w .clock))
+  unfolding applied
+  went z = carried-went b k (planned n b k) plan-ruled z
 
   pub lengths-kept : (length (applied n b k .after .orders) ≡ length (k .orders)) × (length (applied n b k .after .symbols) ≡ length (k .symbols))
-  lengths-kept = (step .orders-length, step .symbols-length)
+  unfolding applied
+  lengths-kept = (carried-orders b k (planned n b k), carried-symbols b k (planned n b k))
 
   -- 0, or one of 20 to 27
   pub rules : Numbered (applied n b k .rule)
-  rules = step .numbers
+  unfolding applied
+  rules = carried-numbers b k plan-ruled
 
   -- "no good body stops with 27"
   pub bad-body : goodBody b ≡ false → applied n b k .rule ≡ 27
-  unfolding applied goodBody
-  bad-body h = bad-by (readBody b) n b k (eqb-false (numberOf (readBody b)) 0 h)
+  unfolding goodBody carried
+  bad-body h = ap (λ o. o .rule) (sym (carried-by (Stop 27) n b k (sym (planned-by (readBody b) n b k refl) ∙ kind-bad n b (k .clock) (scans k) (kind-of (readBody b)) (eqb-false (numberOf (readBody b)) 0 h))))
 
   pub rule-good : applied n b k .rule ≡ 0 → goodBody b ≡ true
   rule-good e = upheld (goodBody b) (λ g. omega (arith, bad-body g))
 
-  -- the second is a System Time's, and no other message's
-  pub second-kept : ((c : ℕ) → readBody b ≡ Body.SystemTime c → ⊥) → applied n b k .after .second ≡ k .second
+  -- ---- which part of the book a message may change
+  applied-all : applied n b k .after ≡ book (committed (rowsOf (planned n b k)) (k .orders)) (entered (entriesOf (planned n b k)) b (k .symbols)) (clockOf (k .clock) (planned n b k))
   unfolding applied
-  second-kept h = second-by (readBody b) n b k h
+  applied-all = carried-all (planned n b k) b k
 
-  pub second-set : (c : ℕ) → readBody b ≡ Body.SystemTime c → applied n b k ≡ record { rule = 0; after = book (k .orders) (k .symbols) c }
-  unfolding appliedBy
-  second-set c e = sym (applied-by (Body.SystemTime c) n b k e)
+  -- the order table is changed by a message that names a symbol, and by no other
+  pub orders-kept : ((s : ℕ) × Names (readBody b) s) ⊎ (applied n b k .after .orders ≡ k .orders)
+  unfolding committed planned
+  orders-kept =
+      ⊎-elim inl (λ e. inr (ap (λ x. x .orders) applied-all ∙ ap (λ w. committed w (k .orders)) e))
+      (kind-rows n b (k .clock) (scans k) (kind-of (readBody b)))
+
+  -- the symbol table by a Symbol Update, and by no other
+  pub symbols-kept : (readBody b ≡ Body.SymbolUpdate) ⊎ (applied n b k .after .symbols ≡ k .symbols)
+  unfolding entered planned
+  symbols-kept =
+      ⊎-elim inl (λ e. inr (ap (λ x. x .symbols) applied-all ∙ ap (λ w. entered w b (k .symbols)) e))
+      (kind-entries n b (k .clock) (scans k) (kind-of (readBody b)))
+
+  -- the second by a System Time, and by no other
+  pub clock-kept : ((s : ℕ) × (readBody b ≡ Body.SystemTime s)) ⊎ (applied n b k .after .clock ≡ k .clock)
+  unfolding planned
+  clock-kept = ⊎-elim inl (λ e. inr (ap (λ x. x .clock) applied-all ∙ e)) (kind-clock n b (k .clock) (scans k) (kind-of (readBody b)))
+
+  pub second-set : (c : ℕ) → readBody b ≡ Body.SystemTime c → applied n b k ≡ outcome 0 (book (k .orders) (k .symbols) (clock c))
+  unfolding planBy carried committed entered
+  second-set c e = sym (carried-by (idle (clock c)) n b k (sym (planned-by (Body.SystemTime c) n b k e)))
+
+  -- "The other four apply without changing a table"
+  pub other-four : Other (readBody b) → applied n b k ≡ outcome 0 k
+  unfolding carried committed entered
+  other-four h = sym (carried-by (idle (k .clock)) n b k (sym (planned-by (readBody b) n b k refl) ∙ other-idle n b (k .clock) (scans k) h))
+
+  -- an unknown symbol breaks 20, whatever the order table holds
+  pub unknown-symbol : (s : ℕ) → Names (readBody b) s → knownSymbol s (entries (k .symbols)) ≡ false → applied n b k ≡ outcome 20 k
+  unfolding carried
+  unknown-symbol s h u =
+      sym (carried-by (Stop 20) n b k (sym (planned-by (readBody b) n b k refl) ∙ names-unknown n b (k .clock) (scans k) h (unknown-nowhere s (entries (k .symbols)) u)))
+
+  -- so the symbol of one that applied was known
+  pub applied-known : (s : ℕ) → Names (readBody b) s → applied n b k .rule ≡ 0 → knownSymbol s (entries (k .symbols)) ≡ true
+  applied-known s h z = upheld (knownSymbol s (entries (k .symbols))) (λ e. omega (arith, ap (λ o. o .rule) (unknown-symbol s h e)))

@@ -1,163 +1,79 @@
--- What a reader expects of the whole book: each message does to the book what its law of orders or of symbols says of the one table it concerns.
+-- What a reader expects of the whole book: each message that applied did to the one table it concerns what its work says, and the searches
+-- behind its plan came out as the rules want.
 -- Assumes nothing.
 use mathlib.Core.Path.{_≡_, refl, sym, ap, subst, _∙_}
 use mathlib.Core.Bool.{true, false}
 use mathlib.Core.List.{List}
+use mathlib.Core.Logic.{⊎-elim}
 use Prim.Native.Nat.{ℕ, _%_, _≤_, _<_}
 use native.Mathlib.Omega.{arith}
+use native.Mathlib.Decide.{ℕ-discrete}
 use lib.ListN.{getD, replicate}
 use borrow.Author.Tests.{eq-eqb, ne-eqb}
-use Rattle.facts.proofs.Picks.{upheld, pick-ind}
+use Rattle.facts.specs.declared.Found.the-variants.{At, Nothing}
 use Rattle.wire.specs.Le.{Bytes}
 use Rattle.wire.proofs.Laws.{field-below}
 use Rattle.fields.specs.declared.Body.{Body}
-use Rattle.fields.specs.declared.TradingStatus.{TradingStatus}
 use Rattle.fields.specs.declared.SymbolClear.{SymbolClear}
 use Rattle.fields.specs.declared.AddOrder.{AddOrder}
 use Rattle.fields.specs.declared.ModifyOrder.{ModifyOrder}
 use Rattle.fields.specs.declared.DeleteOrder.{DeleteOrder}
 use Rattle.fields.specs.declared.OrderExecution.{OrderExecution}
-use Rattle.fields.specs.declared.Trade.{Trade}
-use Rattle.fields.specs.declared.TradeCancel.{TradeCancel}
 use Rattle.body.specs.Read.{readBody}
 use Rattle.body.proofs.Laws.{Sound, read-sound}
+use Rattle.rows.specs.declared.Row.{Row}
 use Rattle.rows.specs.Rows.{rows, zeroRow, symbolOf, free, live}
-use Rattle.rows.specs.Find.{ofSymbol}
+use Rattle.rows.specs.Find.{findOrder, findFree, heldAt, ofSymbol}
 use Rattle.rows.proofs.Judged.{ranges-live}
-use Rattle.symbols.specs.Entries.{entries, used, idOf}
-use Rattle.symbols.specs.Find.{knownSymbol}
-use Rattle.symbols.specs.declared.Updated.{Updated}
-use Rattle.symbols.specs.Update.{updated, numberOf, onEntries}
-use Rattle.symbols.proofs.UpdateLaws.{known-after, known-stays, on-table}
+use Rattle.symbols.specs.declared.EntryWork.{EntryWork}
+use Rattle.symbols.specs.Entries.{entries, putEntry, used, idOf}
+use Rattle.symbols.specs.Find.{findSymbol, knownSymbol, placeFor}
+use Rattle.symbols.specs.Work.{entered}
+use Rattle.symbols.proofs.EntryLaws.{entries-put}
+use Rattle.symbols.proofs.FindLaws.{known-found}
+use Rattle.symbols.proofs.UpdateLaws.{known-after, known-stays}
 use Rattle.symbols.proofs.StartLaws.{Distinct, wiped-distinct, distinct-kept}
-use Rattle.orders.specs.Rules.{Change, change, remade, less, reduced, added, modified, deleted, executed, cleared}
-use Rattle.orders.proofs.Applied.{row, Added, Named, Remade, add-applies, modify-applies, modify-row, delete-applies, execute-applies}
+use Rattle.orders.specs.declared.RowWork.{RowWork}
+use Rattle.orders.specs.Work.{remade, less, reduced, cleared, committed}
+use Rattle.orders.proofs.Applied.{row, Added, Named, Remade, put-added, put-named, modify-row}
 use Rattle.orders.proofs.Clears.{clear-gone, clear-kept}
 use Rattle.orders.proofs.Unique.{Unique, add-unique, modify-unique, delete-unique, execute-unique, clear-unique, zero-unique}
 use Rattle.orders.proofs.Shares.{remade-live}
-use Rattle.orders.proofs.Again.{all-executed, part-executed, gone-free}
-use Rattle.book.specs.Rules.{moves, rowFor, ofKnown, addRule, modifyRule, deleteRule, executionRule, clearRule, symbolRule}
-use Rattle.book.specs.Book.{Book, book, Outcome, outcome, onOrders, appliedBy, applied}
-use Rattle.book.proofs.Laws.{side-small, of-unknown, applied-by}
+use Rattle.orders.proofs.Again.{all-executed, part-executed, gone-free, gone-nowhere, room-again}
+use Rattle.book.specs.declared.Clock.{Clock}
+use Rattle.book.specs.declared.Works.{Works}
+use Rattle.book.specs.declared.Plan.{Plan}
+use Rattle.book.specs.declared.Plan.the-variants.{Go}
+use Rattle.book.specs.Plan.{works, onRows, ofKnown, target, upon, moves, rowFor, roomFor, addPlan, modified, modifyPlan, deleted, deletePlan, executed, executionPlan, clearPlan, planBy}
+use Rattle.book.specs.Book.{Book, book, orderIn, scans, planned, carried, applied}
+use Rattle.book.proofs.Laws.{side-small, planned-by, carried-by}
+use Rattle.book.proofs.Plans.{goes-known, Owned, goes-owned, held-live, held-nowhere, goes-room, goes-executed, goes-update}
+use Rattle.book.proofs.Steps.{went, broken-keeps, Names, orders-kept, symbols-kept}
 
--- ---- live order IDs and used symbols stay unique
-pub record Single (k : Book) : Type 0 where
-  pub orders : Unique (rows (k .orders))
-  pub symbols : Distinct (entries (k .symbols))
+-- ---- a message that applied, by the case of its body: its plan, and the tables after it
+record Done (m : Body) (n : ℕ) (b : List ℕ) (k : Book) : Type 0 where
+  does : Works
+  plan-is : planBy m n b (k .clock) (scans k) ≡ Go does
+  orders-are : applied n b k .after .orders ≡ committed (does .orders) (k .orders)
+  symbols-are : applied n b k .after .symbols ≡ entered (does .symbols) b (k .symbols)
 
--- a start zeroes both tables
-pub zero-single : (n m c : ℕ) → Single (book (replicate n 0) (replicate m 0) c)
-zero-single n m c = record { orders = zero-unique n; symbols = wiped-distinct m }
+done : (m : Body) (n : ℕ) (b : List ℕ) (k : Book) → readBody b ≡ m → applied n b k .rule ≡ 0 → Done m n b k
+done m n b k e z =
+    let w = went n b k z in
+    record { does = w .0; plan-is = planned-by m n b k e ∙ w .1; orders-are = ap (λ x. x .orders) (w .2); symbols-are = ap (λ x. x .symbols) (w .2) }
 
-known-unique : (symbol : ℕ) (f : List ℕ → Change) (s t : List ℕ) → Unique (rows t) → Unique (rows (f t .table)) → Unique (rows (ofKnown symbol f s t .table))
-unfolding ofKnown
-known-unique symbol f s t v w = pick-ind (λ (c : Change). Unique (rows (c .table))) (knownSymbol symbol (entries s)) (f t) (change 20 t) (λ e. w) (λ e. v)
+-- a row put by a message that names an order
+owner : (order symbol : ℕ) (k : Book) (p : Plan) (f : ℕ → Row → Plan) (x : Owned (orderIn order (k .orders)) symbol p f)
+    → (findOrder order (rows (k .orders)) ≡ At (x .place)) × (x .held ≡ row (k .orders) (x .place))
+owner order symbol k p f x = held-live (findOrder order (rows (k .orders))) (rows (k .orders)) (x .place) (x .held) (x .order-is)
 
--- a Symbol Update's type byte marks an entry in use
-update-used : (b : List ℕ) → Sound Body.SymbolUpdate b → used b ≡ true
-unfolding used
-update-used b w = eq-eqb (getD b 0 0) 1 (w .0 .type-is)
-
-symbol-distinct : (b t : List ℕ) → used b ≡ true → Distinct (entries t) → Distinct (entries (symbolRule b t .table))
-unfolding symbolRule
-symbol-distinct b t u d = rw (on-table b t .entries-are) (distinct-kept b (entries t) u d)
-
-single-by : (m : Body) (n : ℕ) (b : List ℕ) (k : Book) → Sound m b → Single k → Single (appliedBy m n b k .after)
-unfolding appliedBy addRule modifyRule deleteRule executionRule clearRule
-single-by (Body.SystemTime c) n b k w h = record { orders = h .orders; symbols = h .symbols }
-single-by Body.SymbolUpdate n b k w h = record { orders = h .orders; symbols = symbol-distinct b (k .symbols) (update-used b w) (h .symbols) }
-single-by (Body.SymbolClear m) n b k w h =
-    record { orders = known-unique (m .symbol) (λ t. change 0 (cleared (m .symbol) t)) (k .symbols) (k .orders) (h .orders) (clear-unique (k .orders) (h .orders) (m .symbol)); symbols = h .symbols }
-single-by (Body.Add m) n b k w h =
-    record { orders = known-unique (m .symbol) (added (rowFor m n)) (k .symbols) (k .orders) (h .orders) (add-unique (k .orders) (h .orders) (rowFor m n)); symbols = h .symbols }
-single-by (Body.Modify m) n b k w h =
-    record {
-      orders =
-          known-unique (m .symbol) (modified (m .order) (m .symbol) (m .price) (m .size) (moves (m .flags)) n) (k .symbols) (k .orders) (h .orders)
-          (modify-unique (k .orders) (h .orders) (m .order) (m .symbol) (m .price) (m .size) (moves (m .flags)) n);
-      symbols = h .symbols;
-    }
-single-by (Body.Delete m) n b k w h =
-    record {
-      orders = known-unique (m .symbol) (deleted (m .order) (m .symbol)) (k .symbols) (k .orders) (h .orders) (delete-unique (k .orders) (h .orders) (m .order) (m .symbol));
-      symbols = h .symbols;
-    }
-single-by (Body.Execution m) n b k w h =
-    record {
-      orders =
-          known-unique (m .symbol) (executed (m .order) (m .symbol) (m .size)) (k .symbols) (k .orders) (h .orders)
-          (execute-unique (k .orders) (h .orders) (m .order) (m .symbol) (m .size));
-      symbols = h .symbols;
-    }
-single-by Body.SystemState n b k w h = h
-single-by (Body.TradingStatus m) n b k w h = h
-single-by (Body.Trade m) n b k w h = h
-single-by (Body.TradeCancel m) n b k w h = h
-single-by (Body.Refused r) n b k w h = h
-
--- every message keeps both, whatever its bytes
-pub single-kept : (n : ℕ) (b : List ℕ) (k : Book) → Single k → Single (applied n b k .after)
-unfolding applied
-single-kept n b k h = single-by (readBody b) n b k (read-sound b) h
-
--- ---- "The other four apply without changing a table"
-pub data Other : Body → Type 0 where
-  state : Other Body.SystemState
-  status : (m : TradingStatus) → Other (Body.TradingStatus m)
-  trade : (m : Trade) → Other (Body.Trade m)
-  cancel : (m : TradeCancel) → Other (Body.TradeCancel m)
-
-other-by : {m : Body} → Other m → (n : ℕ) (b : List ℕ) (k : Book) → appliedBy m n b k ≡ outcome 0 k
-unfolding appliedBy
-other-by state n b k = refl
-other-by (status m) n b k = refl
-other-by (trade m) n b k = refl
-other-by (cancel m) n b k = refl
-
-pub other-four : (n : ℕ) (b : List ℕ) (k : Book) → Other (readBody b) → applied n b k ≡ outcome 0 k
-unfolding applied
-other-four n b k h = other-by h n b k
-
--- ---- an unknown symbol breaks 20, whatever the order table holds
-pub data Names : Body → ℕ → Type 0 where
-  clear : (m : SymbolClear) → Names (Body.SymbolClear m) (m .symbol)
-  add : (m : AddOrder) → Names (Body.Add m) (m .symbol)
-  modify : (m : ModifyOrder) → Names (Body.Modify m) (m .symbol)
-  delete : (m : DeleteOrder) → Names (Body.Delete m) (m .symbol)
-  execution : (m : OrderExecution) → Names (Body.Execution m) (m .symbol)
-
-unknown-on : (symbol : ℕ) (f : List ℕ → Change) (k : Book) → knownSymbol symbol (entries (k .symbols)) ≡ false → onOrders k (ofKnown symbol f) ≡ outcome 20 k
-unknown-on symbol f k u = ap (λ (c : Change). outcome (c .rule) (book (c .table) (k .symbols) (k .second))) (sym (of-unknown symbol f (k .symbols) (k .orders) u))
-
-unknown-by : {m : Body} {s : ℕ} → Names m s → (n : ℕ) (b : List ℕ) (k : Book) → knownSymbol s (entries (k .symbols)) ≡ false → appliedBy m n b k ≡ outcome 20 k
-unfolding appliedBy addRule modifyRule deleteRule executionRule clearRule
-unknown-by (clear m) n b k u = unknown-on (m .symbol) (λ t. change 0 (cleared (m .symbol) t)) k u
-unknown-by (add m) n b k u = unknown-on (m .symbol) (added (rowFor m n)) k u
-unknown-by (modify m) n b k u = unknown-on (m .symbol) (modified (m .order) (m .symbol) (m .price) (m .size) (moves (m .flags)) n) k u
-unknown-by (delete m) n b k u = unknown-on (m .symbol) (deleted (m .order) (m .symbol)) k u
-unknown-by (execution m) n b k u = unknown-on (m .symbol) (executed (m .order) (m .symbol) (m .size)) k u
-
-pub unknown-symbol : (n : ℕ) (b : List ℕ) (k : Book) (s : ℕ) → Names (readBody b) s → knownSymbol s (entries (k .symbols)) ≡ false → applied n b k ≡ outcome 20 k
-unfolding applied
-unknown-symbol n b k s h u = unknown-by h n b k u
-
--- so the symbol of one that applied was known
-pub applied-known : (n : ℕ) (b : List ℕ) (k : Book) (s : ℕ) → Names (readBody b) s → applied n b k .rule ≡ 0 → knownSymbol s (entries (k .symbols)) ≡ true
-applied-known n b k s h z = upheld (knownSymbol s (entries (k .symbols))) (λ e. omega (arith, ap (λ o. o .rule) (unknown-symbol n b k s h e)))
-
--- ---- a message on the order table that applied: its rule of orders did it all
-record Worked (f : List ℕ → Change) (k : Book) (o : Outcome) : Type 0 where
-  rule-is : f (k .orders) .rule ≡ 0
-  after-is : o .after ≡ book (f (k .orders) .table) (k .symbols) (k .second)
-
-worked : (symbol : ℕ) (f : List ℕ → Change) (k : Book) (o : Outcome) → onOrders k (ofKnown symbol f) ≡ o → o .rule ≡ 0 → Worked f k o
-unfolding ofKnown
-worked symbol f k o e z =
-    subst (λ (x : Outcome). x .rule ≡ 0 → Worked f k x) e
-    (pick-ind (λ (c : Change). c .rule ≡ 0 → Worked f k (outcome (c .rule) (book (c .table) (k .symbols) (k .second)))) (knownSymbol symbol (entries (k .symbols))) (f (k .orders)) (change 20 (k .orders))
-    (λ t r. record { rule-is = r; after-is = refl })
-    (λ t r. absurd (omega arith)))
-    z
+named-by : (order symbol : ℕ) (g : Row → Row) (t u : List ℕ) (w : RowWork) (i : ℕ) (r : Row)
+    → findOrder order (rows t) ≡ At i → r ≡ row t i → symbolOf r ≡ symbol → RowWork.Put i (g r) ≡ w → u ≡ committed w t → Named order symbol g t u
+unfolding committed
+named-by order symbol g t u w i r f q s p e =
+    subst (Named order symbol g t)
+    (sym (e ∙ ap (λ x. committed x t) (sym p) ∙ ap (λ x. committed (RowWork.Put i (g x)) t) q))
+    (put-named order symbol g t i f (ap symbolOf (sym q) ∙ s))
 
 -- ---- Add
 module _ (m : AddOrder) (n : ℕ) where
@@ -182,28 +98,45 @@ module _ (m : AddOrder) (n : ℕ) where
         size-top = rw e (omega (arith, field-below b y 26 4));
       })
 
-  module _ (b : List ℕ) (k : Book) (e : readBody b ≡ Body.Add m) (z : applied n b k .rule ≡ 0) where
-    done-add : Worked (added (rowFor m n)) k (applied n b k)
-    unfolding appliedBy addRule
-    done-add = worked (m .symbol) (added (rowFor m n)) k (applied n b k) (applied-by (Body.Add m) n b k e) z
+  module _ (b : List ℕ) (k : Book) (e : readBody b ≡ Body.Add m) where
+    -- it applies where its symbol is known, its order ID is not live and a row is free
+    pub add-applies : (x y : ℕ) → findSymbol (m .symbol) (entries (k .symbols)) ≡ At x → findOrder (m .order) (rows (k .orders)) ≡ Nothing → findFree (rows (k .orders)) ≡ At y → applied n b k .rule ≡ 0
+    unfolding planBy addPlan ofKnown roomFor heldAt carried
+    add-applies x y s o f =
+        let p : planned n b k ≡ onRows (k .clock) (RowWork.Put y (rowFor m n)) = sym (planned-by (Body.Add m) n b k e) ∙ rw (s, o, f) refl in
+        ap (λ q. q .rule) (sym (carried-by (onRows (k .clock) (RowWork.Put y (rowFor m n))) n b k p))
 
-    pub add-entered : Added (rowFor m n) (k .orders) (applied n b k .after .orders)
-    add-entered = rw (done-add .after-is) (add-applies (rowFor m n) (k .orders) (done-add .rule-is))
+    module _ (z : applied n b k .rule ≡ 0) where
+      pub add-entered : Added (rowFor m n) (k .orders) (applied n b k .after .orders)
+      unfolding planBy addPlan committed rowFor
+      add-entered =
+          let d = done (Body.Add m) n b k e z in
+          let t = k .orders in
+          let g = goes-known (findSymbol (m .symbol) (entries (k .symbols))) (roomFor (k .clock) (rowFor m n) (orderIn (m .order) t) (findFree (rows t))) (d .does) (d .plan-is) in
+          let r = goes-room (k .clock) (rowFor m n) (orderIn (m .order) t) (findFree (rows t)) (d .does) (g .1) in
+          let j = r .1 .0 in
+          subst (Added (rowFor m n) t) (sym (d .orders-are ∙ ap (λ (x : Works). committed (x .orders) t) (sym (r .1 .2))))
+          (put-added (rowFor m n) t j (held-nowhere (findOrder (m .order) (rows t)) (rows t) (r .0)) (r .1 .1))
 
-    pub add-live : Bytes b → 1 ≤ n → live (row (applied n b k .after .orders) (add-entered .place)) ≡ true
-    add-live y l = ap live (add-entered .became .here) ∙ row-live b y l (rw e at (read-sound b))
+      pub add-live : Bytes b → 1 ≤ n → live (row (applied n b k .after .orders) (add-entered .place)) ≡ true
+      add-live y l = ap live (add-entered .became .here) ∙ row-live b y l (rw e at (read-sound b))
 
-    pub add-rank : row (applied n b k .after .orders) (add-entered .place) .rank ≡ n
-    unfolding rowFor
-    add-rank = ap (λ r. r .rank) (add-entered .became .here)
+      pub add-rank : row (applied n b k .after .orders) (add-entered .place) .rank ≡ n
+      unfolding rowFor
+      add-rank = ap (λ r. r .rank) (add-entered .became .here)
 
 -- ---- Modify
 module _ (m : ModifyOrder) (n : ℕ) (b : List ℕ) (k : Book) (e : readBody b ≡ Body.Modify m) (z : applied n b k .rule ≡ 0) where
   pub modify-done : Named (m .order) (m .symbol) (remade (m .price) (m .size) (moves (m .flags)) n) (k .orders) (applied n b k .after .orders)
-  unfolding appliedBy modifyRule
+  unfolding planBy modifyPlan
   modify-done =
-      let w = worked (m .symbol) (modified (m .order) (m .symbol) (m .price) (m .size) (moves (m .flags)) n) k (applied n b k) (applied-by (Body.Modify m) n b k e) z in
-      rw (w .after-is) (modify-applies (m .order) (m .symbol) (m .price) (m .size) (moves (m .flags)) n (k .orders) (w .rule-is))
+      let d = done (Body.Modify m) n b k e z in
+      let t = k .orders in
+      let g = goes-known (findSymbol (m .symbol) (entries (k .symbols))) (upon (target (orderIn (m .order) t) (m .symbol)) (modified (k .clock) m n)) (d .does) (d .plan-is) in
+      let x = goes-owned (orderIn (m .order) t) (m .symbol) (modified (k .clock) m n) (d .does) (g .1) in
+      let q = owner (m .order) (m .symbol) k (Go (d .does)) (modified (k .clock) m n) x in
+      let y : works (k .clock) (RowWork.Put (x .place) (remade (m .price) (m .size) (moves (m .flags)) n (x .held))) EntryWork.Keep ≡ d .does = cc (x .goes) in
+      named-by (m .order) (m .symbol) (remade (m .price) (m .size) (moves (m .flags)) n) t (applied n b k .after .orders) (d .does .orders) (x .place) (x .held) (q .0) (q .1) (x .under) (ap (λ (o : Works). o .orders) y) (d .orders-are)
 
   modify-made : Remade (row (k .orders) (modify-done .place)) (row (applied n b k .after .orders) (modify-done .place)) (m .price) (m .size) (moves (m .flags)) n
   modify-made = modify-row (m .order) (m .symbol) (m .price) (m .size) (moves (m .flags)) n (k .orders) (applied n b k .after .orders) modify-done
@@ -231,10 +164,15 @@ module _ (m : ModifyOrder) (n : ℕ) (b : List ℕ) (k : Book) (e : readBody b �
 -- ---- Delete: the row becomes free
 module _ (m : DeleteOrder) (n : ℕ) (b : List ℕ) (k : Book) (e : readBody b ≡ Body.Delete m) (z : applied n b k .rule ≡ 0) where
   pub delete-done : Named (m .order) (m .symbol) (λ r. zeroRow) (k .orders) (applied n b k .after .orders)
-  unfolding appliedBy deleteRule
+  unfolding planBy deletePlan
   delete-done =
-      let w = worked (m .symbol) (deleted (m .order) (m .symbol)) k (applied n b k) (applied-by (Body.Delete m) n b k e) z in
-      rw (w .after-is) (delete-applies (m .order) (m .symbol) (k .orders) (w .rule-is))
+      let d = done (Body.Delete m) n b k e z in
+      let t = k .orders in
+      let g = goes-known (findSymbol (m .symbol) (entries (k .symbols))) (upon (target (orderIn (m .order) t) (m .symbol)) (deleted (k .clock))) (d .does) (d .plan-is) in
+      let x = goes-owned (orderIn (m .order) t) (m .symbol) (deleted (k .clock)) (d .does) (g .1) in
+      let q = owner (m .order) (m .symbol) k (Go (d .does)) (deleted (k .clock)) x in
+      let y : works (k .clock) (RowWork.Put (x .place) zeroRow) EntryWork.Keep ≡ d .does = cc (x .goes) in
+      named-by (m .order) (m .symbol) (λ r. zeroRow) t (applied n b k .after .orders) (d .does .orders) (x .place) (x .held) (q .0) (q .1) (x .under) (ap (λ (o : Works). o .orders) y) (d .orders-are)
 
   pub delete-frees : free (row (applied n b k .after .orders) (delete-done .place)) ≡ true
   delete-frees = gone-free (m .order) (m .symbol) (λ r. zeroRow) (k .orders) (applied n b k .after .orders) delete-done refl
@@ -242,10 +180,18 @@ module _ (m : DeleteOrder) (n : ℕ) (b : List ℕ) (k : Book) (e : readBody b �
 -- ---- Order Execution
 module _ (m : OrderExecution) (n : ℕ) (b : List ℕ) (k : Book) (e : readBody b ≡ Body.Execution m) (z : applied n b k .rule ≡ 0) where
   execution-both : (d : Named (m .order) (m .symbol) (reduced (m .size)) (k .orders) (applied n b k .after .orders)) × (m .size ≤ row (k .orders) (d .place) .size)
-  unfolding appliedBy executionRule
+  unfolding planBy executionPlan
   execution-both =
-      let w = worked (m .symbol) (executed (m .order) (m .symbol) (m .size)) k (applied n b k) (applied-by (Body.Execution m) n b k e) z in
-      rw (w .after-is) (execute-applies (m .order) (m .symbol) (m .size) (k .orders) (w .rule-is))
+      let d = done (Body.Execution m) n b k e z in
+      let t = k .orders in
+      let g = goes-known (findSymbol (m .symbol) (entries (k .symbols))) (upon (target (orderIn (m .order) t) (m .symbol)) (executed (k .clock) m)) (d .does) (d .plan-is) in
+      let x = goes-owned (orderIn (m .order) t) (m .symbol) (executed (k .clock) m) (d .does) (g .1) in
+      let q = owner (m .order) (m .symbol) k (Go (d .does)) (executed (k .clock) m) x in
+      let y = goes-executed (k .clock) m (x .place) (x .held) (d .does) (x .goes) in
+      let v = named-by (m .order) (m .symbol) (reduced (m .size)) t (applied n b k .after .orders) (d .does .orders) (x .place) (x .held) (q .0) (q .1) (x .under) (ap (λ (o : Works). o .orders) (y .1)) (d .orders-are) in
+      let i : v .place ≡ x .place = cc (v .lowest-live, q .0) in
+      let j : x .held ≡ row t (v .place) = q .1 ∙ ap (row t) (sym i) in
+      (v, rw (← j) (y .0))
 
   pub execution-done : Named (m .order) (m .symbol) (reduced (m .size)) (k .orders) (applied n b k .after .orders)
   execution-done = execution-both .0
@@ -268,9 +214,13 @@ module _ (m : OrderExecution) (n : ℕ) (b : List ℕ) (k : Book) (e : readBody 
 
 -- ---- Symbol Clear: no live row of the symbol is left, and every other row is as it was
 module _ (m : SymbolClear) (n : ℕ) (b : List ℕ) (k : Book) (e : readBody b ≡ Body.SymbolClear m) (z : applied n b k .rule ≡ 0) where
-  clear-done : applied n b k .after ≡ book (cleared (m .symbol) (k .orders)) (k .symbols) (k .second)
-  unfolding appliedBy clearRule
-  clear-done = worked (m .symbol) (λ t. change 0 (cleared (m .symbol) t)) k (applied n b k) (applied-by (Body.SymbolClear m) n b k e) z .after-is
+  pub clear-done : applied n b k .after .orders ≡ cleared (m .symbol) (k .orders)
+  unfolding planBy clearPlan committed
+  clear-done =
+      let d = done (Body.SymbolClear m) n b k e z in
+      let g = goes-known (findSymbol (m .symbol) (entries (k .symbols))) (onRows (k .clock) (RowWork.Clear (m .symbol))) (d .does) (d .plan-is) in
+      let y : works (k .clock) (RowWork.Clear (m .symbol)) EntryWork.Keep ≡ d .does = cc (g .1) in
+      d .orders-are ∙ ap (λ (o : Works). committed (o .orders) (k .orders)) (sym y)
 
   pub clear-none : (j : ℕ) → ofSymbol (m .symbol) (row (applied n b k .after .orders) j) ≡ false
   clear-none j = rw clear-done (clear-gone (m .symbol) (k .orders) j)
@@ -279,25 +229,89 @@ module _ (m : SymbolClear) (n : ℕ) (b : List ℕ) (k : Book) (e : readBody b �
   clear-rest j h = rw clear-done (clear-kept (m .symbol) (k .orders) j h)
 
 -- ---- Symbol Update: its symbol is known afterwards, and so is each that was
-number-done : (a : Updated) → numberOf a ≡ 0 → a ≡ Updated.Done
-number-done Updated.Done e = refl
-number-done Updated.Full e = absurd (omega arith)
+-- its type byte marks an entry in use
+update-used : (b : List ℕ) → readBody b ≡ Body.SymbolUpdate → used b ≡ true
+unfolding used
+update-used b e = let w = rw e at (read-sound b) in eq-eqb (getD b 0 0) 1 (w .0 .type-is)
 
-module _ (n : ℕ) (b : List ℕ) (k : Book) (e : readBody b ≡ Body.SymbolUpdate) where
-  is-used : used b ≡ true
-  is-used = update-used b (rw e at (read-sound b))
+module _ (n : ℕ) (b : List ℕ) (k : Book) (e : readBody b ≡ Body.SymbolUpdate) (z : applied n b k .rule ≡ 0) where
+  pub record Updated : Type 0 where
+    pub place : ℕ
+    pub found : placeFor (idOf b) (entries (k .symbols)) ≡ At place
+    pub table-is : applied n b k .after .symbols ≡ putEntry (k .symbols) place b
 
-  update-is : outcome (numberOf (updated b (entries (k .symbols)) .answer)) (book (k .orders) (onEntries (updated b) (k .symbols) .table) (k .second)) ≡ applied n b k
-  unfolding appliedBy symbolRule
-  update-is = rw (← on-table b (k .symbols) .answer-is) (applied-by Body.SymbolUpdate n b k e)
+  pub update-done : Updated
+  unfolding planBy entered
+  update-done =
+      let d = done Body.SymbolUpdate n b k e z in
+      let g = goes-update (k .clock) (placeFor (idOf b) (entries (k .symbols))) (d .does) (d .plan-is) in
+      record { place = g .0; found = g .1; table-is = d .symbols-are ∙ ap (λ (o : Works). entered (o .symbols) b (k .symbols)) (sym (g .2)) }
 
-  update-entries : entries (applied n b k .after .symbols) ≡ updated b (entries (k .symbols)) .after
-  update-entries = rw (← update-is) (on-table b (k .symbols) .entries-are)
+  abbrev w : Updated
+  w = update-done
 
-  pub update-known : applied n b k .rule ≡ 0 → knownSymbol (idOf b) (entries (applied n b k .after .symbols)) ≡ true
-  update-known z =
-      rw update-entries
-      (known-after b (entries (k .symbols)) is-used (number-done (updated b (entries (k .symbols)) .answer) (ap (λ o. o .rule) update-is ∙ z)))
+  pub update-known : knownSymbol (idOf b) (entries (applied n b k .after .symbols)) ≡ true
+  update-known = rw (w .table-is, entries-put (k .symbols) (w .place) b) (known-after b (entries (k .symbols)) (w .place) (w .found) (update-used b e))
 
   pub update-stays : (s : ℕ) → knownSymbol s (entries (k .symbols)) ≡ true → knownSymbol s (entries (applied n b k .after .symbols)) ≡ true
-  update-stays s h = rw update-entries (known-stays b (entries (k .symbols)) s is-used h)
+  update-stays s h = rw (w .table-is, entries-put (k .symbols) (w .place) b) (known-stays b (entries (k .symbols)) (w .place) (w .found) (update-used b e) s h)
+
+  update-distinct : Distinct (entries (k .symbols)) → Distinct (entries (applied n b k .after .symbols))
+  update-distinct d = rw (w .table-is, entries-put (k .symbols) (w .place) b) (distinct-kept b (entries (k .symbols)) (w .place) (w .found) (update-used b e) d)
+
+-- ---- live order IDs and used symbols stay unique
+pub record Single (k : Book) : Type 0 where
+  pub orders : Unique (rows (k .orders))
+  pub symbols : Distinct (entries (k .symbols))
+
+-- a start zeroes both tables
+pub zero-single : (n m : ℕ) (c : Clock) → Single (book (replicate n 0) (replicate m 0) c)
+zero-single n m c = record { orders = zero-unique n; symbols = wiped-distinct m }
+
+module _ (n : ℕ) (b : List ℕ) (k : Book) where
+  unique-by : (m : Body) (s : ℕ) → Names m s → readBody b ≡ m → applied n b k .rule ≡ 0 → Unique (rows (k .orders)) → Unique (rows (applied n b k .after .orders))
+  unique-by (Body.SymbolClear m) s h e z v = rw (clear-done m n b k e z) (clear-unique (k .orders) v (m .symbol))
+  unique-by (Body.Add m) s h e z v = add-unique (k .orders) v (rowFor m n) (applied n b k .after .orders) (add-entered m n b k e z)
+  unique-by (Body.Modify m) s h e z v = modify-unique (k .orders) v (m .order) (m .symbol) (m .price) (m .size) (moves (m .flags)) n (applied n b k .after .orders) (modify-done m n b k e z)
+  unique-by (Body.Delete m) s h e z v = delete-unique (k .orders) v (m .order) (m .symbol) (applied n b k .after .orders) (delete-done m n b k e z)
+  unique-by (Body.Execution m) s h e z v = execute-unique (k .orders) v (m .order) (m .symbol) (m .size) (applied n b k .after .orders) (execution-done m n b k e z)
+
+  -- every message keeps both, whatever its bytes
+  pub single-kept : Single k → Single (applied n b k .after)
+  single-kept h = go (ℕ-discrete (applied n b k .rule) 0)
+    where
+      go : Dec (applied n b k .rule ≡ 0) → Single (applied n b k .after)
+      go (yes z) =
+          record {
+            orders = ⊎-elim (λ x. unique-by (readBody b) (x .0) (x .1) refl z (h .orders)) (λ e. rw e (h .orders)) (orders-kept n b k);
+            symbols = ⊎-elim (λ e. update-distinct n b k e z (h .symbols)) (λ e. rw e (h .symbols)) (symbols-kept n b k);
+          }
+      go (no x) = rw (broken-keeps n b k x) h
+
+  -- a known symbol stays known, whatever the message
+  pub symbol-stays : (s : ℕ) → knownSymbol s (entries (k .symbols)) ≡ true → knownSymbol s (entries (applied n b k .after .symbols)) ≡ true
+  symbol-stays s h = go (ℕ-discrete (applied n b k .rule) 0)
+    where
+      go : Dec (applied n b k .rule ≡ 0) → knownSymbol s (entries (applied n b k .after .symbols)) ≡ true
+      go (yes z) = ⊎-elim (λ e. update-stays n b k e z s h) (λ e. rw e h) (symbols-kept n b k)
+      go (no x) = rw (broken-keeps n b k x) h
+
+-- ---- a returning order ID is no repeat: after a Delete, or an execution of all shares, an Add of that ID applies
+module _ (k : Book) (v : Single k) (a : AddOrder) (n : ℕ) (b : List ℕ) (e : readBody b ≡ Body.Add a) where
+  again : (order symbol : ℕ) (f : Row → Row) (u : Book) (d : Named order symbol f (k .orders) (u .orders)) → f (row (k .orders) (d .place)) ≡ zeroRow
+      → a .order ≡ order → knownSymbol (a .symbol) (entries (u .symbols)) ≡ true → applied n b u .rule ≡ 0
+  again order symbol f u d g o s =
+      let w = known-found (a .symbol) (entries (u .symbols)) s in
+      let r = room-again order symbol f (k .orders) (u .orders) d g in
+      add-applies a n b u e (w .place) (r .0) (w .found) (rw o (gone-nowhere order symbol f (k .orders) (u .orders) d g (v .orders))) (r .1)
+
+  module _ (n′ : ℕ) (b′ : List ℕ) (z : applied n′ b′ k .rule ≡ 0) where
+    pub add-after-delete : (m : DeleteOrder) → readBody b′ ≡ Body.Delete m → a .order ≡ m .order → knownSymbol (a .symbol) (entries (applied n′ b′ k .after .symbols)) ≡ true
+        → applied n b (applied n′ b′ k .after) .rule ≡ 0
+    add-after-delete m e′ o s = again (m .order) (m .symbol) (λ r. zeroRow) (applied n′ b′ k .after) (delete-done m n′ b′ k e′ z) refl o s
+
+    pub add-after-execution : (m : OrderExecution) (e′ : readBody b′ ≡ Body.Execution m) → row (k .orders) (execution-done m n′ b′ k e′ z .place) .size ≡ m .size → a .order ≡ m .order
+        → knownSymbol (a .symbol) (entries (applied n′ b′ k .after .symbols)) ≡ true → applied n b (applied n′ b′ k .after) .rule ≡ 0
+    add-after-execution m e′ f o s =
+        let d = execution-done m n′ b′ k e′ z in
+        again (m .order) (m .symbol) (reduced (m .size)) (applied n′ b′ k .after) d (all-executed (m .order) (m .symbol) (m .size) (k .orders) (applied n′ b′ k .after .orders) d f) o s

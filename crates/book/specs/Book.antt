@@ -1,19 +1,26 @@
--- A book: the two lent tables and the second; and what a message makes of it.
+-- A book: the two lent tables and what it has by value; and what a message makes of it.
 use Prim.Native.Nat.{ℕ}
 use mathlib.Core.List.{List}
-use Rattle.fields.specs.declared.Body.{Body}
 use Rattle.body.specs.Read.{readBody}
-use Rattle.orders.specs.Rules.{Change}
-use Rattle.book.specs.Rules.{addRule, modifyRule, deleteRule, executionRule, clearRule, symbolRule}
+use Rattle.rows.specs.declared.Held.{Held}
+use Rattle.rows.specs.Rows.{rows}
+use Rattle.rows.specs.Find.{findOrder, findFree, heldAt}
+use Rattle.symbols.specs.Entries.{entries}
+use Rattle.symbols.specs.Find.{findSymbol, placeFor}
+use Rattle.symbols.specs.Work.{entered}
+use Rattle.orders.specs.Work.{committed}
+use Rattle.book.specs.declared.Clock.{Clock}
+use Rattle.book.specs.declared.Plan.{Plan}
+use Rattle.book.specs.Plan.{Finds, planBy}
 
 -- what messages change
 pub record Book : Type 0 where
   pub orders : List ℕ
   pub symbols : List ℕ
-  pub second : ℕ
+  pub clock : Clock
 
-abbrev pub book : List ℕ → List ℕ → ℕ → Book
-book o s c = record { orders = o; symbols = s; second = c }
+abbrev pub book : List ℕ → List ℕ → Clock → Book
+book o s c = record { orders = o; symbols = s; clock = c }
 
 -- the rule that a message breaks, 0 for none, and the book after it
 pub record Outcome : Type 0 where
@@ -23,35 +30,27 @@ pub record Outcome : Type 0 where
 abbrev pub outcome : ℕ → Book → Outcome
 outcome n k = record { rule = n; after = k }
 
--- a rule on the order table
-abbrev pub onOrders : Book → (List ℕ → List ℕ → Change) → Outcome
-onOrders k f = let c : Change = f (k .symbols) (k .orders) in outcome (c .rule) (book (c .table) (k .symbols) (k .second))
+-- "a search for an ID taking the lowest live row or used entry"
+abbrev pub orderIn : ℕ → List ℕ → Held
+orderIn id t = heldAt (findOrder id (rows t)) (rows t)
 
--- a rule on the symbol table
-abbrev pub onSymbols : Book → (List ℕ → Change) → Outcome
-onSymbols k f = let c : Change = f (k .symbols) in outcome (c .rule) (book (k .orders) (c .table) (k .second))
+abbrev pub scans : Book → Finds
+scans k =
+    record {
+      order = λ id. orderIn id (k .orders);
+      free = findFree (rows (k .orders));
+      entry = λ id. findSymbol id (entries (k .symbols));
+      room = λ id. placeFor id (entries (k .symbols));
+    }
 
 -- a message, its number and its bytes
-unfoldable pub appliedBy : Body → ℕ → List ℕ → Book → Outcome
--- "System Time sets the current second"
-appliedBy (Body.SystemTime s) n b k = outcome 0 (book (k .orders) (k .symbols) s)
-appliedBy Body.SymbolUpdate n b k = onSymbols k (symbolRule b)
-appliedBy (Body.SymbolClear m) n b k = onOrders k (clearRule m)
-appliedBy (Body.Add m) n b k = onOrders k (addRule m n)
-appliedBy (Body.Modify m) n b k = onOrders k (modifyRule m n)
-appliedBy (Body.Delete m) n b k = onOrders k (deleteRule m)
-appliedBy (Body.Execution m) n b k = onOrders k (executionRule m)
--- "The other four apply without changing a table"
-appliedBy Body.SystemState n b k = outcome 0 k
-appliedBy (Body.TradingStatus m) n b k = outcome 0 k
-appliedBy (Body.Trade m) n b k = outcome 0 k
-appliedBy (Body.TradeCancel m) n b k = outcome 0 k
--- "no good body stops with 27"
-appliedBy (Body.Refused r) n b k = outcome 27 k
+unfoldable pub planned : ℕ → List ℕ → Book → Plan
+planned n b k = planBy (readBody b) n b (k .clock) (scans k)
+
+-- a broken rule changes nothing; else each table is left by its own work
+unfoldable pub carried : Plan → List ℕ → Book → Outcome
+carried (Plan.Stop n) b k = outcome n k
+carried (Plan.Go w) b k = outcome 0 (book (committed (w .orders) (k .orders)) (entered (w .symbols) b (k .symbols)) (w .clock))
 
 unfoldable pub applied : ℕ → List ℕ → Book → Outcome
-applied n b k = appliedBy (readBody b) n b k
-
--- "the rule that its message breaks": neither the message's number nor the second has a say in it (rule-any of proofs/Steps.antt)
-unfoldable pub ruleOf : List ℕ → List ℕ → List ℕ → ℕ
-ruleOf b o s = applied 0 b (book o s 0) .rule
+applied n b k = carried (planned n b k) b k

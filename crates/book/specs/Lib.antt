@@ -1,3 +1,2 @@
-pub mod Rules
+pub mod Plan
 pub mod Book
-pub mod Stops

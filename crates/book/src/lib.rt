@@ -1,5 +1,6 @@
-// One message applied to the lent tables and the second, or the rule that it breaks, with nothing changed. Each kind of message has a
-// function of its own. Every function answers for tables of any length and content; sizes are judged by those who lend them (6).
+// One message applied to a book, or the rule that it breaks, with nothing changed. A message is planned first: each kind has one function from
+// what the searches found to a plan by value. Then the plan is committed, by one call a table. Every function answers for tables of any length
+// and content; sizes are judged by those who lend them (6).
 use facts::Found;
 use fields::AddOrder;
 use fields::Body;
@@ -7,19 +8,46 @@ use fields::DeleteOrder;
 use fields::ModifyOrder;
 use fields::OrderExecution;
 use fields::SymbolClear;
-use orders::Target;
+use orders::RowWork;
+use rows::Held;
 use rows::Row;
-use symbols::Updated;
+use symbols::EntryWork;
 ghost use mathlib.Core.Path.{_≡_};
-ghost use Rattle.orders.specs.Rules.{change};
-ghost use Rattle.book.specs.Rules.{sideOf, moves, rowFor, addRule, modifyRule, deleteRule, executionRule, clearRule, symbolRule};
-ghost use Rattle.book.specs.Book.{book, outcome, applied, ruleOf};
-ghost use Rattle.book.specs.Stops.{ruleIn, addStops, orderStops, executionStops, clearStops, symbolStops};
+ghost use Rattle.rows.specs.Rows.{rows};
+ghost use Rattle.rows.specs.Find.{findFree};
+ghost use Rattle.symbols.specs.Entries.{entries, idOf};
+ghost use Rattle.symbols.specs.Find.{findSymbol, placeFor};
+ghost use Rattle.book.specs.Plan.{sideOf, moves, rowFor, onRows, idle, ofKnown, target, roomFor, addPlan, modifyPlan, deletePlan, executionPlan, clearPlan, updatePlan};
+ghost use Rattle.book.specs.Book.{orderIn, book, outcome, planned, applied};
 
-// What became of a message: the rule that it breaks, 0 where it applied, and the second after it.
+// What a book has by value: the current second.
+pub struct Clock {
+    pub second: u32,
+}
+
+// What a message does: the clock after it, and the work on each table.
+pub struct Works {
+    pub clock: Clock,
+    pub orders: RowWork,
+    pub symbols: EntryWork,
+}
+
+// The rule that a message breaks, or what it does.
+pub enum Plan {
+    Stop(u8),
+    Go(Works),
+}
+
+// The row that a message names, or the rule that it breaks.
+pub enum Target {
+    Order(usize, Row),
+    Rule(u8),
+}
+
+// What became of a message: the rule that it breaks, 0 where it applied, and the clock after it.
 pub struct Applied {
     pub rule: u8,
-    pub second: u32,
+    pub clock: Clock,
 }
 
 fn side_of(x: u8) -> u64
@@ -48,67 +76,195 @@ pub fn row_for(m: AddOrder, number: u64) -> Row
     }
 }
 
-pub fn add_rule(orders: &mut [u64], symbols: &[u8], m: AddOrder, number: u64) -> u8
-    ensures { λ r. ⌜ change r (now (orders .exit)) ≡ addRule m number (now (symbols .entry)) (now (orders .entry)) ⌝ }
+// Work on the order table alone.
+fn on_rows(clock: Clock, w: RowWork) -> Plan
+    ensures { λ r. ⌜ r ≡ onRows clock w ⌝ }
 {
-    if !symbols::known(symbols, m.symbol) {
-        return 20;
-    }
-    orders::add(orders, row_for(m, number))
+    Plan::Go(Works {
+        clock,
+        orders: w,
+        symbols: EntryWork::Keep,
+    })
 }
 
-pub fn modify_rule(orders: &mut [u64], symbols: &[u8], m: ModifyOrder, number: u64) -> u8
-    ensures { λ r. ⌜ change r (now (orders .exit)) ≡ modifyRule m number (now (symbols .entry)) (now (orders .entry)) ⌝ }
+// Work on no table.
+fn at_rest(clock: Clock) -> Plan
+    ensures { λ r. ⌜ r ≡ idle clock ⌝ }
 {
-    if !symbols::known(symbols, m.symbol) {
-        return 20;
-    }
-    let moved = loses_place(m.flags);
-    orders::modify(
-        orders,
-        m.order,
-        m.symbol as u64,
-        m.price,
-        m.size as u64,
-        moved,
-        number,
-    )
+    on_rows(clock, RowWork::Keep)
 }
 
-pub fn delete_rule(orders: &mut [u64], symbols: &[u8], m: DeleteOrder) -> u8
-    ensures { λ r. ⌜ change r (now (orders .exit)) ≡ deleteRule m (now (symbols .entry)) (now (orders .entry)) ⌝ }
+// 20, before whatever else a message breaks or does.
+fn of_known(entry: Found, p: Plan) -> Plan
+    ensures { λ r. ⌜ r ≡ ofKnown entry p ⌝ }
 {
-    if !symbols::known(symbols, m.symbol) {
-        return 20;
+    match entry {
+        Found::At(_) => p,
+        Found::Nothing => Plan::Stop(20),
     }
-    orders::delete(orders, m.order, m.symbol as u64)
 }
 
-pub fn execution_rule(orders: &mut [u64], symbols: &[u8], m: OrderExecution) -> u8
-    ensures { λ r. ⌜ change r (now (orders .exit)) ≡ executionRule m (now (symbols .entry)) (now (orders .entry)) ⌝ }
+// 22, 23.
+fn target_of(order: Held, symbol: u32) -> Target
+    ensures { λ r. ⌜ r ≡ target order symbol ⌝ }
 {
-    if !symbols::known(symbols, m.symbol) {
-        return 20;
+    let Held::Live(i, r) = order else {
+        return Target::Rule(22);
+    };
+    if r.key / 2 != symbol as u64 {
+        return Target::Rule(23);
     }
-    orders::execute(orders, m.order, m.symbol as u64, m.size as u64)
+    Target::Order(i, r)
 }
 
-pub fn clear_rule(orders: &mut [u64], symbols: &[u8], m: SymbolClear) -> u8
-    ensures { λ r. ⌜ change r (now (orders .exit)) ≡ clearRule m (now (symbols .entry)) (now (orders .entry)) ⌝ }
+// 21, 25.
+fn room_for(clock: Clock, new: Row, order: Held, free: Found) -> Plan
+    ensures { λ r. ⌜ r ≡ roomFor clock new order free ⌝ }
 {
-    if !symbols::known(symbols, m.symbol) {
-        return 20;
-    }
-    orders::clear(orders, m.symbol as u64);
-    0
+    let Held::Nowhere = order else {
+        return Plan::Stop(21);
+    };
+    let Found::At(j) = free else {
+        return Plan::Stop(25);
+    };
+    on_rows(clock, RowWork::Put(j, new))
 }
 
-pub fn symbol_rule(symbols: &mut [u8], body: &[u8]) -> u8
-    ensures { λ r. ⌜ change r (now (symbols .exit)) ≡ symbolRule (now (body .entry)) (now (symbols .entry)) ⌝ }
+pub fn add_plan(
+    clock: Clock,
+    m: AddOrder,
+    number: u64,
+    entry: Found,
+    order: Held,
+    free: Found,
+) -> Plan
+    ensures { λ r. ⌜ r ≡ addPlan clock m number entry order free ⌝ }
 {
-    match symbols::update(symbols, body) {
-        Updated::Done => 0,
-        Updated::Full => 26,
+    of_known(entry, room_for(clock, row_for(m, number), order, free))
+}
+
+pub fn modify_plan(clock: Clock, m: ModifyOrder, number: u64, entry: Found, order: Held) -> Plan
+    ensures { λ r. ⌜ r ≡ modifyPlan clock m number entry order ⌝ }
+{
+    match target_of(order, m.symbol) {
+        Target::Rule(n) => of_known(entry, Plan::Stop(n)),
+        Target::Order(i, r) => {
+            let moved = loses_place(m.flags);
+            let new = orders::remake(r, m.price, m.size as u64, moved, number);
+            of_known(entry, on_rows(clock, RowWork::Put(i, new)))
+        }
+    }
+}
+
+pub fn delete_plan(clock: Clock, m: DeleteOrder, entry: Found, order: Held) -> Plan
+    ensures { λ r. ⌜ r ≡ deletePlan clock m entry order ⌝ }
+{
+    match target_of(order, m.symbol) {
+        Target::Rule(n) => of_known(entry, Plan::Stop(n)),
+        Target::Order(i, _) => of_known(entry, on_rows(clock, RowWork::Put(i, rows::zero_row()))),
+    }
+}
+
+pub fn execution_plan(clock: Clock, m: OrderExecution, entry: Found, order: Held) -> Plan
+    ensures { λ r. ⌜ r ≡ executionPlan clock m entry order ⌝ }
+{
+    match target_of(order, m.symbol) {
+        Target::Rule(n) => of_known(entry, Plan::Stop(n)),
+        Target::Order(i, r) => {
+            if r.size < m.size as u64 {
+                return of_known(entry, Plan::Stop(24));
+            }
+            let new = orders::reduce(r, m.size as u64);
+            of_known(entry, on_rows(clock, RowWork::Put(i, new)))
+        }
+    }
+}
+
+pub fn clear_plan(clock: Clock, m: SymbolClear, entry: Found) -> Plan
+    ensures { λ r. ⌜ r ≡ clearPlan clock m entry ⌝ }
+{
+    of_known(entry, on_rows(clock, RowWork::Clear(m.symbol)))
+}
+
+// 26.
+pub fn update_plan(clock: Clock, place: Found) -> Plan
+    ensures { λ r. ⌜ r ≡ updatePlan clock place ⌝ }
+{
+    match place {
+        Found::At(i) => Plan::Go(Works {
+            clock,
+            orders: RowWork::Keep,
+            symbols: EntryWork::Put(i),
+        }),
+        Found::Nothing => Plan::Stop(26),
+    }
+}
+
+// The order that stands under an ID.
+fn order_in(orders: &[u64], id: u64) -> Held
+    ensures { λ r. ⌜ r ≡ orderIn id (now (orders .entry)) ⌝ }
+{
+    rows::held_at(orders, rows::find_order(orders, id))
+}
+
+fn on_add(orders: &[u64], symbols: &[u8], clock: Clock, m: AddOrder, number: u64) -> Plan
+    ensures { λ r. ⌜ r ≡ addPlan clock m number (findSymbol (m .symbol) (entries (now (symbols .entry)))) (orderIn (m .order) (now (orders .entry))) (findFree (rows (now (orders .entry)))) ⌝ }
+{
+    let entry = symbols::find_symbol(symbols, m.symbol);
+    let order = order_in(orders, m.order);
+    add_plan(clock, m, number, entry, order, rows::find_free(orders))
+}
+
+fn on_modify(orders: &[u64], symbols: &[u8], clock: Clock, m: ModifyOrder, number: u64) -> Plan
+    ensures { λ r. ⌜ r ≡ modifyPlan clock m number (findSymbol (m .symbol) (entries (now (symbols .entry)))) (orderIn (m .order) (now (orders .entry))) ⌝ }
+{
+    let entry = symbols::find_symbol(symbols, m.symbol);
+    modify_plan(clock, m, number, entry, order_in(orders, m.order))
+}
+
+fn on_delete(orders: &[u64], symbols: &[u8], clock: Clock, m: DeleteOrder) -> Plan
+    ensures { λ r. ⌜ r ≡ deletePlan clock m (findSymbol (m .symbol) (entries (now (symbols .entry)))) (orderIn (m .order) (now (orders .entry))) ⌝ }
+{
+    let entry = symbols::find_symbol(symbols, m.symbol);
+    delete_plan(clock, m, entry, order_in(orders, m.order))
+}
+
+fn on_execution(orders: &[u64], symbols: &[u8], clock: Clock, m: OrderExecution) -> Plan
+    ensures { λ r. ⌜ r ≡ executionPlan clock m (findSymbol (m .symbol) (entries (now (symbols .entry)))) (orderIn (m .order) (now (orders .entry))) ⌝ }
+{
+    let entry = symbols::find_symbol(symbols, m.symbol);
+    execution_plan(clock, m, entry, order_in(orders, m.order))
+}
+
+fn on_clear(symbols: &[u8], clock: Clock, m: SymbolClear) -> Plan
+    ensures { λ r. ⌜ r ≡ clearPlan clock m (findSymbol (m .symbol) (entries (now (symbols .entry)))) ⌝ }
+{
+    clear_plan(clock, m, symbols::find_symbol(symbols, m.symbol))
+}
+
+fn on_update(symbols: &[u8], clock: Clock, body: &[u8]) -> Plan
+    ensures { λ r. ⌜ r ≡ updatePlan clock (placeFor (idOf (now (body .entry))) (entries (now (symbols .entry)))) ⌝ }
+{
+    update_plan(clock, symbols::find_place(symbols, wire::u32_at(body, 5)))
+}
+
+// The plan of a message, by its number and its body; nothing is changed.
+pub fn plan_of(orders: &[u64], symbols: &[u8], clock: Clock, number: u64, body: &[u8]) -> Plan
+    ensures { λ r. ⌜ r ≡ planned number (now (body .entry)) (book (now (orders .entry)) (now (symbols .entry)) clock) ⌝ }
+{
+    match body::read_body(body) {
+        Body::SystemTime(second) => at_rest(Clock { second }),
+        Body::SymbolUpdate => on_update(symbols, clock, body),
+        Body::SystemState => at_rest(clock),
+        Body::TradingStatus(_) => at_rest(clock),
+        Body::SymbolClear(m) => on_clear(symbols, clock, m),
+        Body::Add(m) => on_add(orders, symbols, clock, m, number),
+        Body::Modify(m) => on_modify(orders, symbols, clock, m, number),
+        Body::Delete(m) => on_delete(orders, symbols, clock, m),
+        Body::Execution(m) => on_execution(orders, symbols, clock, m),
+        Body::Trade(_) => at_rest(clock),
+        Body::TradeCancel(_) => at_rest(clock),
+        Body::Refused(_) => Plan::Stop(27),
     }
 }
 
@@ -116,120 +272,34 @@ pub fn symbol_rule(symbols: &mut [u8], body: &[u8]) -> u8
 pub fn apply(
     orders: &mut [u64],
     symbols: &mut [u8],
-    second: u32,
+    clock: Clock,
     number: u64,
     body: &[u8],
 ) -> Applied
-    ensures { λ r. ⌜ outcome (r .rule) (book (now (orders .exit)) (now (symbols .exit)) (r .second)) ≡ applied number (now (body .entry)) (book (now (orders .entry)) (now (symbols .entry)) second) ⌝ }
+    ensures { λ r. ⌜ outcome (r .rule) (book (now (orders .exit)) (now (symbols .exit)) (r .clock)) ≡ applied number (now (body .entry)) (book (now (orders .entry)) (now (symbols .entry)) clock) ⌝ }
 {
-    match body::read_body(body) {
-        Body::SystemTime(seconds) => Applied {
-            rule: 0,
-            second: seconds,
-        },
-        Body::SymbolUpdate => Applied {
-            rule: symbol_rule(symbols, body),
-            second,
-        },
-        Body::SystemState => Applied { rule: 0, second },
-        Body::TradingStatus(_) => Applied { rule: 0, second },
-        Body::SymbolClear(m) => Applied {
-            rule: clear_rule(orders, symbols, m),
-            second,
-        },
-        Body::Add(m) => Applied {
-            rule: add_rule(orders, symbols, m, number),
-            second,
-        },
-        Body::Modify(m) => Applied {
-            rule: modify_rule(orders, symbols, m, number),
-            second,
-        },
-        Body::Delete(m) => Applied {
-            rule: delete_rule(orders, symbols, m),
-            second,
-        },
-        Body::Execution(m) => Applied {
-            rule: execution_rule(orders, symbols, m),
-            second,
-        },
-        Body::Trade(_) => Applied { rule: 0, second },
-        Body::TradeCancel(_) => Applied { rule: 0, second },
-        Body::Refused(_) => Applied { rule: 27, second },
-    }
-}
-
-// The rule that a search ran into, 0 for none.
-fn rule_in(x: Target) -> u8
-    ensures { λ r. ⌜ r ≡ ruleIn x ⌝ }
-{
-    match x {
-        Target::Rule(n) => n,
-        Target::Place(_) => 0,
-    }
-}
-
-fn add_stops(orders: &[u64], symbols: &[u8], symbol: u32, order: u64) -> u8
-    ensures { λ r. ⌜ r ≡ addStops symbol order (now (symbols .entry)) (now (orders .entry)) ⌝ }
-{
-    if !symbols::known(symbols, symbol) {
-        return 20;
-    }
-    rule_in(orders::room_for(orders, order))
-}
-
-fn order_stops(orders: &[u64], symbols: &[u8], symbol: u32, order: u64) -> u8
-    ensures { λ r. ⌜ r ≡ orderStops symbol order (now (symbols .entry)) (now (orders .entry)) ⌝ }
-{
-    if !symbols::known(symbols, symbol) {
-        return 20;
-    }
-    rule_in(orders::target_of(orders, order, symbol as u64))
-}
-
-fn execution_stops(orders: &[u64], symbols: &[u8], m: OrderExecution) -> u8
-    ensures { λ r. ⌜ r ≡ executionStops m (now (symbols .entry)) (now (orders .entry)) ⌝ }
-{
-    if !symbols::known(symbols, m.symbol) {
-        return 20;
-    }
-    rule_in(orders::fill_of(orders, m.order, m.symbol as u64, m.size as u64))
-}
-
-fn clear_stops(symbols: &[u8], symbol: u32) -> u8
-    ensures { λ r. ⌜ r ≡ clearStops symbol (now (symbols .entry)) ⌝ }
-{
-    if !symbols::known(symbols, symbol) {
-        return 20;
-    }
-    0
-}
-
-fn symbol_stops(symbols: &[u8], body: &[u8]) -> u8
-    ensures { λ r. ⌜ r ≡ symbolStops (now (body .entry)) (now (symbols .entry)) ⌝ }
-{
-    match symbols::find_place(symbols, wire::u32_at(body, 5)) {
-        Found::At(_) => 0,
-        Found::Nothing => 26,
+    match plan_of(orders, symbols, clock, number, body) {
+        Plan::Stop(n) => Applied { rule: n, clock },
+        Plan::Go(w) => {
+            let after = w.clock;
+            let on_orders = w.orders;
+            let on_symbols = w.symbols;
+            orders::commit(orders, on_orders);
+            symbols::commit(symbols, on_symbols, body);
+            Applied {
+                rule: 0,
+                clock: after,
+            }
+        }
     }
 }
 
 // The rule that a message would break, 0 for none; nothing is changed.
-pub fn rule_of(orders: &[u64], symbols: &[u8], body: &[u8]) -> u8
-    ensures { λ r. ⌜ r ≡ ruleOf (now (body .entry)) (now (orders .entry)) (now (symbols .entry)) ⌝ }
+pub fn rule_of(orders: &[u64], symbols: &[u8], clock: Clock, number: u64, body: &[u8]) -> u8
+    ensures { λ r. ⌜ r ≡ applied number (now (body .entry)) (book (now (orders .entry)) (now (symbols .entry)) clock) .rule ⌝ }
 {
-    match body::read_body(body) {
-        Body::SystemTime(_) => 0,
-        Body::SymbolUpdate => symbol_stops(symbols, body),
-        Body::SystemState => 0,
-        Body::TradingStatus(_) => 0,
-        Body::SymbolClear(m) => clear_stops(symbols, m.symbol),
-        Body::Add(m) => add_stops(orders, symbols, m.symbol, m.order),
-        Body::Modify(m) => order_stops(orders, symbols, m.symbol, m.order),
-        Body::Delete(m) => order_stops(orders, symbols, m.symbol, m.order),
-        Body::Execution(m) => execution_stops(orders, symbols, m),
-        Body::Trade(_) => 0,
-        Body::TradeCancel(_) => 0,
-        Body::Refused(_) => 27,
+    match plan_of(orders, symbols, clock, number, body) {
+        Plan::Stop(n) => n,
+        Plan::Go(_) => 0,
     }
 }

@@ -18,9 +18,9 @@ use Rattle.rows.specs.Rows as rows
 use Rattle.rows.specs.Find as find-row
 use Rattle.symbols.specs.Entries as entries
 use Rattle.symbols.specs.Find as find-entry
-use Rattle.symbols.specs.Update as update
-use Rattle.orders.specs.Rules as orders
-use Rattle.book.specs.Rules as rules
+use Rattle.symbols.specs.Work as entry-work
+use Rattle.orders.specs.Work as row-work
+use Rattle.book.specs.Plan as plan
 use Rattle.book.specs.Book as book
 use Rattle.arbitration.specs.Slots as slots
 use Rattle.arbitration.specs.Receive as theory
@@ -50,13 +50,13 @@ unfolding exercises.begins exercises.goesOn
     head.numberOk head.bodyOf head.bodyJudged head.readRecord
     packet.before packet.behind packet.framesFrom packet.framing
     rows.rowOf rows.numbersOf rows.rows rows.putRow rows.zeroRow rows.free rows.live rows.maxRows rows.goodRows
-    find-row.isOrder find-row.findOrder find-row.findFree
-    entries.entrySize entries.maxEntries entries.goodEntries entries.entries entries.rest entries.entryOf entries.used entries.freeEntry
+    find-row.isOrder find-row.findOrder find-row.heldAt find-row.findFree
+    entries.entrySize entries.maxEntries entries.goodEntries entries.entries entries.entryOf entries.putEntry entries.used entries.freeEntry
     find-entry.isSymbol find-entry.findSymbol find-entry.findFreeEntry find-entry.knownSymbol find-entry.placeFor
-    update.updatedAt update.updated update.onEntries
-    orders.roomIn orders.roomFor orders.upon orders.added
-    rules.sideOf rules.rowFor rules.ofKnown rules.addRule rules.symbolRule
-    book.appliedBy book.applied
+    entry-work.entered
+    row-work.remade row-work.reduced row-work.committed
+    plan.ofKnown plan.target plan.upon plan.sideOf plan.moves plan.rowFor plan.updatePlan plan.roomFor plan.addPlan plan.modifyPlan plan.executionPlan plan.planBy
+    book.planned book.carried book.applied
     slots.sameBytes slots.sameSlot
     theory.judge theory.goodSlot theory.highest theory.count theory.countsOf theory.try theory.stop theory.drain theory.after theory.run theory.said theory.told
     shelf.shelfSize shelf.goodShelf shelf.toLe shelf.slotOf shelf.bytesOf shelf.slotAt shelf.putSlot

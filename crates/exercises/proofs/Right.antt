@@ -20,9 +20,9 @@ use Rattle.rows.specs.Find as find-row
 use Rattle.ascend.specs.Ascend as ascend
 use Rattle.symbols.specs.Entries as entries
 use Rattle.symbols.specs.Find as find-entry
-use Rattle.symbols.specs.Update as update
-use Rattle.orders.specs.Rules as orders
-use Rattle.book.specs.Rules as rules
+use Rattle.symbols.specs.Work as entry-work
+use Rattle.orders.specs.Work as row-work
+use Rattle.book.specs.Plan as plan
 use Rattle.book.specs.Book as book
 use Rattle.views.specs.Ladder as ladder
 use Rattle.views.specs.Spread as spread
@@ -56,14 +56,14 @@ unfolding table
     head.numberOk head.bodyOf head.bodyJudged head.readRecord
     packet.before packet.behind packet.framesFrom packet.framing
     rows.rowOf rows.numbersOf rows.rows rows.putRow rows.zeroRow rows.free rows.live rows.maxRows rows.goodRows
-    find-row.isOrder find-row.findOrder find-row.findFree find-row.ofKey
+    find-row.isOrder find-row.findOrder find-row.heldAt find-row.findFree find-row.ofKey
     ascend.ins ascend.places
-    entries.entrySize entries.maxEntries entries.goodEntries entries.entries entries.rest entries.entryOf entries.used entries.freeEntry
+    entries.entrySize entries.maxEntries entries.goodEntries entries.entries entries.entryOf entries.putEntry entries.used entries.freeEntry
     find-entry.isSymbol find-entry.findSymbol find-entry.findFreeEntry find-entry.knownSymbol find-entry.placeFor
-    update.updatedAt update.updated update.onEntries
-    orders.roomIn orders.roomFor orders.targetIn orders.target orders.fillIn orders.fillOf orders.remade orders.reduced orders.upon orders.added orders.modified orders.executed
-    rules.sideOf rules.moves rules.rowFor rules.ofKnown rules.addRule rules.modifyRule rules.executionRule rules.symbolRule
-    book.appliedBy book.applied
+    entry-work.entered
+    row-work.remade row-work.reduced row-work.committed
+    plan.ofKnown plan.target plan.upon plan.sideOf plan.moves plan.rowFor plan.updatePlan plan.roomFor plan.addPlan plan.modifyPlan plan.executionPlan plan.planBy
+    book.planned book.carried book.applied
     ladder.keyOf ladder.far ladder.placesOf ladder.prices
     spread.between spread.spreadOf
     views.goodTables views.viewFault views.spreadView

@@ -16,7 +16,7 @@ use Rattle.rows.specs.declared.Row.{Row}
 use Rattle.rows.specs.Rows.{rows, zeroRow, symbolOf, live}
 use Rattle.rows.specs.Find.{ofSymbol}
 use Rattle.rows.proofs.Judged.{free-not-live, zero-not-live, dead-symbol, live-symbol, symbol-is, other-symbol, live-ranges, ranges-live}
-use Rattle.orders.specs.Rules.{remade, less, reduced, wiped, cleared}
+use Rattle.orders.specs.Work.{remade, less, reduced, wiped, cleared}
 use Rattle.orders.specs.Shares.{shareOf, liveShares, under}
 use Rattle.orders.proofs.Applied.{row, Became, Added, Named}
 use Rattle.orders.proofs.Clears.{wiped-gone, clear-rows}
@@ -97,7 +97,7 @@ pub delete-shares : (s order symbol : ℕ) (t u : List ℕ) (n : Named order sym
 delete-shares s order symbol t u n = named-shares s order symbol (λ r. zeroRow) t u n ∙ rw (zero-share s) (add-zero (liveShares s (rows t)))
 
 -- Order Execution: the executed shares go, and no more
-less-live : (n : ℕ) (r : Row) → live r ≡ true → (r .size - n ≡ 0 → ⊥) → live (less n r) ≡ true
+pub less-live : (n : ℕ) (r : Row) → live r ≡ true → (r .size - n ≡ 0 → ⊥) → live (less n r) ≡ true
 less-live n r l h =
     let w = live-ranges r l in
     ranges-live (less n r)

@@ -9,8 +9,10 @@ use lib.Dec.{eqb}
 use borrow.Author.Tests.{eq-eqb, ne-eqb, eqb-true, eqb-false}
 use Rattle.facts.specs.Pick.{pick}
 use Rattle.body.specs.Read.{goodBody}
-use Rattle.book.specs.Book.{Book, book, Outcome, outcome, applied, ruleOf}
-use Rattle.book.proofs.Steps.{broken-keeps, bad-body, rule-good, rule-any}
+use Rattle.book.specs.declared.Clock.{Clock}
+use Rattle.book.specs.Plan.{clock}
+use Rattle.book.specs.Book.{Book, book, Outcome, outcome, applied}
+use Rattle.book.proofs.Steps.{broken-keeps, bad-body, rule-good}
 use Rattle.arbitration.specs.Slots.{Slot, emptySlot, slotBody}
 use Rattle.arbitration.specs.Engine.{ok, broke}
 use Rattle.arbitration.specs.Receive.{stuck, ofApplied, try, stop}
@@ -43,7 +45,7 @@ module _ (next second : ℕ) (o s h : List ℕ) where
   here = slotAt h (next % 64)
 
   abbrev k : Book
-  k = book o s second
+  k = book o s (clock second)
 
   -- an empty slot
   pub turn-empty : here .number ≡ 0 → Turns r r false
@@ -69,7 +71,7 @@ module _ (next second : ℕ) (o s h : List ℕ) where
       stops-long l = sym (stop-stuck shelfStore bookEngine r 27 (try-bad shelfStore bookEngine r some own (long-bad bookEngine here l)))
 
       module _ (short : here .len ≤ 64) where
-        abbrev rule : ℕ
+        abbrev pub rule : ℕ
         rule = applied next (slotBody here) k .rule
 
         -- the message is stopped by its rule, which is 27 for a body that the reader refuses
@@ -86,7 +88,7 @@ module _ (next second : ℕ) (o s h : List ℕ) where
             ∙ ap ofApplied (apply-ok next (slotBody here) k e)
 
         -- what the code's call of the book answered
-        module _ (q c : ℕ) (o′ s′ : List ℕ) (told : outcome q (book o′ s′ c) ≡ applied next (slotBody here) k) where
+        module _ (q : ℕ) (c : Clock) (o′ s′ : List ℕ) (told : outcome q (book o′ s′ c) ≡ applied next (slotBody here) k) where
           pub turn-broken : q ≢ 0 → Turns r (rx next second o′ s′ h) false
           turn-broken e =
               let e′ : rule ≢ 0 = λ z. e (ap (λ (x : Outcome). x .rule) told ∙ z) in
@@ -94,7 +96,7 @@ module _ (next second : ℕ) (o s h : List ℕ) where
               let t = stayed r (stays-stuck shelfStore bookEngine r rule (tried-broken e′)) in
               ((λ i. rx next second (same i .orders) (same i .symbols) h) ∙ t .0, t .1)
 
-          pub turn-goes : q ≡ 0 → (h′ : List ℕ) → h′ ≡ putSlot h (next % 64) emptySlot → Turns r (rx (next + 1) c o′ s′ h′) true
+          pub turn-goes : q ≡ 0 → (h′ : List ℕ) → h′ ≡ putSlot h (next % 64) emptySlot → Turns r (rx (next + 1) (c .second) o′ s′ h′) true
           turn-goes e h′ p =
               let z : rule ≡ 0 = sym (ap (λ (x : Outcome). x .rule) told) ∙ e in
               let a : book o′ s′ c ≡ applied next (slotBody here) k .after = ap (λ (x : Outcome). x .after) told in
@@ -102,8 +104,8 @@ module _ (next second : ℕ) (o s h : List ℕ) where
               ((λ i. record { next = next + 1; shelf = p i; book = a i }) ∙ sym (m .moved), sym (m .on))
 
         -- the stop, from the rule that nothing was changed for
-        pub stops-rule : ruleOf (slotBody here) o s ≡ stop shelfStore bookEngine r
-        stops-rule = sym (rule-any next second (slotBody here) o s) ∙ by (eqb rule 0) refl
+        pub stops-rule : rule ≡ stop shelfStore bookEngine r
+        stops-rule = by (eqb rule 0) refl
           where
             by : (t : Bool) → eqb rule 0 ≡ t → rule ≡ stop shelfStore bookEngine r
             by true t =

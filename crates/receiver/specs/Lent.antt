@@ -11,6 +11,7 @@ use Rattle.packet.specs.Record.{Rec}
 use Rattle.packet.specs.Packet.{Framing, bad, records, framing}
 use Rattle.rows.specs.Rows.{goodRows}
 use Rattle.symbols.specs.Entries.{goodEntries}
+use Rattle.book.specs.Plan.{clock}
 use Rattle.book.specs.Book.{book}
 use Rattle.arbitration.specs.Receive as theory
 use Rattle.arbitration.proofs.Tallies.{Working}
@@ -30,7 +31,7 @@ abbrev pub Rx : Type 0
 Rx = theory.State shelfStore bookEngine
 
 abbrev pub rx : ℕ → ℕ → List ℕ → List ℕ → List ℕ → Rx
-rx next second orders symbols shelf = record { next = next; shelf = shelf; book = book orders symbols second }
+rx next second orders symbols shelf = record { next = next; shelf = shelf; book = book orders symbols (clock second) }
 
 abbrev pub rec : ℕ → List ℕ → Rec
 rec n b = record { number = n; body = b }
@@ -88,7 +89,7 @@ rxOf k = rx (k .state .next) (k .state .second) (k .orders) (k .symbols) (k .she
 
 -- the receiver that the theory's is, with the stop told
 abbrev pub lentOf : Rx → ℕ → Lent
-lentOf r stop = lent (r .book .orders) (r .book .symbols) (r .shelf) (record { next = r .next; second = r .book .second; stop = stop })
+lentOf r stop = lent (r .book .orders) (r .book .symbols) (r .shelf) (record { next = r .next; second = r .book .clock .second; stop = stop })
 
 -- "The packet's answer tells how many records got each of 10 to 14, the next number, how many messages were applied (the growth of next), the highest number on the shelf (0 if none), and the stop"
 abbrev pub account : theory.Told → Account

@@ -11,6 +11,7 @@ use Rattle.wire.specs.Le.{field}
 use Rattle.body.specs.Read.{goodBody}
 use Rattle.packet.specs.Record.{Rec}
 use Rattle.packet.specs.Packet.{framing}
+use Rattle.book.specs.Plan.{clock}
 use Rattle.book.specs.Book.{Book, book}
 use Rattle.arbitration.specs.Receive.{accepted, stop}
 use Rattle.arbitration.specs.Demand3.{WellFormed, Copies, Answered, Made, Named}
@@ -47,7 +48,7 @@ played o s h t =
 -- ---- demand 3, for tables of these sizes and this recording
 -- "A start zeroes all three, the second included"
 abbrev pub zeroBook : ℕ → ℕ → Book
-zeroBook o s = book (replicate o 0) (replicate s 0) 0
+zeroBook o s = book (replicate o 0) (replicate s 0) (clock 0)
 
 -- the records that were accepted, in their order
 abbrev pub recordsPlayed : List ℕ → List Rec

@@ -1,4 +1,5 @@
 // The receiver: starts, takes packets of lines A, B and the gap fills in any order, and applies the messages by their numbers.
+use book::Clock;
 use fields::Refusal;
 use packet::Packet;
 ghost use mathlib.Core.Path.{_≡_};
@@ -97,16 +98,23 @@ fn turn(orders: &mut [u64], symbols: &mut [u8], shelf: &mut [u8], at: Place) -> 
     if 64 < shelf::slot_len(shelf, i) {
         return Turned { on: false, at };
     }
-    let a = book::apply(orders, symbols, second, next, shelf::slot_body(shelf, i));
+    let a = book::apply(
+        orders,
+        symbols,
+        Clock { second },
+        next,
+        shelf::slot_body(shelf, i),
+    );
     if a.rule != 0 {
         return Turned { on: false, at };
     }
     shelf::empty(shelf, i);
+    let after = a.clock;
     Turned {
         on: true,
         at: Place {
             next: next + 1,
-            second: a.second,
+            second: after.second,
         },
     }
 }
@@ -252,7 +260,14 @@ fn stop_at(orders: &[u64], symbols: &[u8], shelf: &[u8], at: Place) -> u8
     if 64 < shelf::slot_len(shelf, i) {
         return 27;
     }
-    book::rule_of(orders, symbols, shelf::slot_body(shelf, i))
+    let second = at.second;
+    book::rule_of(
+        orders,
+        symbols,
+        Clock { second },
+        next,
+        shelf::slot_body(shelf, i),
+    )
 }
 
 // An accepted packet.

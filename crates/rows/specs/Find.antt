@@ -2,13 +2,15 @@
 use Prim.Native.Nat.{ℕ}
 use mathlib.Core.List.{List}
 use mathlib.Core.Bool.{Bool}
+use lib.ListN.{getD}
 use lib.Dec.{eqb}
 use Rattle.facts.specs.Pick.{both}
 use Rattle.facts.specs.Search.{first}
 use Rattle.facts.specs.Sums.{countBy}
 use Rattle.facts.specs.declared.Found.{Found}
 use Rattle.rows.specs.declared.Row.{Row}
-use Rattle.rows.specs.Rows.{symbolOf, free, live}
+use Rattle.rows.specs.declared.Held.{Held}
+use Rattle.rows.specs.Rows.{zeroRow, symbolOf, free, live}
 
 -- "order ID already live"
 unfoldable pub isOrder : ℕ → Row → Bool
@@ -17,6 +19,11 @@ isOrder id r = both (eqb (r .order) id) (live r)
 -- "a search for an ID taking the lowest live row"
 unfoldable pub findOrder : ℕ → List Row → Found
 findOrder id rs = first (isOrder id) 0 rs
+
+-- what a search for an ID ended at: the place, and the row that lies there
+unfoldable pub heldAt : Found → List Row → Held
+heldAt (Found.At i) rs = Held.Live i (getD rs i zeroRow)
+heldAt Found.Nothing rs = Held.Nowhere
 
 -- "the lowest free row is used"
 unfoldable pub findFree : List Row → Found

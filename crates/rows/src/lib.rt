@@ -3,7 +3,7 @@ ghost use mathlib.Core.Path.{_≡_};
 ghost use Prim.Native.Nat.{_/_, _<_};
 ghost use lib.ListN.{length, getD, replicate};
 ghost use Rattle.rows.specs.Rows.{rows, putRow, zeroRow, free, live, goodRows};
-ghost use Rattle.rows.specs.Find.{isOrder, findOrder, findFree, ofSymbol, ofKey, countLive};
+ghost use Rattle.rows.specs.Find.{isOrder, findOrder, findFree, heldAt, ofSymbol, ofKey, countLive};
 use facts::Found;
 
 // The most rows of a table.
@@ -16,6 +16,12 @@ pub struct Row {
     pub price: u64,
     pub size: u64,
     pub rank: u64,
+}
+
+// What stands under an order ID: the place of its row and the row, or nothing.
+pub enum Held {
+    Live(usize, Row),
+    Nowhere,
 }
 
 pub fn zero_row() -> Row
@@ -184,6 +190,16 @@ pub fn find_free(t: &[u64]) -> Found
         i += 1;
     }
     Found::Nothing
+}
+
+// The row that a search ended at, whichever search it was.
+pub fn held_at(t: &[u64], at: Found) -> Held
+    ensures { λ r. ⌜ r ≡ heldAt at (rows (now (t .entry))) ⌝ }
+{
+    match at {
+        Found::At(i) => Held::Live(i, row_at(t, i)),
+        Found::Nothing => Held::Nowhere,
+    }
 }
 
 // Every number of a table of any length.

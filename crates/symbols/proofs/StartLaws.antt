@@ -1,12 +1,12 @@
 -- What a start and updates alone make of a table: one entry for each symbol, in order of first use. A wiped table has no used entry,
 -- and an update takes the symbol's own entry, or the lowest free one, which lies right behind the used ones.
 -- Assumes nothing.
-use mathlib.Core.Path.{_≡_, refl, sym, ap, subst, _∙_}
+use mathlib.Core.Path.{_≡_, refl, sym, ap, _∙_}
 use mathlib.Core.List.{List, []}
 use mathlib.Core.Bool.{Bool, true, false}
 use Prim.Native.Nat.{ℕ, _+_, _≤_, _<_}
 use native.Mathlib.Omega.{arith}
-use lib.ListN.{getD, replicate}
+use lib.ListN.{getD, set, replicate}
 use lib.Dec.{eqb}
 use borrow.Author.Tests.{eqb-true, eqb-false}
 use Rattle.facts.specs.declared.Found.the-variants.{At}
@@ -14,10 +14,9 @@ use Rattle.facts.proofs.Searches.{first-lowest, none-first}
 use Rattle.facts.proofs.CountLaws.{count-none}
 use Rattle.symbols.specs.Entries.{entries, entryOf, used, freeEntry, idOf}
 use Rattle.symbols.specs.Find.{isSymbol, findSymbol, findFreeEntry, knownSymbol, placeFor, countUsed}
-use Rattle.symbols.specs.Update.{updated}
 use Rattle.symbols.proofs.EntryLaws.{id-entry-of, used-entry-of, used-not-free, wiped-free, wiped-unused}
 use Rattle.symbols.proofs.FindLaws.{Known, Place, own, fresh, symbol-is, is-symbol, unused-symbol, free-below, some-known, known-found, found-known, nowhere-unknown, place-is, place-own}
-use Rattle.symbols.proofs.UpdateLaws.{Outcome, done, full, outcome, others-kept, own-is, find-others, find-own, count-known, count-new}
+use Rattle.symbols.proofs.UpdateLaws.{others-kept, own-is, find-others, find-own, count-known, count-new}
 
 -- ---- a wiped table
 pub wiped-unknown : (n id : ℕ) → knownSymbol id (entries (replicate n 0)) ≡ false
@@ -55,25 +54,24 @@ found-distinct es f i j u v e =
 pub wiped-distinct : (n : ℕ) → Distinct (entries (replicate n 0))
 wiped-distinct n i j u v e = let w = wiped-unused n i in let z : _≡_ {A = ℕ} 0 1 = cc in absurd (omega arith)
 
-pub distinct-kept : (b : List ℕ) (es : List (List ℕ)) → used b ≡ true → Distinct es → Distinct (updated b es .after)
-distinct-kept b es u d = go (outcome b es)
+pub distinct-kept : (b : List ℕ) (es : List (List ℕ)) (i : ℕ) → placeFor (idOf b) es ≡ At i → used b ≡ true → Distinct es → Distinct (set es i (entryOf b))
+distinct-kept b es i e u d = found-distinct after (λ j v. at j v (eqb j i) refl)
   where
+    after : List (List ℕ)
+    after = set es i (entryOf b)
+
     -- every used entry is found by its ID: the new one, and each of the others
-    at : (i : ℕ) → placeFor (idOf b) es ≡ At i → (j : ℕ) → used (getD (updated b es .after) j []) ≡ true → (s : Bool) → eqb j i ≡ s → findSymbol (idOf (getD (updated b es .after) j [])) (updated b es .after) ≡ At j
-    at i e j v true q =
+    at : (j : ℕ) → used (getD after j []) ≡ true → (s : Bool) → eqb j i ≡ s → findSymbol (idOf (getD after j [])) after ≡ At j
+    at j v true q =
         let ji : j ≡ i = eqb-true j i q in
-        let x : getD (updated b es .after) j [] ≡ entryOf b = rw ji (own-is b es i e) in
-        rw (x, id-entry-of b) (find-own b es u ∙ e ∙ ap At (sym ji))
-    at i e j v false q =
-        let x : getD (updated b es .after) j [] ≡ getD es j [] = others-kept b es i j e (eqb-false j i q) in
+        let x : getD after j [] ≡ entryOf b = rw ji (own-is b es i e) in
+        rw (x, id-entry-of b) (find-own b es i e u ∙ ap At (sym ji))
+    at j v false q =
+        let x : getD after j [] ≡ getD es j [] = others-kept b es i e j (eqb-false j i q) in
         let f : findSymbol (idOf (getD es j [])) es ≡ At j = distinct-found es d j (ap used (sym x) ∙ v) in
         let n : idOf (getD es j []) ≡ idOf b → ⊥ =
         λ z. let g : At j ≡ At i = sym (place-own (idOf b) es j (rw z at f)) ∙ e in eqb-false j i q (cc) in
-        rw x (find-others b es (idOf (getD es j [])) n ∙ f)
-
-    go : Outcome b es → Distinct (updated b es .after)
-    go (done i e a t) = found-distinct (updated b es .after) (λ j v. at i e j v (eqb j i) refl)
-    go (full e a t) = subst Distinct (sym t) d
+        rw x (find-others b es i e (idOf (getD es j [])) n ∙ f)
 
 -- ---- "in order of first use": the used entries lie in front, and all others are free
 pub record Packed (es : List (List ℕ)) : Type 0 where
@@ -106,40 +104,37 @@ new-behind b es p k i e = go (place-is (idOf b) es i e)
     go (own f) = let h = found-known (idOf b) es i f in let z : _≡_ {A = ℕ} 0 1 = cc in absurd (omega arith)
     go (fresh m f) = next-free es p i f
 
-pub packed-kept : (b : List ℕ) (es : List (List ℕ)) → used b ≡ true → Packed es → Packed (updated b es .after)
-packed-kept b es u p = go (outcome b es) (knownSymbol (idOf b) es) refl
+pub packed-kept : (b : List ℕ) (es : List (List ℕ)) (i : ℕ) → placeFor (idOf b) es ≡ At i → used b ≡ true → Packed es → Packed (set es i (entryOf b))
+packed-kept b es i e u p = go (knownSymbol (idOf b) es) refl
   where
     after : List (List ℕ)
-    after = updated b es .after
+    after = set es i (entryOf b)
 
     -- the entry at the place is used, and every other is as it was
-    mine : (i : ℕ) → placeFor (idOf b) es ≡ At i → used (getD after i []) ≡ true
-    mine i e = ap used (own-is b es i e) ∙ used-entry-of b ∙ u
+    still : (f : List ℕ → Bool) (j : ℕ) → (j ≡ i → ⊥) → f (getD es j []) ≡ true → f (getD after j []) ≡ true
+    still f j n h = ap f (others-kept b es i e j n) ∙ h
 
-    still : (f : List ℕ → Bool) (i : ℕ) → placeFor (idOf b) es ≡ At i → (j : ℕ) → (j ≡ i → ⊥) → f (getD es j []) ≡ true → f (getD after j []) ≡ true
-    still f i e j n h = ap f (others-kept b es i j e n) ∙ h
+    front : (j : ℕ) → (s : Bool) → eqb j i ≡ s → ((j ≡ i → ⊥) → used (getD es j []) ≡ true) → used (getD after j []) ≡ true
+    front j true q h = let ji : j ≡ i = eqb-true j i q in rw ji (ap used (own-is b es i e) ∙ used-entry-of b ∙ u)
+    front j false q h = let n = eqb-false j i q in still used j n (h n)
 
-    front : (i : ℕ) → placeFor (idOf b) es ≡ At i → (j : ℕ) → (s : Bool) → eqb j i ≡ s → ((j ≡ i → ⊥) → used (getD es j []) ≡ true) → used (getD after j []) ≡ true
-    front i e j true q h = let ji : j ≡ i = eqb-true j i q in rw ji (mine i e)
-    front i e j false q h = let n = eqb-false j i q in still used i e j n (h n)
-
-    go : Outcome b es → (t : Bool) → knownSymbol (idOf b) es ≡ t → Packed after
-    go (done i e a t) true k =
+    go : (t : Bool) → knownSymbol (idOf b) es ≡ t → Packed after
+    go true k =
         let w = known-found (idOf b) es k in
-        let c : countUsed after ≡ countUsed es = count-known b es u k in
-        let x : used (getD es (w .place) []) ≡ true = symbol-is (idOf b) (getD es (w .place) []) (w .its) .0 in
-        let o : placeFor (idOf b) es ≡ At (w .place) = place-own (idOf b) es (w .place) (w .found) in
+        let c : countUsed after ≡ countUsed es = count-known b es i e u k in
+        let o : At (w .place) ≡ At i = sym (place-own (idOf b) es (w .place) (w .found)) ∙ e in
+        let y : w .place ≡ i = cc in
+        let x : used (getD es i []) ≡ true = rw (← y) (symbol-is (idOf b) (getD es (w .place) []) (w .its) .0) in
         record {
-          front = λ j l. front (w .place) o j (eqb j (w .place)) refl (λ n. p .front j (omega arith));
+          front = λ j l. front j (eqb j i) refl (λ n. p .front j (omega arith));
           back = λ j l.
               let f : freeEntry (getD es j []) ≡ true = p .back j (omega arith) in
-              still freeEntry (w .place) o j (λ z. never-both (getD es (w .place) []) x (ap (λ m. freeEntry (getD es m [])) (sym z) ∙ f)) f;
+              still freeEntry j (λ z. never-both (getD es i []) x (ap (λ m. freeEntry (getD es m [])) (sym z) ∙ f)) f;
         }
-    go (done i e a t) false k =
-        let c : countUsed after ≡ countUsed es + 1 = count-new b es u k a in
+    go false k =
+        let c : countUsed after ≡ countUsed es + 1 = count-new b es i e u k in
         let x : i ≡ countUsed es = new-behind b es p k i e in
         record {
-          front = λ j l. front i e j (eqb j i) refl (λ n. p .front j (omega arith));
-          back = λ j l. still freeEntry i e j (λ z. omega arith) (p .back j (omega arith));
+          front = λ j l. front j (eqb j i) refl (λ n. p .front j (omega arith));
+          back = λ j l. still freeEntry j (λ z. omega arith) (p .back j (omega arith));
         }
-    go (full e a t) s k = subst Packed (sym t) p

@@ -1,3 +1,3 @@
 pub mod Entries
 pub mod Find
-pub mod Update
+pub mod Work

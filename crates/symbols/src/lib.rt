@@ -7,7 +7,7 @@ ghost use mathlib.Core.List.{[]};
 ghost use Rattle.fields.specs.Fields.{symbolOf};
 ghost use Rattle.symbols.specs.Entries.{goodEntries, entries, putEntry, used, freeEntry};
 ghost use Rattle.symbols.specs.Find.{isSymbol, findSymbol, findFreeEntry, knownSymbol, placeFor, countUsed};
-ghost use Rattle.symbols.specs.Update.{updated, result, onEntries};
+ghost use Rattle.symbols.specs.Work.{entered};
 use facts::Found;
 use fields::Symbol;
 
@@ -23,10 +23,10 @@ const USED: u8 = 1;
 // The type byte of a free entry.
 const FREE: u8 = 0;
 
-// What became of a Symbol Update: it has its entry, or no entry was free (26).
-pub enum Updated {
-    Done,
-    Full,
+// The work of a message on the symbol table: the entry that its body becomes.
+pub enum EntryWork {
+    Keep,
+    Put(usize),
 }
 
 // A table of n bytes holds whole entries, and as many as it may.
@@ -154,7 +154,7 @@ pub fn find_place(t: &[u8], id: u32) -> Found
     }
 }
 
-pub fn put_entry(t: &mut [u8], i: usize, body: &[u8])
+fn put_entry(t: &mut [u8], i: usize, body: &[u8])
     ensures { λ _. ⌜ now (t .exit) ≡ putEntry (now (t .entry)) i (now (body .entry)) ⌝ }
 {
     if entry_count(t) <= i {
@@ -165,16 +165,14 @@ pub fn put_entry(t: &mut [u8], i: usize, body: &[u8])
     wire::copy_at(body, 0, &mut t[b..e]);
 }
 
-// A Symbol Update: the body becomes its symbol's entry.
-pub fn update(t: &mut [u8], body: &[u8]) -> Updated
-    ensures { λ r. ⌜ result r (now (t .exit)) ≡ onEntries (updated (now (body .entry))) (now (t .entry)) ⌝ }
+// The one function that changes the symbol table.
+pub fn commit(t: &mut [u8], w: EntryWork, body: &[u8])
+    ensures { λ _. ⌜ now (t .exit) ≡ entered w (now (body .entry)) (now (t .entry)) ⌝ }
 {
-    let place = find_place(t, wire::u32_at(body, 5));
-    let Found::At(i) = place else {
-        return Updated::Full;
-    };
-    put_entry(t, i, body);
-    Updated::Done
+    match w {
+        EntryWork::Keep => {}
+        EntryWork::Put(i) => put_entry(t, i, body),
+    }
 }
 
 pub fn count_used(t: &[u8]) -> usize

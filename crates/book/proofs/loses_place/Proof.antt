@@ -1,7 +1,7 @@
 -- The code's test is the definition's.
 -- Assumes nothing.
 use mathlib.Core.Path.{refl}
-use Rattle.book.specs.Rules.{moves}
+use Rattle.book.specs.Plan.{moves}
 use Rattle.book.proofs.loses_place.Statement.{statement}
 use Rattle.book.proofs.loses_place.Tie as tie
 

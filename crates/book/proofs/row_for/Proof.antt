@@ -1,7 +1,7 @@
 -- Each field is the message's, and the side is at most 1, so the key fits.
 -- Assumes nothing.
 use native.Mathlib.Omega.{arith}
-use Rattle.book.specs.Rules.{rowFor}
+use Rattle.book.specs.Plan.{rowFor}
 use Rattle.book.proofs.Laws.{side-small}
 use mathlib.Core.Path.{refl, ap}
 use Prim.Native.Nat.{_+_, _*_}

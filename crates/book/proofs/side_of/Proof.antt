@@ -2,7 +2,7 @@
 -- Assumes nothing.
 use borrow.Author.Tests.{eq-eqb, ne-eqb}
 use Rattle.facts.specs.Pick.{pick}
-use Rattle.book.specs.Rules.{sideOf}
+use Rattle.book.specs.Plan.{sideOf}
 use Rattle.book.proofs.side_of.Statement.{statement}
 use Rattle.book.proofs.side_of.Tie as tie
 

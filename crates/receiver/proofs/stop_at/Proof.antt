@@ -1,10 +1,11 @@
+use Rattle.book.specs.Plan.{clock}
+use Rattle.book.specs.Book.{book, applied}
 -- Each exit is one law of Exits; the rule is that of the message, found without changing a table.
 -- Assumes nothing.
 use Prim.Native.Nat.{ℕ}
 use mathlib.Core.Path.{sym, ap, _∙_}
 use native.Mathlib.Omega.{arith}
 use mathlib.Core.List.{List}
-use Rattle.book.specs.Book.{ruleOf}
 use Rattle.receiver.proofs.Exits.{stops-empty, stops-other, stops-long, stops-rule}
 use borrow.Author.Needs.{needs}
 use Rattle.receiver.proofs.stop_at.Statement.{statement}
@@ -32,7 +33,7 @@ rule-of-requires : tie.Need-rule-of-requires
 rule-of-requires c κs = search needs
 
 returns-4 : tie.Need-returns-4
-returns-4 c = c .rule-of .ensures ∙ ap (λ (b : List ℕ). ruleOf b (c .before .before .before .before .before .before .before .before .before .before .args .orders .now) (c .before .before .before .before .before .before .before .before .before .before .args .symbols .now)) (c .before .slot-body .ensures) ∙ stops-rule (c .before .before .before .before .before .before .before .before .before .before .args .at .next) (c .before .before .before .before .before .before .before .before .before .before .args .at .second) (c .before .before .before .before .before .before .before .before .before .before .args .orders .now) (c .before .before .before .before .before .before .before .before .before .before .args .symbols .now) (c .before .before .before .before .before .before .before .before .before .before .args .shelf .now) (λ z. c .before .before .before .before .before .if1 .left (c .before .before .before .before .before .before .slot-number .ensures ∙ z)) (sym (c .before .before .before .before .before .before .slot-number .ensures) ∙ c .before .before .before .before .if2 .left) (omega (arith, c .before .before .before .slot-len .ensures))
+returns-4 c = c .rule-of .ensures ∙ ap (λ (b : List ℕ). applied (c .before .before .before .before .before .before .before .before .before .before .args .at .next) b (book (c .before .before .before .before .before .before .before .before .before .before .args .orders .now) (c .before .before .before .before .before .before .before .before .before .before .args .symbols .now) (clock (c .before .before .before .before .before .before .before .before .before .before .args .at .second))) .rule) (c .before .slot-body .ensures) ∙ stops-rule (c .before .before .before .before .before .before .before .before .before .before .args .at .next) (c .before .before .before .before .before .before .before .before .before .before .args .at .second) (c .before .before .before .before .before .before .before .before .before .before .args .orders .now) (c .before .before .before .before .before .before .before .before .before .before .args .symbols .now) (c .before .before .before .before .before .before .before .before .before .before .args .shelf .now) (λ z. c .before .before .before .before .before .if1 .left (c .before .before .before .before .before .before .slot-number .ensures ∙ z)) (sym (c .before .before .before .before .before .before .slot-number .ensures) ∙ c .before .before .before .before .if2 .left) (omega (arith, c .before .before .before .slot-len .ensures))
 
 pub stop-at-spec : {M : Type 1} → statement M
 stop-at-spec =

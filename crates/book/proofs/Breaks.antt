@@ -1,0 +1,119 @@
+-- Which rules each kind of message can break, and no others: its plan stops only where one of its own guards stopped it.
+-- Assumes nothing.
+use mathlib.Core.Path.{_≡_, refl, sym, subst, _∙_}
+use mathlib.Core.Bool.{Bool, true, false}
+use mathlib.Core.List.{List}
+use mathlib.Core.Logic.{⊎-elim}
+use Prim.Native.Nat.{ℕ}
+use lib.Dec.{eqb}
+use Rattle.facts.specs.Pick.{pick}
+use Rattle.facts.proofs.Picks.{pick-cases}
+use Rattle.facts.specs.declared.Found.{Found}
+use Rattle.facts.specs.declared.Found.the-variants.{At, Nothing}
+use Rattle.fields.specs.declared.Body.{Body}
+use Rattle.fields.specs.declared.AddOrder.{AddOrder}
+use Rattle.fields.specs.declared.ModifyOrder.{ModifyOrder}
+use Rattle.fields.specs.declared.DeleteOrder.{DeleteOrder}
+use Rattle.fields.specs.declared.OrderExecution.{OrderExecution}
+use Rattle.fields.specs.declared.Refusal.{Refusal}
+use Rattle.body.specs.Read.{readBody}
+use Rattle.rows.specs.declared.Row.{Row}
+use Rattle.rows.specs.declared.Held.{Held}
+use Rattle.rows.specs.declared.Held.the-variants.{Live, Nowhere}
+use Rattle.rows.specs.Rows.{symbolOf}
+use Rattle.book.specs.declared.Clock.{Clock}
+use Rattle.book.specs.declared.Works.{Works}
+use Rattle.book.specs.declared.Plan.{Plan}
+use Rattle.book.specs.declared.Plan.the-variants.{Stop, Go}
+use Rattle.book.specs.declared.Target.the-variants.{Order, Rule}
+use Rattle.book.specs.Plan.{ofKnown, target, upon, rowFor, roomFor, addPlan, modified, modifyPlan, deleted, deletePlan, executed, executionPlan, clearPlan, updatePlan, Finds, planBy}
+use Rattle.book.specs.Book.{Book, scans, planned, carried, applied}
+use Rattle.book.proofs.Plans.{never-goes}
+use Rattle.book.proofs.Steps.{Names, clear, add, modify, delete, execution, Kind, time, update, names, other, refused, kind-of, other-idle}
+
+pub data NamesOrder : Body → Type 0 where
+  by-modify : (m : ModifyOrder) → NamesOrder (Body.Modify m)
+  by-delete : (m : DeleteOrder) → NamesOrder (Body.Delete m)
+  by-execution : (m : OrderExecution) → NamesOrder (Body.Execution m)
+
+pub data Breaks : Body → ℕ → Type 0 where
+  unknown : {m : Body} {s : ℕ} → Names m s → Breaks m 20
+  already-live : (m : AddOrder) → Breaks (Body.Add m) 21
+  not-live : {m : Body} → NamesOrder m → Breaks m 22
+  elsewhere : {m : Body} → NamesOrder m → Breaks m 23
+  above : (m : OrderExecution) → Breaks (Body.Execution m) 24
+  no-row : (m : AddOrder) → Breaks (Body.Add m) 25
+  no-entry : Breaks Body.SymbolUpdate 26
+  no-body : (r : Refusal) → Breaks (Body.Refused r) 27
+
+-- ---- each guard: it stopped the plan, or what stands behind it did
+never-stops : {B : Type 0} {w : Works} {n : ℕ} → Go w ≡ Stop n → B
+never-stops e = never-goes (sym e)
+
+same-stop : {m n : ℕ} → Stop m ≡ Stop n → m ≡ n
+same-stop e = cc
+
+module _ (P : ℕ → Type 0) (q : ℕ) where
+  known-stop : (entry : Found) (p : Plan) → P 20 → (p ≡ Stop q → P q) → ofKnown entry p ≡ Stop q → P q
+  unfolding ofKnown
+  known-stop (At e) p a f h = f h
+  known-stop Nothing p a f h = subst P (same-stop h) a
+
+  room-stop : (c : Clock) (new : Row) (order : Held) (free : Found) → P 21 → P 25 → roomFor c new order free ≡ Stop q → P q
+  unfolding roomFor
+  room-stop c new (Live i r) free a b h = subst P (same-stop h) a
+  room-stop c new Nowhere Nothing a b h = subst P (same-stop h) b
+  room-stop c new Nowhere (At j) a b h = never-stops h
+
+  owned-stop : (order : Held) (symbol : ℕ) (f : ℕ → Row → Plan) → P 22 → P 23 → ((i : ℕ) (r : Row) → f i r ≡ Stop q → P q) → upon (target order symbol) f ≡ Stop q → P q
+  unfolding target upon pick
+  owned-stop Nowhere symbol f a b g h = subst P (same-stop h) a
+  owned-stop (Live i r) symbol f a b g h = go (eqb (symbolOf r) symbol) h
+    where
+      go : (t : Bool) → upon (pick t (Order i r) (Rule 23)) f ≡ Stop q → P q
+      go true h = g i r h
+      go false h = subst P (same-stop h) b
+
+  executed-stop : (c : Clock) (m : OrderExecution) (i : ℕ) (r : Row) → P 24 → executed c m i r ≡ Stop q → P q
+  executed-stop c m i r a h = ⊎-elim (λ x. subst P (same-stop (x .1)) a) (λ x. never-stops (x .1)) (pick-cases h)
+
+  update-stop : (c : Clock) (place : Found) → P 26 → updatePlan c place ≡ Stop q → P q
+  unfolding updatePlan
+  update-stop c (At i) a h = never-stops h
+  update-stop c Nothing a h = subst P (same-stop h) a
+
+-- ---- each message
+module _ (n : ℕ) (b : List ℕ) (c : Clock) (f : Finds) (q : ℕ) where
+  names-breaks : {m : Body} {s : ℕ} → Names m s → planBy m n b c f ≡ Stop q → Breaks m q
+  unfolding planBy addPlan modifyPlan deletePlan executionPlan clearPlan
+  names-breaks (clear m) = known-stop (Breaks (Body.SymbolClear m)) q (f .entry (m .symbol)) _ (unknown (clear m)) never-stops
+  names-breaks (add m) =
+      known-stop (Breaks (Body.Add m)) q (f .entry (m .symbol)) (roomFor c (rowFor m n) (f .order (m .order)) (f .free)) (unknown (add m))
+      (room-stop (Breaks (Body.Add m)) q c (rowFor m n) (f .order (m .order)) (f .free) (already-live m) (no-row m))
+  names-breaks (modify m) =
+      known-stop (Breaks (Body.Modify m)) q (f .entry (m .symbol)) (upon (target (f .order (m .order)) (m .symbol)) (modified c m n)) (unknown (modify m))
+      (owned-stop (Breaks (Body.Modify m)) q (f .order (m .order)) (m .symbol) (modified c m n) (not-live (by-modify m)) (elsewhere (by-modify m)) (λ i r. never-stops))
+  names-breaks (delete m) =
+      known-stop (Breaks (Body.Delete m)) q (f .entry (m .symbol)) (upon (target (f .order (m .order)) (m .symbol)) (deleted c)) (unknown (delete m))
+      (owned-stop (Breaks (Body.Delete m)) q (f .order (m .order)) (m .symbol) (deleted c) (not-live (by-delete m)) (elsewhere (by-delete m)) (λ i r. never-stops))
+  names-breaks (execution m) =
+      known-stop (Breaks (Body.Execution m)) q (f .entry (m .symbol)) (upon (target (f .order (m .order)) (m .symbol)) (executed c m)) (unknown (execution m))
+      (owned-stop (Breaks (Body.Execution m)) q (f .order (m .order)) (m .symbol) (executed c m) (not-live (by-execution m)) (elsewhere (by-execution m))
+      (λ i r. executed-stop (Breaks (Body.Execution m)) q c m i r (above m)))
+
+  kind-breaks : {m : Body} → Kind m → planBy m n b c f ≡ Stop q → Breaks m q
+  unfolding planBy
+  kind-breaks (time s) h = never-stops h
+  kind-breaks update h = update-stop (Breaks Body.SymbolUpdate) q c _ no-entry h
+  kind-breaks (names x) h = names-breaks x h
+  kind-breaks (other x) h = never-stops (sym (other-idle n b c f x) ∙ h)
+  kind-breaks (refused r) h = subst (Breaks (Body.Refused r)) (same-stop h) (no-body r)
+
+-- "Each rule is tried in the order given, and the first broken one counts": a message that breaks one breaks one of its own
+pub breaks : (n : ℕ) (b : List ℕ) (k : Book) → (applied n b k .rule ≡ 0 → ⊥) → Breaks (readBody b) (applied n b k .rule)
+unfolding applied planned carried
+breaks n b k h = go (planned n b k) refl h
+  where
+    go : (p : Plan) → planned n b k ≡ p → (carried p b k .rule ≡ 0 → ⊥) → Breaks (readBody b) (carried p b k .rule)
+    go (Stop q) e h = kind-breaks n b (k .clock) (scans k) q (kind-of (readBody b)) e
+    go (Go w) e h = absurd (h refl)

@@ -1,0 +1,46 @@
+-- No message spoils a row: what it puts is an Add's or a Modify's row, in range by the reading of its body, or one with fewer shares, or all zero.
+-- Assumes nothing.
+use mathlib.Core.Path.{_≡_, refl, sym, ap, subst, _∙_}
+use mathlib.Core.Bool.{true}
+use mathlib.Core.List.{List}
+use mathlib.Core.Logic.{inl, inr, ⊎-elim}
+use Prim.Native.Nat.{ℕ, _≤_}
+use native.Mathlib.Decide.{ℕ-discrete}
+use Rattle.wire.specs.Le.{Bytes}
+use Rattle.fields.specs.declared.Body.{Body}
+use Rattle.body.specs.Read.{readBody}
+use Rattle.body.proofs.Laws.{read-sound}
+use Rattle.rows.specs.Rows.{zeroRow, live, spoiled}
+use Rattle.rows.proofs.Judged.{zero-free}
+use Rattle.orders.specs.Work.{remade, reduced}
+use Rattle.orders.proofs.Applied.{row}
+use Rattle.orders.proofs.Spoils.{Sane, sane-not-spoiled, not-spoiled-sane, add-sane, named-sane, clear-sane, reduced-sane}
+use Rattle.book.specs.Plan.{moves, rowFor}
+use Rattle.book.specs.Book.{Book, applied}
+use Rattle.book.proofs.Steps.{broken-keeps, Names, orders-kept}
+use Rattle.book.proofs.Theorems.{row-live, add-entered, modify-done, modify-live, delete-done, execution-done, clear-done}
+
+module _ (n : ℕ) (b : List ℕ) (k : Book) (ranked : 1 ≤ n) (bytes : Bytes b) where
+  sane-by : (m : Body) (s : ℕ) → Names m s → readBody b ≡ m → applied n b k .rule ≡ 0 → (j : ℕ) → Sane (row (k .orders) j) → Sane (row (applied n b k .after .orders) j)
+  sane-by (Body.SymbolClear m) s x e z j h = subst (λ t. Sane (row t j)) (sym (clear-done m n b k e z)) (clear-sane (k .orders) j h (m .symbol))
+  sane-by (Body.Add m) s x e z j h = add-sane (k .orders) j h (rowFor m n) (applied n b k .after .orders) (add-entered m n b k e z) (row-live m n b bytes ranked (rw e at (read-sound b)))
+  sane-by (Body.Modify m) s x e z j h =
+      let d = modify-done m n b k e z in
+      named-sane (k .orders) j h (m .order) (m .symbol) (remade (m .price) (m .size) (moves (m .flags)) n) (applied n b k .after .orders) d
+      (inl (ap live (sym (d .became .here)) ∙ modify-live m n b k e z bytes ranked))
+  sane-by (Body.Delete m) s x e z j h = named-sane (k .orders) j h (m .order) (m .symbol) (λ r. zeroRow) (applied n b k .after .orders) (delete-done m n b k e z) (inr zero-free)
+  sane-by (Body.Execution m) s x e z j h =
+      let d = execution-done m n b k e z in
+      named-sane (k .orders) j h (m .order) (m .symbol) (reduced (m .size)) (applied n b k .after .orders) d (reduced-sane (m .size) (row (k .orders) (d .place)) (d .was-live))
+
+  -- a live or a free row is live or free afterwards
+  pub stays-sane : (j : ℕ) → Sane (row (k .orders) j) → Sane (row (applied n b k .after .orders) j)
+  stays-sane j h = go (ℕ-discrete (applied n b k .rule) 0)
+    where
+      go : Dec (applied n b k .rule ≡ 0) → Sane (row (applied n b k .after .orders) j)
+      go (yes z) = ⊎-elim (λ x. sane-by (readBody b) (x .0) (x .1) refl z j h) (λ e. subst (λ t. Sane (row t j)) (sym e) h) (orders-kept n b k)
+      go (no x) = subst (λ (u : Book). Sane (row (u .orders) j)) (sym (broken-keeps n b k x)) h
+
+  -- so a row that is spoiled afterwards was spoiled before
+  pub none-spoiled : (j : ℕ) → (spoiled (row (k .orders) j) ≡ true → ⊥) → spoiled (row (applied n b k .after .orders) j) ≡ true → ⊥
+  none-spoiled j h = sane-not-spoiled (row (applied n b k .after .orders) j) (stays-sane j (not-spoiled-sane (row (k .orders) j) h))

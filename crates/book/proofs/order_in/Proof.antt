@@ -1,0 +1,17 @@
+-- The row at the place that the search found.
+-- Assumes nothing.
+use borrow.Author.Needs.{needs}
+use Rattle.book.proofs.order_in.Statement.{statement}
+use Rattle.book.proofs.order_in.Tie as tie
+
+find-order-requires : tie.Need-find-order-requires
+find-order-requires c κs = search needs
+
+held-at-requires : tie.Need-held-at-requires
+held-at-requires c κs = search needs
+
+returns : tie.Need-returns
+returns c = rw (← (c .before .find-order .ensures)) (c .held-at .ensures)
+
+pub order-in-spec : {M : Type 1} → statement M
+order-in-spec = tie.close (tie.spec find-order-requires held-at-requires returns)
