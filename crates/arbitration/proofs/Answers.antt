@@ -10,7 +10,7 @@ use native.Mathlib.Omega.{arith}
 use borrow.Author.Tests.{ltb-true, ltb-false, leb-true, leb-false, eqb-true, eqb-false, ne-eqb, eq-eqb, lt-ltb, le-ltb, le-leb, lt-leb}
 use Rattle.facts.specs.Pick.{pick}
 use Rattle.facts.proofs.Picks.{pick-ind}
-use Rattle.packet.specs.Record.{Rec}
+use Rattle.wire.specs.Records.{Rec}
 use Rattle.arbitration.specs.Slots.{Slot, slotFor, sameSlot}
 use Rattle.arbitration.specs.Engine.{Engine, Store}
 use Rattle.arbitration.specs.Receive.{Answer, taken, old, tooFar, repeated, differing, judge, Said, State, drain, shelved, judged, acted, after, run, said, told}

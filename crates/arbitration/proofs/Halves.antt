@@ -12,7 +12,7 @@ use native.Mathlib.Omega.{arith}
 use native.Mathlib.Decide.{decLt}
 use Rattle.facts.specs.Pick.{pick}
 use Rattle.facts.specs.Sums.{sumBy, onlyIf, countBy}
-use Rattle.packet.specs.Record.{Rec}
+use Rattle.wire.specs.Records.{Rec}
 use Rattle.arbitration.specs.Slots.{Slot, slotBody}
 use Rattle.arbitration.specs.Engine.{Applied, ok, broke, Engine, Store}
 use Rattle.arbitration.specs.Receive.{Answer, taken, old, tooFar, repeated, differing, codeOf, count, ofApplied, goodSlot, State, slotOf, try, judged, after, run, said}

@@ -8,7 +8,7 @@ use mathlib.Core.Bool.{true, false≢true}
 use mathlib.Core.List.{List, [], _∷_}
 use lib.ListN.{length}
 use native.Mathlib.Omega.{arith}
-use Rattle.packet.specs.Record.{Rec}
+use Rattle.wire.specs.Records.{Rec}
 use Rattle.arbitration.specs.Slots.{Slot, emptySlot, slotFor, slotBody, sameSlot, Fits}
 use Rattle.arbitration.specs.Engine.{ok, Engine, Store}
 use Rattle.arbitration.specs.Receive.{taken, differing, State, slotOf, turned, drain, shelved, judged, after, run}

@@ -4,8 +4,9 @@ use Prim.Native.Nat.{ℕ}
 use mathlib.Core.Path.{_≡_, refl, sym, ap, _∙_}
 use mathlib.Core.List.{List, [], _∷_, _++_}
 use Rattle.fields.specs.declared.Refusal.{Refusal}
-use Rattle.packet.specs.Record.{Rec}
-use Rattle.packet.specs.Packet.{Framing, bad, records, framing}
+use Rattle.wire.specs.Records.{Rec}
+use Rattle.wire.specs.Records.{bad, records}
+use Rattle.packet.specs.Packet.{Framing, framing}
 use Rattle.packet.proofs.Laws.{GoodRec}
 use Rattle.packet.proofs.Good.{AllGood, Fine, framing-fine}
 use Rattle.arbitration.specs.Engine.{Engine, Store}

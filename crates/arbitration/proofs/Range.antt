@@ -6,7 +6,7 @@ use mathlib.Core.List.{List}
 use lib.ListN.{length}
 use native.Mathlib.Omega.{arith}
 use Rattle.body.proofs.Laws.{good-fits}
-use Rattle.packet.specs.Record.{Rec}
+use Rattle.wire.specs.Records.{Rec}
 use Rattle.packet.specs.Packet.{Framing, framing}
 use Rattle.arbitration.specs.Slots.{emptySlot, slotFor, Fits}
 use Rattle.arbitration.specs.Engine.{Engine, Store}

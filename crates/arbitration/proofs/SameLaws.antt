@@ -9,7 +9,7 @@ use lib.Dec.{leb, eqb}
 use native.Mathlib.Omega.{arith}
 use Rattle.facts.specs.Pick.{pick, both}
 use Rattle.facts.proofs.Picks.{both-true}
-use Rattle.packet.specs.Record.{Rec}
+use Rattle.wire.specs.Records.{Rec}
 use Rattle.arbitration.specs.Slots.{Slot, emptySlot, slotBody}
 use Rattle.arbitration.specs.Engine.{Applied, ok, broke, Engine, Store}
 use Rattle.arbitration.specs.Receive.{Answer, taken, old, tooFar, repeated, differing, Said, Try, nothing, stuck, goes, ofApplied, goodSlot, highest, countsOf, State, try, stop, turned, drain, shelved, judged, acted, after, run, said, told}

@@ -5,7 +5,7 @@ use Prim.Native.Nat.{ℕ, zero, suc, _+_, _%_, _≤_, _<_}
 use mathlib.Core.Path.{_≡_, refl, sym, ap, _∙_}
 use mathlib.Core.Logic.{_≢_, _⊎_, inl, inr}
 use native.Mathlib.Omega.{arith}
-use Rattle.packet.specs.Record.{Rec}
+use Rattle.wire.specs.Records.{Rec}
 use Rattle.arbitration.specs.Slots.{Slot, emptySlot, slotFor, Fits}
 use Rattle.arbitration.specs.Engine.{Engine, Store}
 use Rattle.arbitration.specs.Receive.{Answer, taken, old, repeated, Try, nothing, stuck, goes, State, slotOf, try, turned, drain, shelved, judged, acted, after}

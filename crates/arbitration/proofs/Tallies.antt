@@ -7,7 +7,7 @@ use lib.ListN.{length}
 use native.Mathlib.Omega.{arith}
 use Rattle.facts.specs.Pick.{pick}
 use Rattle.facts.specs.Sums.{sumBy, onlyIf, countBy}
-use Rattle.packet.specs.Record.{Rec}
+use Rattle.wire.specs.Records.{Rec}
 use Rattle.arbitration.specs.Engine.{Engine, Store}
 use Rattle.arbitration.specs.Receive.{Answer, taken, old, tooFar, repeated, differing, Said, count, Counts, countsOf, State, judged, acted, after, run, said, told}
 use Rattle.arbitration.proofs.Answers.{after-of}

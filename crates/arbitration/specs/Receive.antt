@@ -6,8 +6,9 @@ use lib.Dec.{ltb, leb, eqb}
 use Rattle.facts.specs.Pick.{pick, both}
 use Rattle.facts.specs.Sums.{countBy}
 use Rattle.fields.specs.declared.Refusal.{Refusal}
-use Rattle.packet.specs.Record.{Rec}
-use Rattle.packet.specs.Packet.{Framing, bad, records}
+use Rattle.wire.specs.Records.{Rec}
+use Rattle.wire.specs.Records.{bad, records}
+use Rattle.packet.specs.Packet.{Framing}
 use Rattle.arbitration.specs.Slots.{Slot, emptySlot, slotFor, slotBody, sameSlot}
 use Rattle.arbitration.specs.Engine.{Applied, ok, broke, Engine, Store}
 

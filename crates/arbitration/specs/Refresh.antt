@@ -6,7 +6,7 @@ use mathlib.Core.List.{List, [], _∷_}
 use lib.ListN.{length}
 use lib.Dec.{leb}
 use Rattle.facts.specs.Pick.{pick}
-use Rattle.packet.specs.Record.{Rec}
+use Rattle.wire.specs.Records.{Rec}
 use Rattle.arbitration.specs.Slots.{emptySlot}
 use Rattle.arbitration.specs.Engine.{Applied, ok, broke, Engine, Store}
 use Rattle.arbitration.specs.Receive.{State, drain, judged, after}

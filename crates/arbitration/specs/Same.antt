@@ -5,7 +5,7 @@ use mathlib.Core.Path.{_≡_}
 use mathlib.Core.Bool.{true}
 use mathlib.Core.List.{List, [], _∷_}
 use Rattle.arbitration.specs.Engine.{Applied, ok, broke, Engine, Store}
-use Rattle.packet.specs.Record.{Rec}
+use Rattle.wire.specs.Records.{Rec}
 use Rattle.arbitration.specs.Receive.{State}
 use Rattle.arbitration.specs.Refresh.{Event, came, took}
 

@@ -2,3 +2,4 @@ pub mod Pick
 pub mod Search
 pub mod Pieces
 pub mod Sums
+pub mod Limits

@@ -5,3 +5,20 @@ pub enum Found {
     At(usize),
     Nothing,
 }
+
+// The limits of document 01, each by one name (specs/Limits.antt has its sentences).
+pub const LAST_NUMBER: u64 = 1_000_000_000_000;
+
+pub const MOST_PRICE: u64 = 1_000_000_000_000_000;
+
+pub const PACKET_MOST: usize = 1_500;
+
+pub const HOLD_LEAST: usize = 1_502;
+
+pub const ENTRY_SIZE: usize = 42;
+
+pub const MOST_ROWS: usize = 1_600;
+
+pub const MOST_ENTRIES: usize = 1_000;
+
+pub const SHELF_SIZE: usize = 4_736;

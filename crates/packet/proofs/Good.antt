@@ -12,10 +12,11 @@ use lib.Seq.{drop-drop, length-take-le}
 use lib.Dec.{ltb, leb}
 use Rattle.facts.specs.Pick.{both}
 use Rattle.facts.proofs.Picks.{pick-ind, pick-cases, both-true}
+use Rattle.wire.specs.Records.{Rec, bad, records}
 use Rattle.fields.specs.Fields.{refusal}
 use Rattle.fields.specs.declared.Refusal.{Refusal}
-use Rattle.packet.specs.Record.{Rec, headOf, bodyOf, recOf, readRecord, recordNumber}
-use Rattle.packet.specs.Packet.{Framing, bad, records, before, behind, framesFrom, framing, told, readPacket, packetNumber}
+use Rattle.packet.specs.Record.{headOf, bodyOf, recOf, readRecord, recordNumber}
+use Rattle.packet.specs.Packet.{Framing, before, behind, framesFrom, framing, told, readPacket, packetNumber}
 use Rattle.packet.specs.declared.Head.{Head}
 use Rattle.packet.specs.declared.Record.{Record}
 use Rattle.packet.specs.declared.Packet.{Packet}

@@ -15,13 +15,14 @@ use Rattle.facts.specs.Pick.{pick, both}
 use Rattle.facts.proofs.Picks.{pick-ind, both-true}
 use Rattle.wire.specs.Le.{field}
 use Rattle.wire.proofs.Laws.{field-past}
+use Rattle.wire.specs.Records.{Rec, bad, records}
 use Rattle.fields.specs.Fields.{refusal, numberOf}
 use Rattle.fields.specs.declared.Refusal.{Refusal}
 use Rattle.fields.specs.declared.Body.{Body}
 use Rattle.body.specs.Read.{readBody, goodBody}
 use Rattle.body.proofs.Laws.{numbers, number-good}
-use Rattle.packet.specs.Record.{Rec, numberOk, headOf, bodyOf, recOf, refused, bodyJudged, readRecord}
-use Rattle.packet.specs.Packet.{Framing, bad, records, before, behind, framesFrom, framing, told, readPacket}
+use Rattle.packet.specs.Record.{numberOk, headOf, bodyOf, recOf, refused, bodyJudged, readRecord}
+use Rattle.packet.specs.Packet.{Framing, before, behind, framesFrom, framing, told, readPacket}
 use Rattle.packet.specs.declared.Head.{Head}
 use Rattle.packet.specs.declared.Record.{Record}
 use Rattle.packet.specs.declared.Packet.{Packet}

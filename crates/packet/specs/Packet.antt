@@ -4,16 +4,16 @@ use mathlib.Core.List.{List, [], _∷_}
 use lib.ListN.{length, drop}
 use lib.Dec.{ltb, leb}
 use Rattle.facts.specs.Pick.{pick, both}
+use Rattle.wire.specs.Records.{Rec, Frames, bad, records}
 use Rattle.fields.specs.Fields.{refusal}
 use Rattle.fields.specs.declared.Refusal.{Refusal}
-use Rattle.packet.specs.Record.{Rec, recOf, readRecord}
+use Rattle.packet.specs.Record.{recOf, readRecord}
 use Rattle.packet.specs.declared.Record.{Record}
 use Rattle.packet.specs.declared.Packet.{Packet}
 
 -- what framing makes of bytes: a refusal, or records
-pub data Framing : Type 0 where
-  bad : Refusal → Framing
-  records : List Rec → Framing
+abbrev pub Framing : Type 0
+Framing = Frames Refusal
 
 -- a record in front of what follows it
 unfoldable pub before : Rec → Framing → Framing

@@ -6,15 +6,11 @@ use lib.ListN.{length, take, drop}
 use lib.Dec.{ltb, leb, eqb}
 use Rattle.facts.specs.Pick.{pick, both}
 use Rattle.wire.specs.Le.{field}
+use Rattle.wire.specs.Records.{Rec}
 use Rattle.fields.specs.Fields.{refusal, numberOf}
 use Rattle.body.specs.Read.{readBody}
 use Rattle.packet.specs.declared.Head.{Head}
 use Rattle.packet.specs.declared.Record.{Record}
-
--- a record as those above know it: its number and its body
-pub record Rec : Type 0 where
-  pub number : ℕ
-  pub body : List ℕ
 
 -- "Sequence numbers run from 1 to 1,000,000,000,000"
 unfoldable pub numberOk : ℕ → Bool

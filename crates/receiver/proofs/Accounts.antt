@@ -8,11 +8,12 @@ use native.Mathlib.Omega.{arith}
 use lib.ListN.{length}
 use Rattle.facts.specs.Pick.{pick, both}
 use Rattle.facts.proofs.Picks.{both-true, pick-ind}
+use Rattle.wire.specs.Records.{bad, records}
 use borrow.Author.Tests.{leb-true}
 use lib.Dec.{leb}
 use Rattle.fields.specs.Fields.{refusal}
 use Rattle.fields.specs.declared.Refusal.{Refusal}
-use Rattle.packet.specs.Packet.{Framing, bad, records, framing, readPacket}
+use Rattle.packet.specs.Packet.{Framing, framing, readPacket}
 use Rattle.packet.specs.declared.Packet.{Packet}
 use Rattle.packet.proofs.Good.{bad-framing}
 use Rattle.arbitration.specs.Receive.{Counts, recordsOf, run, told, stop, highest}

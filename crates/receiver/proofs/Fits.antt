@@ -11,11 +11,11 @@ use lib.Dec.{eqb}
 use borrow.Author.Tests.{le-leb}
 use Rattle.facts.specs.Pick.{both}
 use Rattle.facts.proofs.Picks.{pick-cases, pick-ind, both-true}
+use Rattle.wire.specs.Records.{Rec, bad, records}
 use Rattle.fields.specs.Fields.{refusal}
 use Rattle.body.specs.Read.{goodBody}
 use Rattle.receiver.specs.declared.Received.{Received}
-use Rattle.packet.specs.Record.{Rec}
-use Rattle.packet.specs.Packet.{Framing, bad, records, framing}
+use Rattle.packet.specs.Packet.{Framing, framing}
 use Rattle.book.specs.Book.{Book, applied}
 use Rattle.book.proofs.Steps.{lengths-kept}
 use Rattle.arbitration.specs.Slots.{emptySlot, slotFor, slotBody}

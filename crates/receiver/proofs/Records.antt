@@ -5,9 +5,9 @@ use mathlib.Core.Path.{_≡_, sym, ap, _∙_}
 use mathlib.Core.List.{List}
 use native.Mathlib.Omega.{arith}
 use lib.ListN.{length, drop}
-use Rattle.packet.specs.Record.{Rec, headOf, bodyOf, recOf}
+use Rattle.packet.specs.Record.{headOf, bodyOf, recOf}
 use Rattle.packet.specs.declared.Head.{Head}
-use Rattle.packet.specs.Packet.{records, framesFrom, framing}
+use Rattle.packet.specs.Packet.{framesFrom, framing}
 use Rattle.packet.proofs.Good.{Step, step, step-end, framing-size}
 use Rattle.arbitration.specs.Receive.{Counts, recordsOf, judged, acted}
 use Rattle.arbitration.specs.Receive as theory
@@ -17,6 +17,7 @@ use Rattle.shelf.specs.Store.{shelfStore}
 use Rattle.receiver.specs.Rules.{bookEngine}
 use Rattle.receiver.specs.Lent.{Rx, rec, answerOf, GoodPacket}
 use Rattle.receiver.specs.declared.Answer.{Answer}
+use Rattle.wire.specs.Records.{Rec, records}
 
 abbrev W : Type 0
 W = Working shelfStore bookEngine

@@ -6,9 +6,9 @@ use mathlib.Core.Path.{_≡_}
 use lib.ListN.{length, replicate}
 use lib.Dec.{leb}
 use Rattle.facts.specs.Pick.{pick, both}
+use Rattle.wire.specs.Records.{Rec, bad, records}
 use Rattle.fields.specs.Fields.{refusal}
-use Rattle.packet.specs.Record.{Rec}
-use Rattle.packet.specs.Packet.{Framing, bad, records, framing}
+use Rattle.packet.specs.Packet.{Framing, framing}
 use Rattle.rows.specs.Rows.{goodRows}
 use Rattle.symbols.specs.Entries.{goodEntries}
 use Rattle.book.specs.Plan.{clock}

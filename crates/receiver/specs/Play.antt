@@ -8,8 +8,8 @@ use lib.Dec.{ltb}
 use Rattle.facts.specs.Pick.{pick}
 use Rattle.fields.specs.Fields.{refusal}
 use Rattle.wire.specs.Le.{field}
+use Rattle.wire.specs.Records.{Rec}
 use Rattle.body.specs.Read.{goodBody}
-use Rattle.packet.specs.Record.{Rec}
 use Rattle.packet.specs.Packet.{framing}
 use Rattle.book.specs.Plan.{clock}
 use Rattle.book.specs.Book.{Book, book}

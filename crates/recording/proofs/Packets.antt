@@ -15,8 +15,9 @@ use Rattle.facts.specs.Pick.{pick, both, either}
 use Rattle.facts.specs.Pieces.{join}
 use Rattle.facts.proofs.Picks.{pick-ind, either-none}
 use Rattle.wire.specs.Le.{field}
+use Rattle.wire.specs.Records.{bad}
 use Rattle.fields.specs.Fields.{refusal}
-use Rattle.packet.specs.Packet.{Framing, bad, framing}
+use Rattle.packet.specs.Packet.{Framing, framing}
 use Rattle.arbitration.specs.Stream.{feed as each, feeds}
 use Rattle.arbitration.proofs.StreamLaws as pieces
 use Rattle.receiver.specs.Lent.{Lent, Outcome, outcome, framed, received, sizesOk, nextOk}

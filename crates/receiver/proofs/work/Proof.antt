@@ -6,8 +6,7 @@ use Prim.Native.Nat.{_+_, _-_, _*_, _≤_}
 use native.Mathlib.Omega.{arith}
 use borrow.Author.Needs.{needs}
 use lib.ListN.{length, drop}
-use Rattle.packet.specs.Record.{Rec}
-use Rattle.packet.specs.Packet.{records, framesFrom}
+use Rattle.packet.specs.Packet.{framesFrom}
 use Rattle.packet.specs.declared.Head.{Head}
 use Rattle.arbitration.proofs.Tallies.{working, work as workAll, total}
 use Rattle.shelf.specs.Store.{shelfStore}
@@ -15,6 +14,7 @@ use Rattle.receiver.specs.Rules.{bookEngine}
 use Rattle.receiver.proofs.Records.{leftFrom, worked-bounds, next-inside, next-frames, next-works, first-frames, last-works, same-record}
 use Rattle.receiver.proofs.work.Statement.{statement}
 use Rattle.receiver.proofs.work.Tie as tie
+use Rattle.wire.specs.Records.{Rec, records}
 
 abbrev Inv-loop : tie.InvT-loop
 Inv-loop orders₀ symbols₀ shelf₀ p w₀ at₀ orders symbols shelf w at =

@@ -1,0 +1,34 @@
+-- The limits of document 01, each once. The code's are the constants of src/lib.rt; a contract that speaks of both ties them.
+use Prim.Native.Nat.{ℕ}
+
+-- "Sequence numbers run from 1 to 1,000,000,000,000"
+abbrev pub lastNumber : ℕ
+lastNumber = 1000000000000
+
+-- "price (millionths of a dollar) 1 to 1,000,000,000,000,000"
+abbrev pub mostPrice : ℕ
+mostPrice = 1000000000000000
+
+-- "A packet is 1 to 1,500 bytes"
+abbrev pub packetMost : ℕ
+packetMost = 1500
+
+-- a packet of that size behind its two-byte length: what an unfinished one may need
+abbrev pub holdLeast : ℕ
+holdLeast = 1502
+
+-- "entries of 42 bytes", a Symbol Update's length; no message is longer
+abbrev pub entrySize : ℕ
+entrySize = 42
+
+-- "Capacity 1 to 1,600 rows"
+abbrev pub mostRows : ℕ
+mostRows = 1600
+
+-- "The symbol table holds 1 to 1,000 entries"
+abbrev pub mostEntries : ℕ
+mostEntries = 1000
+
+-- "64 slots of 74 bytes"
+abbrev pub shelfSize : ℕ
+shelfSize = 4736
