@@ -9,28 +9,29 @@ use Rattle.facts.specs.Pick.{pick}
 use Rattle.facts.specs.Sums.{sumBy, onlyIf, countBy}
 use Rattle.wire.specs.Records.{Rec}
 use Rattle.arbitration.specs.Engine.{Engine, Store}
-use Rattle.arbitration.specs.Receive.{Answer, taken, old, tooFar, repeated, differing, Said, count, Counts, countsOf, State, judged, acted, after, run, said, told}
+use Rattle.arbitration.specs.Receive.{Answer, taken, old, tooFar, repeated, differing, Said, count, countsOf, State, judged, acted, after, run, said, told}
+use Rattle.arbitration.specs.declared.Counts.{Counts}
 use Rattle.arbitration.proofs.Answers.{after-of}
 
 -- the five counts with one answer more
 abbrev pub counted : Answer → Counts → Counts
-counted taken t = record { c10 = t .c10 + 1; c11 = t .c11; c12 = t .c12; c13 = t .c13; c14 = t .c14 }
-counted old t = record { c10 = t .c10; c11 = t .c11 + 1; c12 = t .c12; c13 = t .c13; c14 = t .c14 }
-counted tooFar t = record { c10 = t .c10; c11 = t .c11; c12 = t .c12 + 1; c13 = t .c13; c14 = t .c14 }
-counted repeated t = record { c10 = t .c10; c11 = t .c11; c12 = t .c12; c13 = t .c13 + 1; c14 = t .c14 }
-counted differing t = record { c10 = t .c10; c11 = t .c11; c12 = t .c12; c13 = t .c13; c14 = t .c14 + 1 }
+counted taken t = record { taken = t .taken + 1; old = t .old; far = t .far; repeated = t .repeated; differing = t .differing }
+counted old t = record { taken = t .taken; old = t .old + 1; far = t .far; repeated = t .repeated; differing = t .differing }
+counted tooFar t = record { taken = t .taken; old = t .old; far = t .far + 1; repeated = t .repeated; differing = t .differing }
+counted repeated t = record { taken = t .taken; old = t .old; far = t .far; repeated = t .repeated + 1; differing = t .differing }
+counted differing t = record { taken = t .taken; old = t .old; far = t .far; repeated = t .repeated; differing = t .differing + 1 }
 
 abbrev pub noCounts : Counts
-noCounts = record { c10 = 0; c11 = 0; c12 = 0; c13 = 0; c14 = 0 }
+noCounts = record { taken = 0; old = 0; far = 0; repeated = 0; differing = 0 }
 
 abbrev plus : Counts → Counts → Counts
-plus a b = record { c10 = a .c10 + b .c10; c11 = a .c11 + b .c11; c12 = a .c12 + b .c12; c13 = a .c13 + b .c13; c14 = a .c14 + b .c14 }
+plus a b = record { taken = a .taken + b .taken; old = a .old + b .old; far = a .far + b .far; repeated = a .repeated + b .repeated; differing = a .differing + b .differing }
 
 abbrev pub total : Counts → ℕ
-total t = t .c10 + t .c11 + t .c12 + t .c13 + t .c14
+total t = t .taken + t .old + t .far + t .repeated + t .differing
 
-counts-eq : (a b : Counts) → a .c10 ≡ b .c10 → a .c11 ≡ b .c11 → a .c12 ≡ b .c12 → a .c13 ≡ b .c13 → a .c14 ≡ b .c14 → a ≡ b
-counts-eq a b p q r s u = λ i. record { c10 = p i; c11 = q i; c12 = r i; c13 = s i; c14 = u i }
+counts-eq : (a b : Counts) → a .taken ≡ b .taken → a .old ≡ b .old → a .far ≡ b .far → a .repeated ≡ b .repeated → a .differing ≡ b .differing → a ≡ b
+counts-eq a b p q r s u = λ i. record { taken = p i; old = q i; far = r i; repeated = s i; differing = u i }
 
 -- one answer more
 counts-more : (a : Answer) (n : ℕ) (t : Counts) (l : List Said) → plus (counted a t) (countsOf l) ≡ plus t (countsOf (record { number = n; answer = a } ∷ l))

@@ -7,7 +7,7 @@ use mathlib.Core.Bool.{Bool, true, false, false≢true}
 use native.Mathlib.Omega.{arith}
 use borrow.Author.Tests.{le-leb, lt-leb, eq-eqb, ne-eqb, eqb-true, eqb-false}
 use Rattle.facts.specs.Pick.{pick, both}
-use Rattle.facts.proofs.Picks.{pick-cases}
+use Rattle.facts.proofs.Picks.{pick-cases, both-true}
 use Rattle.arbitration.specs.Slots.{Slot, slotBody}
 use Rattle.arbitration.specs.Engine.{Applied, ok, broke, Engine, Store}
 use Rattle.arbitration.specs.Receive.{Try, nothing, stuck, goes, ofApplied, goodSlot, State, slotOf, try, stop, turned, drain}
@@ -30,6 +30,10 @@ long-bad E s h = rw (lt-leb _ _ h)
 pub short-good : (E : Engine) (s : Slot) → s .len ≤ 64 → goodSlot E s ≡ E .good (slotBody s)
 unfolding goodSlot both
 short-good E s h = rw (le-leb _ _ h)
+
+pub slot-good : (E : Engine) (s : Slot) → goodSlot E s ≡ true → E .good (slotBody s) ≡ true
+unfolding goodSlot
+slot-good E s e = both-true e .1
 
 module _ (S : Store) (E : Engine) where
   -- where one turn leads, and whether it applied a message: what code that makes one turn answers
@@ -99,6 +103,7 @@ module _ (S : Store) (E : Engine) where
     pub record Went (b : E .Book) : Type 0 where
       pub number-is : here .number ≡ r .next
       pub number-not-0 : here .number ≢ 0
+      pub is-good : E .good (slotBody here) ≡ true
       pub applied : E .apply (r .next) (slotBody here) (r .book) ≡ ok b
 
     pub try-goes : (b : E .Book) → try S E r ≡ goes b → Went b
@@ -110,7 +115,7 @@ module _ (S : Store) (E : Engine) where
             | inr g ↦ absurd (stuck≢goes (g .1))
             | inl g ↦ elim (pick-cases (g .1)) [
               | inr f ↦ absurd (stuck≢goes (f .1))
-              | inl f ↦ record { number-is = eqb-true _ _ (g .0); number-not-0 = eqb-false _ _ (h .0); applied = applied-goes _ (f .1) }
+              | inl f ↦ record { number-is = eqb-true _ _ (g .0); number-not-0 = eqb-false _ _ (h .0); is-good = slot-good E _ (f .0); applied = applied-goes _ (f .1) }
             ]
           ]
         ]
