@@ -1,6 +1,7 @@
 pub mod Slots
 pub mod Engine
 pub mod Receive
+pub mod Loops
 pub mod Lists
 pub mod Refresh
 pub mod Same
