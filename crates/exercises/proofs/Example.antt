@@ -46,7 +46,7 @@ unfolding exercises.begins exercises.goesOn
     kinds.table kinds.lookup kinds.lengthOf kinds.kindOf
     fields.decoded
     ranges.oneOf ranges.sideOk ranges.priceOk ranges.sizeOk ranges.testOk ranges.marketOk
-    faults.faultAt faults.firstOf faults.dealFault faults.faultOf
+    faults.faultFrom faults.faultOf
     read.framed read.judged read.readBody read.goodBody
     head.numberOk head.bodyOf head.bodyJudged head.readRecord
     packet.before packet.behind packet.framesFrom packet.framing

@@ -51,7 +51,7 @@ unfolding table
     kinds.table kinds.lookup kinds.lengthOf kinds.kindOf
     fields.decoded
     ranges.oneOf ranges.sideOk ranges.priceOk ranges.sizeOk ranges.testOk ranges.marketOk ranges.flagsOk
-    faults.faultAt faults.firstOf faults.dealFault faults.faultOf
+    faults.faultFrom faults.faultOf
     read.framed read.judged read.readBody read.goodBody
     head.numberOk head.bodyOf head.bodyJudged head.readRecord
     packet.before packet.behind packet.framesFrom packet.framing

@@ -76,16 +76,16 @@ decoded Kind.TradeCancel b = Body.TradeCancel (cancelOf b)
 decoded Kind.Unknown b = Body.Refused (refusal 3)
 
 -- document 01's number of each answer, 0 for a message
-abbrev pub numberOf : Body → ℕ
-numberOf (Body.SystemTime n) = 0
-numberOf Body.SymbolUpdate = 0
-numberOf Body.SystemState = 0
-numberOf (Body.TradingStatus m) = 0
-numberOf (Body.SymbolClear m) = 0
-numberOf (Body.Add m) = 0
-numberOf (Body.Modify m) = 0
-numberOf (Body.Delete m) = 0
-numberOf (Body.Execution m) = 0
-numberOf (Body.Trade m) = 0
-numberOf (Body.TradeCancel m) = 0
-numberOf (Body.Refused r) = r .number
+abbrev pub bodyNumber : Body → ℕ
+bodyNumber (Body.SystemTime n) = 0
+bodyNumber Body.SymbolUpdate = 0
+bodyNumber Body.SystemState = 0
+bodyNumber (Body.TradingStatus m) = 0
+bodyNumber (Body.SymbolClear m) = 0
+bodyNumber (Body.Add m) = 0
+bodyNumber (Body.Modify m) = 0
+bodyNumber (Body.Delete m) = 0
+bodyNumber (Body.Execution m) = 0
+bodyNumber (Body.Trade m) = 0
+bodyNumber (Body.TradeCancel m) = 0
+bodyNumber (Body.Refused r) = r .number

@@ -10,6 +10,7 @@ use borrow.Author.Tests.{leb-true}
 use lib.ListN.{length, drop, length-drop}
 use lib.Seq.{drop-drop, length-take-le}
 use lib.Dec.{ltb, leb}
+use Rattle.facts.specs.Limits.{packetMost}
 use Rattle.facts.specs.Pick.{both}
 use Rattle.facts.proofs.Picks.{pick-ind, pick-cases, both-true}
 use Rattle.wire.specs.Records.{Rec, bad, records}
@@ -53,7 +54,7 @@ frames-fine (suc f) t =
 pub framing-fine : (p : List ℕ) → Fine (framing p)
 unfolding framing
 framing-fine p =
-    pick-ind Fine (both (leb 1 (length p)) (leb (length p) 1500)) (framesFrom (length p) p) (bad (refusal 1))
+    pick-ind Fine (both (leb 1 (length p)) (leb (length p) packetMost)) (framesFrom (length p) p) (bad (refusal 1))
     (λ _. frames-fine (length p) p)
     (λ _. (omega arith, omega arith))
 
@@ -107,12 +108,12 @@ pub data Outcome (p : List ℕ) : Type 0 where
   refused : (r : Refusal) → framing p ≡ bad r → readPacket p ≡ Packet.Refused r → 1 ≤ r .number → r .number ≤ 5 → Outcome p
 
 -- a good packet's size
-pub framing-size : (p : List ℕ) (cs : List Rec) → framing p ≡ records cs → (1 ≤ length p) × (length p ≤ 1500) × (framesFrom (length p) p ≡ records cs)
+pub framing-size : (p : List ℕ) (cs : List Rec) → framing p ≡ records cs → (1 ≤ length p) × (length p ≤ packetMost) × (framesFrom (length p) p ≡ records cs)
 unfolding framing
 framing-size p cs e = elim (pick-cases e) [ inl h ↦ sized (h .0) (h .1) | inr h ↦ let z : _≡_ {A = ℕ} 0 1 = cc in absurd (omega arith) ]
   where
-    sized : both (leb 1 (length p)) (leb (length p) 1500) ≡ true → framesFrom (length p) p ≡ records cs → (1 ≤ length p) × (length p ≤ 1500) × (framesFrom (length p) p ≡ records cs)
-    sized t f = let b = both-true {a = leb 1 (length p)} {b = leb (length p) 1500} t in (leb-true 1 (length p) (b .0), leb-true (length p) 1500 (b .1), f)
+    sized : both (leb 1 (length p)) (leb (length p) packetMost) ≡ true → framesFrom (length p) p ≡ records cs → (1 ≤ length p) × (length p ≤ packetMost) × (framesFrom (length p) p ≡ records cs)
+    sized t f = let b = both-true {a = leb 1 (length p)} {b = leb (length p) packetMost} t in (leb-true 1 (length p) (b .0), leb-true (length p) packetMost (b .1), f)
 
 some-records : (p : List ℕ) (cs : List Rec) → framing p ≡ records cs → 1 ≤ length cs
 some-records p cs e =
