@@ -12,13 +12,14 @@ use borrow.Author.Tests.{eq-eqb, ne-eqb, eqb-true, leb-true, lt-ltb, ltb-true}
 use Rattle.facts.specs.Limits.{mostPrice, entrySize}
 use Rattle.facts.specs.Pick.{pick, both, either}
 use Rattle.facts.proofs.Picks.{pick-ind, pick-cases, both-true, either-true, either-none}
-use Rattle.wire.specs.Le.{field}
 use Rattle.layout.specs.Shape.{Shape, width, Values}
 use Rattle.layout.specs.Layout.{shapes, fieldsIn}
+use Rattle.layout.specs.Message.{readAs}
 use Rattle.kinds.specs.Table.{lengthOf, kindOf, typeOf, kindLength, refusalOf}
 use Rattle.kinds.specs.declared.Kind.{Kind}
 use Rattle.kinds.proofs.Laws.{Lengths, lengths, no-length}
 use Rattle.fields.specs.Fields.{statusOf, clearOf, addOf, modifyOf, deleteOf, executionOf, tradeOf, cancelOf, refusal, decoded, bodyNumber}
+use Rattle.fields.specs.Messages.{systemTime, symbolUpdate}
 use Rattle.fields.specs.declared.Body.{Body}
 use Rattle.body.specs.Ranges.{oneOf, sideOk, priceOk, sizeOk, flagsOk, testOk, marketOk}
 use Rattle.body.specs.Faults.{Tests, tests, faultFrom, faultOf}
@@ -63,19 +64,19 @@ pub record Framed (k : Kind) (b : List ℕ) : Type 0 where
   pub some : 1 ≤ length b
   pub most : length b ≤ entrySize
 
--- what an answer says of the bytes
+-- what an answer says: the body is framed, the message is what its layout reads there, and the fields that it shows are in range
 abbrev pub Sound : Body → List ℕ → Type 0
-Sound (Body.SystemTime n) b = Framed Kind.SystemTime b × (n ≡ field b 1 4)
-Sound Body.SymbolUpdate b = Framed Kind.SymbolUpdate b × (testOk (getD b 21 0) ≡ true) × (marketOk (getD b 41 0) ≡ true)
+Sound (Body.SystemTime n) b = Framed Kind.SystemTime b × (n ≡ readAs systemTime b)
+Sound Body.SymbolUpdate b = Framed Kind.SymbolUpdate b × (testOk (readAs symbolUpdate b .test) ≡ true) × (marketOk (readAs symbolUpdate b .market) ≡ true)
 Sound Body.SystemState b = Framed Kind.SystemState b
 Sound (Body.TradingStatus m) b = Framed Kind.TradingStatus b × (m ≡ statusOf b)
 Sound (Body.SymbolClear m) b = Framed Kind.SymbolClear b × (m ≡ clearOf b)
-Sound (Body.Add m) b = Framed Kind.Add b × (m ≡ addOf b) × (sideOk (getD b 17 0) ≡ true) × Deal (field b 18 8) (field b 26 4)
-Sound (Body.Modify m) b = Framed Kind.Modify b × (m ≡ modifyOf b) × Deal (field b 17 8) (field b 25 4) × (flagsOk (getD b 29 0) ≡ true)
+Sound (Body.Add m) b = Framed Kind.Add b × (m ≡ addOf b) × (sideOk (m .side) ≡ true) × Deal (m .price) (m .size)
+Sound (Body.Modify m) b = Framed Kind.Modify b × (m ≡ modifyOf b) × Deal (m .price) (m .size) × (flagsOk (m .flags) ≡ true)
 Sound (Body.Delete m) b = Framed Kind.Delete b × (m ≡ deleteOf b)
-Sound (Body.Execution m) b = Framed Kind.Execution b × (m ≡ executionOf b) × Deal (field b 25 8) (field b 33 4)
-Sound (Body.Trade m) b = Framed Kind.Trade b × (m ≡ tradeOf b) × Deal (field b 18 8) (field b 26 4)
-Sound (Body.TradeCancel m) b = Framed Kind.TradeCancel b × (m ≡ cancelOf b) × Deal (field b 18 8) (field b 26 4)
+Sound (Body.Execution m) b = Framed Kind.Execution b × (m ≡ executionOf b) × Deal (m .price) (m .size)
+Sound (Body.Trade m) b = Framed Kind.Trade b × (m ≡ tradeOf b) × Deal (m .price) (m .size)
+Sound (Body.TradeCancel m) b = Framed Kind.TradeCancel b × (m ≡ cancelOf b) × Deal (m .price) (m .size)
 Sound (Body.Refused r) b = (r ≡ refusal 3) ⊎ (r ≡ refusal 4)
 
 -- every field of the kind holds its test
