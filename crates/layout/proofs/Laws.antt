@@ -97,10 +97,6 @@ tiles k l = go (lookup-rule tileTest table table-tiles (typeOf k))
 
 -- ---- reading what was written, and writing what was read
 module _ (k : Kind) where
-  pub length-body : (vs : Fields k) → FieldsFit k vs → length (bodyFor k vs) ≡ 1 + total (shapes k)
-  unfolding bodyFor
-  length-body vs f = omega (arith, length-joined (shapes k) vs f)
-
   pub fields-back : (vs : Fields k) → FieldsFit k vs → fieldsIn k (bodyFor k vs) ≡ vs
   unfolding bodyFor
   fields-back vs f = cut-joined (shapes k) vs (typeOf k ∷ []) 1 refl f

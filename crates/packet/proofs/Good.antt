@@ -8,7 +8,7 @@ use Prim.Native.Nat.{ℕ, zero, suc, _+_, _≤_, _<_}
 use native.Mathlib.Omega.{arith}
 use borrow.Author.Tests.{leb-true}
 use lib.ListN.{length, drop, length-drop}
-use lib.Seq.{drop-drop, length-take-le}
+use lib.Seq.{drop-drop}
 use lib.Dec.{ltb, leb}
 use Rattle.facts.specs.Limits.{packetMost}
 use Rattle.facts.specs.Pick.{both}
@@ -16,7 +16,7 @@ use Rattle.facts.proofs.Picks.{pick-ind, pick-cases, both-true}
 use Rattle.wire.specs.Records.{Rec, bad, records}
 use Rattle.fields.specs.Fields.{refusal}
 use Rattle.fields.specs.declared.Refusal.{Refusal}
-use Rattle.packet.specs.Record.{headOf, bodyOf, recOf, readRecord, recordNumber}
+use Rattle.packet.specs.Record.{headOf, recOf, readRecord, recordNumber}
 use Rattle.packet.specs.Packet.{Framing, before, behind, framesFrom, framing, told, readPacket, packetNumber}
 use Rattle.packet.specs.declared.Head.{Head}
 use Rattle.packet.specs.declared.Record.{Record}
@@ -63,13 +63,8 @@ pub record Step (p : List ℕ) (at : ℕ) (cs : List Rec) : Type 0 where
   pub others : List Rec
   pub first-is : cs ≡ recOf (drop at p) ∷ others
   pub good : GoodRec (recOf (drop at p))
-  pub body-length : length (bodyOf (drop at p)) ≡ headOf (drop at p) .len
   pub inside : at + (10 + headOf (drop at p) .len) ≤ length p
   pub next : framesFrom (length p) (drop (at + (10 + headOf (drop at p) .len)) p) ≡ records others
-
-whole-body : (t : List ℕ) → 10 + headOf t .len ≤ length t → length (bodyOf t) ≡ headOf t .len
-unfolding bodyOf
-whole-body t w = length-take-le (headOf t .len) (drop 10 t) (rw length-drop (omega arith))
 
 pub step : (p : List ℕ) (at : ℕ) (cs : List Rec) → at < length p → framesFrom (length p) (drop at p) ≡ records cs → Step p at cs
 unfolding behind before
@@ -89,7 +84,6 @@ step p at cs lt e =
           others = os;
           first-is = cc;
           good = g;
-          body-length = whole-body (drop at p) w′;
           inside = omega (arith, length-drop at p);
           next = ap (framesFrom (length p)) (sym (drop-drop (10 + headOf (drop at p) .len) at p) ∙ ap (λ k. drop (10 + k) (drop at p)) (sym l)) ∙ x;
         }

@@ -2,7 +2,7 @@
 -- Assumes nothing.
 use mathlib.Core.Path.{_≡_, refl, ap, sym, _∙_, subst}
 use mathlib.Core.List.{List, []}
-use mathlib.Core.Bool.{true}
+use mathlib.Core.Bool.{true, false}
 use mathlib.Core.Logic.{_⊎_, inl, inr}
 use Prim.Native.Nat.{ℕ, zero, suc, _+_, _-_, _≤_, _<_}
 use native.Mathlib.Nat.{add-sub-cancel-left, add-zero, zero-add}
@@ -56,14 +56,33 @@ body-past p at h =
 pub body-short : (p : List ℕ) (at n : ℕ) → n ≡ field (drop at p) 8 2 → length p - (at + 10) < n → drop (at + 10) p ≡ bodyOf (drop at p)
 body-short p at n e h = sym (take-all n (drop (at + 10) p) (rw length-drop (omega arith))) ∙ body-part p at n e
 
--- a record that is whole and whose number is good: the body reader decides
-pub record-judged : (t : List ℕ) (h : Head) (m : Body) (k : ℕ) → h ≡ headOf t → 10 ≤ length t → h .len ≤ length t - 10 → numberOk (h .number) ≡ true → m ≡ readBody (take (10 + h .len - 10) (drop 10 t)) → k ≡ bodyNumber m → readRecord t ≡ bodyJudged k (Record.Good h)
+-- ---- a record is judged by 2, 5, 3, 4: each is told whatever stands behind it
+pub short-header : (t : List ℕ) → length t < 10 → refused 2 ≡ readRecord t
 unfolding readRecord pick
-record-judged t h m k e a b o r q =
-    let n : h .len ≡ field t 8 2 = ap (λ x. x .len) e in
-    let s : h .number ≡ field t 0 8 = ap (λ x. x .number) e in
-    let j : k ≡ bodyNumber (readBody (bodyOf t)) = q ∙ ap bodyNumber (r ∙ ap readBody (body-cut t (h .len) n)) in
-    simp (le-ltb (length t) 10 a, ← n, le-ltb _ _ b, ← s, o, ← j)
+short-header t a = simp (lt-ltb (length t) 10 a)
+
+module _ (t : List ℕ) (h : Head) (e : h ≡ headOf t) (a : 10 ≤ length t) where
+  len-is : h .len ≡ field t 8 2
+  len-is = ap (λ x. x .len) e
+
+  number-is : h .number ≡ field t 0 8
+  number-is = ap (λ x. x .number) e
+
+  pub short-body : length t - 10 < h .len → refused 2 ≡ readRecord t
+  unfolding readRecord pick
+  short-body b = simp (le-ltb (length t) 10 a, ← len-is, lt-ltb _ _ b)
+
+  module _ (b : h .len ≤ length t - 10) where
+    pub bad-number : numberOk (h .number) ≡ false → refused 5 ≡ readRecord t
+    unfolding readRecord pick
+    bad-number o = simp (le-ltb (length t) 10 a, ← len-is, le-ltb _ _ b, ← number-is, o)
+
+    -- 3 and 4 are the body reader's
+    pub record-judged : numberOk (h .number) ≡ true → (m : Body) (k : ℕ) → m ≡ readBody (take (10 + h .len - 10) (drop 10 t)) → k ≡ bodyNumber m → bodyJudged k (Record.Good h) ≡ readRecord t
+    unfolding readRecord pick
+    record-judged o m k r q =
+        let j : k ≡ bodyNumber (readBody (bodyOf t)) = q ∙ ap bodyNumber (r ∙ ap readBody (body-cut t (h .len) len-is)) in
+        simp (le-ltb (length t) 10 a, ← len-is, le-ltb _ _ b, ← number-is, o, ← j)
 
 pub judged-good : (g : Record) (k : ℕ) → k ≡ 0 → g ≡ bodyJudged k g
 unfolding bodyJudged pick
