@@ -11,7 +11,7 @@ use mir.ValLaws.{toZ-ofZ}
 use borrow.Author.Tests.{eq-eqb, ne-eqb}
 use Rattle.facts.specs.Pick.{pick}
 use Rattle.kinds.specs.Table.{typeOf}
-use Rattle.fields.specs.Fields.{numberOf}
+use Rattle.fields.specs.Fields.{bodyNumber}
 use Rattle.fields.specs.declared.Body.{Body}
 use Rattle.body.specs.Read.{readBody}
 use Rattle.body.proofs.Laws.{Sound, read-sound}
@@ -79,18 +79,18 @@ module _ (x v : SpreadAnswer) (e : x ≡ v) (l : List ℕ) where
 pub case-fields : (t : ℕ) (m k : Body) → m ≡ k → (b w : List ℕ) → w ≡ typed t k b → w ≡ typed t m b
 case-fields t m k q b w f = f ∙ ap (λ (y : Body). typed t y b) (sym q)
 
-module _ (m v : Body) (e : m ≡ v) (b l : List ℕ) (n : ℕ) (f : n ≡ numberOf m) where
+module _ (m v : Body) (e : m ≡ v) (b l : List ℕ) (n : ℕ) (f : n ≡ bodyNumber m) where
   pub body-refused : (n ≡ 0 → ⊥) → call n l ≡ bodyAnswer v b l
   unfolding bodyAnswer pick
   body-refused h =
-      let g : bodyAnswer m b l ≡ call (numberOf m) l = rw (ne-eqb (numberOf m) 0 (λ z. h (f ∙ z))) in
+      let g : bodyAnswer m b l ≡ call (bodyNumber m) l = rw (ne-eqb (bodyNumber m) 0 (λ z. h (f ∙ z))) in
       ap (λ (y : ℕ). call y l) f ∙ sym g ∙ ap (λ (y : Body). bodyAnswer y b l) e
 
   -- told by the type t that the body starts with
   pub body-told : v ≡ readBody b → n ≡ 0 → (t : ℕ) → t ≡ getD b 0 0 → (w : List ℕ) → w ≡ typed t m b → call 0 w ≡ bodyAnswer v b l
   unfolding bodyAnswer pick
   body-told r z t h w g =
-      let o : numberOf m ≡ 0 = sym f ∙ z in
+      let o : bodyNumber m ≡ 0 = sym f ∙ z in
       let k : t ≡ typeOf (kindIn m) = h ∙ sym (type-told m b (subst (λ (y : Body). Sound y b) (sym (e ∙ r)) (read-sound b)) o) in
-      let a : bodyAnswer m b l ≡ call (numberOf m) (fieldsOf m b) = rw (eq-eqb (numberOf m) 0 o) in
+      let a : bodyAnswer m b l ≡ call (bodyNumber m) (fieldsOf m b) = rw (eq-eqb (bodyNumber m) 0 o) in
       ap (call 0) (g ∙ ap (λ (y : ℕ). typed y m b) k) ∙ ap (λ (y : ℕ). call y (fieldsOf m b)) (sym o) ∙ sym a ∙ ap (λ (y : Body). bodyAnswer y b l) e

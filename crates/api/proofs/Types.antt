@@ -7,14 +7,14 @@ use mathlib.Core.Logic.{inl, inr}
 use native.Mathlib.Omega.{arith}
 use lib.ListN.{getD}
 use Rattle.kinds.specs.Table.{typeOf}
-use Rattle.fields.specs.Fields.{numberOf}
+use Rattle.fields.specs.Fields.{bodyNumber}
 use Rattle.fields.specs.declared.Body.{Body}
 use Rattle.body.specs.Read.{readBody}
 use Rattle.body.proofs.Laws.{Sound, read-sound}
 use Rattle.api.specs.Messages.{typed, kindIn, fieldsOf}
 
 -- the kind of what was read has the type that the body starts with
-pub type-told : (m : Body) (b : List ℕ) → Sound m b → numberOf m ≡ 0 → typeOf (kindIn m) ≡ getD b 0 0
+pub type-told : (m : Body) (b : List ℕ) → Sound m b → bodyNumber m ≡ 0 → typeOf (kindIn m) ≡ getD b 0 0
 type-told (Body.SystemTime n) b s z = sym (s .0 .type-is)
 type-told Body.SymbolUpdate b s z = sym (s .0 .type-is)
 type-told Body.SystemState b s z = sym (s .type-is)
@@ -45,5 +45,5 @@ typed-first t (Body.TradeCancel m) b = refl
 typed-first t (Body.Refused r) b = refl
 
 -- "The type byte decides the message": what a caller is told is the byte itself
-pub type-first : (b : List ℕ) → numberOf (readBody b) ≡ 0 → getD (fieldsOf (readBody b) b) 0 0 ≡ getD b 0 0
+pub type-first : (b : List ℕ) → bodyNumber (readBody b) ≡ 0 → getD (fieldsOf (readBody b) b) 0 0 ≡ getD b 0 0
 type-first b z = typed-first (typeOf (kindIn (readBody b))) (readBody b) b ∙ type-told (readBody b) b (read-sound b) z

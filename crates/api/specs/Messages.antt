@@ -6,7 +6,7 @@ use lib.Dec.{eqb}
 use Rattle.facts.specs.Pick.{pick}
 use Rattle.kinds.specs.declared.Kind.{Kind}
 use Rattle.kinds.specs.Table.{typeOf}
-use Rattle.fields.specs.Fields.{symbolOf, stateOf, numberOf}
+use Rattle.fields.specs.Fields.{symbolOf, stateOf, bodyNumber}
 use Rattle.fields.specs.declared.TradingStatus.{TradingStatus}
 use Rattle.fields.specs.declared.SymbolClear.{SymbolClear}
 use Rattle.fields.specs.declared.AddOrder.{AddOrder}
@@ -100,4 +100,4 @@ fieldsOf m b = typed (typeOf (kindIn m)) m b
 
 -- the numbers of a message that is not refused; a refusal leaves what is lent as it is
 unfoldable pub bodyAnswer : Body → List ℕ → List ℕ → Call
-bodyAnswer m b l = call (numberOf m) (pick (eqb (numberOf m) 0) (fieldsOf m b) l)
+bodyAnswer m b l = call (bodyNumber m) (pick (eqb (bodyNumber m) 0) (fieldsOf m b) l)

@@ -1,37 +1,42 @@
--- Which field of a body is out of range: the offset of its first byte, the earliest first, and 0 for none (no field starts at 0).
+-- Which field of a body is out of range: a range is a test beside its field, and the first field whose test fails gives the offset of its first byte.
 use Prim.Native.Nat.{ℕ, _+_}
-use mathlib.Core.List.{List}
-use mathlib.Core.Bool.{Bool}
-use lib.ListN.{getD}
-use lib.Dec.{eqb}
+use mathlib.Core.List.{List, [], _∷_}
+use mathlib.Core.Bool.{Bool, true}
 use Rattle.facts.specs.Pick.{pick}
-use Rattle.wire.specs.Le.{field}
 use Rattle.kinds.specs.declared.Kind.{Kind}
+use Rattle.layout.specs.Shape.{Shape, width, Value, Values}
+use Rattle.layout.specs.Layout.{shapes, fieldsIn}
 use Rattle.body.specs.Ranges.{sideOk, priceOk, sizeOk, flagsOk, testOk, marketOk}
 
--- a test that fails puts the fault at its field's first byte
-unfoldable pub faultAt : Bool → ℕ → ℕ
-faultAt ok at = pick ok 0 at
-
--- the first of two faults
-unfoldable pub firstOf : ℕ → ℕ → ℕ
-firstOf a b = pick (eqb a 0) b a
-
--- "The price and size ranges hold in all eleven messages": price, and size right behind it
-unfoldable pub dealFault : List ℕ → ℕ → ℕ
-dealFault b at = firstOf (faultAt (priceOk (field b at 8)) at) (faultAt (sizeOk (field b (at + 8) 4)) (at + 8))
+-- a test for each field of a run
+abbrev pub Tests : List Shape → Type 0
+Tests [] = Unit {0}
+Tests (s ∷ ss) = (Value s → Bool) × Tests ss
 
 -- "Nothing else is judged"
+abbrev pub any : {A : Type 0} → A → Bool
+any v = true
+
+-- the fields of each kind in their order (layout/Layout has their names); "The price and size ranges hold in all eleven messages"
+abbrev pub tests : (k : Kind) → Tests (shapes k)
+tests Kind.SystemTime = (any, tt)
+tests Kind.SymbolUpdate = (any, (any, (any, (any, (testOk, (any, (any, (any, (any, (marketOk, tt))))))))))
+tests Kind.SystemState = (any, (any, (any, (any, tt))))
+tests Kind.TradingStatus = (any, (any, (any, (any, (any, tt)))))
+tests Kind.SymbolClear = (any, (any, tt))
+tests Kind.Add = (any, (any, (any, (sideOk, (priceOk, (sizeOk, (any, tt)))))))
+tests Kind.Modify = (any, (any, (any, (priceOk, (sizeOk, (flagsOk, tt))))))
+tests Kind.Delete = (any, (any, (any, tt)))
+tests Kind.Execution = (any, (any, (any, (any, (priceOk, (sizeOk, (any, tt)))))))
+tests Kind.Trade = (any, (any, (any, (any, (priceOk, (sizeOk, (any, tt)))))))
+tests Kind.TradeCancel = (any, (any, (any, (any, (priceOk, (sizeOk, tt))))))
+tests Kind.Unknown = tt
+
+-- the offset of the first field whose test fails, the first of them lying at `at`; 0 for none
+unfoldable pub faultFrom : (ss : List Shape) → Tests ss → Values ss → ℕ → ℕ
+faultFrom [] ts vs at = 0
+faultFrom (s ∷ ss) ts vs at = pick (ts .0 (vs .0)) (faultFrom ss (ts .1) (vs .1) (at + width s)) at
+
+-- of a body, whose fields lie behind its type byte, so that none starts at 0
 unfoldable pub faultOf : Kind → List ℕ → ℕ
-faultOf Kind.SystemTime b = 0
-faultOf Kind.SymbolUpdate b = firstOf (faultAt (testOk (getD b 21 0)) 21) (faultAt (marketOk (getD b 41 0)) 41)
-faultOf Kind.SystemState b = 0
-faultOf Kind.TradingStatus b = 0
-faultOf Kind.SymbolClear b = 0
-faultOf Kind.Add b = firstOf (faultAt (sideOk (getD b 17 0)) 17) (dealFault b 18)
-faultOf Kind.Modify b = firstOf (dealFault b 17) (faultAt (flagsOk (getD b 29 0)) 29)
-faultOf Kind.Delete b = 0
-faultOf Kind.Execution b = dealFault b 25
-faultOf Kind.Trade b = dealFault b 18
-faultOf Kind.TradeCancel b = dealFault b 18
-faultOf Kind.Unknown b = 0
+faultOf k b = faultFrom (shapes k) (tests k) (fieldsIn k b) 1

@@ -3,6 +3,7 @@ use Prim.Native.Nat.{ℕ}
 use mathlib.Core.Bool.{Bool, false}
 use mathlib.Core.List.{List, [], _∷_}
 use lib.Dec.{eqb, leb, ltb}
+use Rattle.facts.specs.Limits.{mostPrice}
 use Rattle.facts.specs.Pick.{both, either}
 
 -- one of the listed bytes
@@ -16,7 +17,7 @@ sideOk x = oneOf x (66 ∷ 83 ∷ [])
 
 -- "price (millionths of a dollar) 1 to 1,000,000,000,000,000"
 unfoldable pub priceOk : ℕ → Bool
-priceOk n = both (leb 1 n) (leb n 1000000000000000)
+priceOk n = both (leb 1 n) (leb n mostPrice)
 
 -- "sizes, the executed size included, 1 or more"
 unfoldable pub sizeOk : ℕ → Bool

@@ -7,7 +7,7 @@ use lib.Dec.{eqb, ltb}
 use Rattle.facts.specs.Pick.{pick, both}
 use Rattle.kinds.specs.Table.{lengthOf, kindOf}
 use Rattle.kinds.specs.declared.Kind.{Kind}
-use Rattle.fields.specs.Fields.{refusal, decoded, numberOf}
+use Rattle.fields.specs.Fields.{refusal, decoded, bodyNumber}
 use Rattle.fields.specs.declared.Body.{Body}
 use Rattle.body.specs.Faults.{faultOf}
 
@@ -25,4 +25,4 @@ readBody b = pick (framed b) (judged (kindOf (getD b 0 0)) b) (Body.Refused (ref
 
 -- a good body is one that is not refused
 unfoldable pub goodBody : List ℕ → Bool
-goodBody b = eqb (numberOf (readBody b)) 0
+goodBody b = eqb (bodyNumber (readBody b)) 0

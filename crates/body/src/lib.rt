@@ -3,8 +3,11 @@ use fields::Body;
 use fields::Refusal;
 use kinds::Kind;
 ghost use mathlib.Core.Path.{_≡_};
+ghost use Prim.Native.Nat.{_+_};
+ghost use Rattle.facts.specs.Pick.{pick};
+ghost use Rattle.wire.specs.Le.{field};
 ghost use Rattle.body.specs.Ranges.{sideOk, priceOk, sizeOk, flagsOk, testOk, marketOk};
-ghost use Rattle.body.specs.Faults.{faultAt, firstOf, dealFault, faultOf};
+ghost use Rattle.body.specs.Faults.{faultOf};
 ghost use Rattle.body.specs.Read.{readBody};
 
 pub fn side_ok(x: u8) -> bool
@@ -16,7 +19,7 @@ pub fn side_ok(x: u8) -> bool
 pub fn price_ok(n: u64) -> bool
     ensures { λ r. ⌜ r ≡ priceOk n ⌝ }
 {
-    1 <= n && n <= 1000000000000000
+    1 <= n && n <= facts::MOST_PRICE
 }
 
 pub fn size_ok(n: u32) -> bool
@@ -64,75 +67,61 @@ pub fn market_ok(x: u8) -> bool
     }
 }
 
-// 0 where a test holds, else the place of its field.
-fn fault_at(ok: bool, at: usize) -> usize
-    ensures { λ r. ⌜ r ≡ faultAt ok at ⌝ }
+// The place of a field whose test fails, else what is found behind it.
+fn fault_at(ok: bool, at: usize, behind: usize) -> usize
+    ensures { λ r. ⌜ r ≡ pick ok behind at ⌝ }
 {
-    if ok { 0 } else { at }
+    if ok { behind } else { at }
 }
 
-// The first of two faults.
-fn first(a: usize, b: usize) -> usize
-    ensures { λ r. ⌜ r ≡ firstOf a b ⌝ }
-{
-    if a == 0 { b } else { a }
-}
-
-// Price and size, which stand side by side in every message that has them.
-fn deal_fault(b: &[u8], at: u8) -> usize
-    ensures { λ r. ⌜ r ≡ dealFault (now (b .entry)) at ⌝ }
+// Price and size, which stand side by side in every message that has them, then what is found behind them.
+fn deal_fault(b: &[u8], at: u8, behind: usize) -> usize
+    ensures { λ r. ⌜ r ≡ pick (priceOk (field (now (b .entry)) at 8)) (pick (sizeOk (field (now (b .entry)) (at + 8) 4)) behind (at + 8)) at ⌝ }
 {
     let i = at as usize;
     let j = i + 8;
-    first(
-        fault_at(price_ok(wire::u64_at(b, i)), i),
-        fault_at(size_ok(wire::u32_at(b, j)), j),
-    )
+    let size = fault_at(size_ok(wire::u32_at(b, j)), j, behind);
+    fault_at(price_ok(wire::u64_at(b, i)), i, size)
 }
 
 fn symbol_fault(b: &[u8]) -> usize
     ensures { λ r. ⌜ r ≡ faultOf Kind.SymbolUpdate (now (b .entry)) ⌝ }
 {
-    first(
-        fault_at(test_ok(wire::u8_at(b, 21)), 21),
-        fault_at(market_ok(wire::u8_at(b, 41)), 41),
-    )
+    let market = fault_at(market_ok(wire::u8_at(b, 41)), 41, 0);
+    fault_at(test_ok(wire::u8_at(b, 21)), 21, market)
 }
 
 fn add_fault(b: &[u8]) -> usize
     ensures { λ r. ⌜ r ≡ faultOf Kind.Add (now (b .entry)) ⌝ }
 {
-    first(fault_at(side_ok(wire::u8_at(b, 17)), 17), deal_fault(b, 18))
+    fault_at(side_ok(wire::u8_at(b, 17)), 17, deal_fault(b, 18, 0))
 }
 
 fn modify_fault(b: &[u8]) -> usize
     ensures { λ r. ⌜ r ≡ faultOf Kind.Modify (now (b .entry)) ⌝ }
 {
-    first(
-        deal_fault(b, 17),
-        fault_at(flags_ok(wire::u8_at(b, 29)), 29),
-    )
+    deal_fault(b, 17, fault_at(flags_ok(wire::u8_at(b, 29)), 29, 0))
 }
 
 fn execution_fault(b: &[u8]) -> usize
     ensures { λ r. ⌜ r ≡ faultOf Kind.Execution (now (b .entry)) ⌝ }
 {
-    deal_fault(b, 25)
+    deal_fault(b, 25, 0)
 }
 
 fn trade_fault(b: &[u8]) -> usize
     ensures { λ r. ⌜ r ≡ faultOf Kind.Trade (now (b .entry)) ⌝ }
 {
-    deal_fault(b, 18)
+    deal_fault(b, 18, 0)
 }
 
 fn cancel_fault(b: &[u8]) -> usize
     ensures { λ r. ⌜ r ≡ faultOf Kind.TradeCancel (now (b .entry)) ⌝ }
 {
-    deal_fault(b, 18)
+    deal_fault(b, 18, 0)
 }
 
-// The first byte of the earliest field out of range, 0 for none.
+// The first byte of the earliest field out of range, 0 for none (no field starts at 0).
 fn fault(k: Kind, b: &[u8]) -> usize
     ensures { λ r. ⌜ r ≡ faultOf k (now (b .entry)) ⌝ }
 {

@@ -12,7 +12,7 @@ use borrow.Author.Tests.{eqb-false}
 use Rattle.facts.specs.declared.Found.{Found}
 use Rattle.facts.specs.declared.Found.the-variants.{At, Nothing}
 use Rattle.facts.proofs.Picks.{upheld}
-use Rattle.fields.specs.Fields.{numberOf}
+use Rattle.fields.specs.Fields.{bodyNumber}
 use Rattle.fields.specs.declared.Body.{Body}
 use Rattle.fields.specs.declared.TradingStatus.{TradingStatus}
 use Rattle.fields.specs.declared.SymbolClear.{SymbolClear}
@@ -111,14 +111,14 @@ kind-of (Body.Trade m) = other (trade m)
 kind-of (Body.TradeCancel m) = other (cancel m)
 kind-of (Body.Refused r) = refused r
 
-names-good : {m : Body} {s : ℕ} → Names m s → numberOf m ≡ 0
+names-good : {m : Body} {s : ℕ} → Names m s → bodyNumber m ≡ 0
 names-good (clear m) = refl
 names-good (add m) = refl
 names-good (modify m) = refl
 names-good (delete m) = refl
 names-good (execution m) = refl
 
-other-good : {m : Body} → Other m → numberOf m ≡ 0
+other-good : {m : Body} → Other m → bodyNumber m ≡ 0
 other-good state = refl
 other-good (status m) = refl
 other-good (trade m) = refl
@@ -168,7 +168,7 @@ module _ (n : ℕ) (b : List ℕ) (c : Clock) (f : Finds) where
   kind-ruled (other h) = subst Ruled (sym (other-idle h)) (goes (works c RowWork.Keep EntryWork.Keep))
   kind-ruled (refused r) = stops 27 (omega arith) (omega arith)
 
-  kind-bad : {m : Body} → Kind m → (numberOf m ≡ 0 → ⊥) → planBy m n b c f ≡ Stop 27
+  kind-bad : {m : Body} → Kind m → (bodyNumber m ≡ 0 → ⊥) → planBy m n b c f ≡ Stop 27
   unfolding planBy
   kind-bad (time s) h = absurd (h refl)
   kind-bad update h = absurd (h refl)
@@ -257,7 +257,7 @@ module _ (n : ℕ) (b : List ℕ) (k : Book) where
   -- "no good body stops with 27"
   pub bad-body : goodBody b ≡ false → applied n b k .rule ≡ 27
   unfolding goodBody carried
-  bad-body h = ap (λ o. o .rule) (sym (carried-by (Stop 27) n b k (sym (planned-by (readBody b) n b k refl) ∙ kind-bad n b (k .clock) (scans k) (kind-of (readBody b)) (eqb-false (numberOf (readBody b)) 0 h))))
+  bad-body h = ap (λ o. o .rule) (sym (carried-by (Stop 27) n b k (sym (planned-by (readBody b) n b k refl) ∙ kind-bad n b (k .clock) (scans k) (kind-of (readBody b)) (eqb-false (bodyNumber (readBody b)) 0 h))))
 
   pub rule-good : applied n b k .rule ≡ 0 → goodBody b ≡ true
   rule-good e = upheld (goodBody b) (λ g. omega (arith, bad-body g))

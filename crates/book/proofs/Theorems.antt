@@ -92,9 +92,9 @@ module _ (m : AddOrder) (n : ℕ) where
       (record {
         ranked = l;
         symbol = rw (s, e) (field-below b y 5 4);
-        priced = rw e (d .price-from);
-        price-top = rw e (d .price-to);
-        sized = rw e (d .size-from);
+        priced = d .price-from;
+        price-top = d .price-to;
+        sized = d .size-from;
         size-top = rw e (omega (arith, field-below b y 26 4));
       })
 
@@ -159,7 +159,7 @@ module _ (m : ModifyOrder) (n : ℕ) (b : List ℕ) (k : Book) (e : readBody b �
       let d = w .2 in
       ap live (modify-done .became .here)
       ∙ remade-live (m .price) (m .size) (moves (m .flags)) n (row (k .orders) (modify-done .place)) (modify-done .was-live)
-      (rw q (d .price-from)) (rw q (d .price-to)) (rw q (d .size-from)) (rw q (omega (arith, field-below b y 25 4))) l
+      (d .price-from) (d .price-to) (d .size-from) (rw q (omega (arith, field-below b y 25 4))) l
 
 -- ---- Delete: the row becomes free
 module _ (m : DeleteOrder) (n : ℕ) (b : List ℕ) (k : Book) (e : readBody b ≡ Body.Delete m) (z : applied n b k .rule ≡ 0) where

@@ -3,10 +3,11 @@
 -- Assumes nothing.
 use mathlib.Core.Path.{_≡_, refl, ap, _∙_}
 use lib.ListN.{replicate}
+use Rattle.facts.specs.Limits.{shelfSize}
 use Rattle.facts.specs.Pick.{pick, both, either}
 use Rattle.facts.specs.Search.{first}
 use Rattle.facts.specs.Pieces.{cut, pieces, join, putPiece}
-use Rattle.wire.specs.Le.{le, field, padded}
+use Rattle.wire.specs.Le.{le, toLe, field, padded}
 use Rattle.kinds.specs.Table as kinds
 use Rattle.fields.specs.Fields as fields
 use Rattle.body.specs.Ranges as ranges
@@ -38,14 +39,14 @@ abbrev pub afterExample : receiver.Lent
 afterExample = exercises.goesOn (exercises.begins 3 1) messages.wholeExample .last .after
 
 -- all five messages are applied, and the shelf is empty again
-pub example-leaves : afterExample ≡ receiver.lent three symbol7 (replicate shelf.shelfSize 0) after
+pub example-leaves : afterExample ≡ receiver.lent three symbol7 (replicate shelfSize 0) after
 unfolding exercises.begins exercises.goesOn
     messages.numbered messages.systemTime messages.symbolUpdate messages.addOrder messages.example messages.ofExample messages.wholeExample
-    pick both either first cut pieces join putPiece le field padded
+    pick both either first cut pieces join putPiece le toLe field padded
     kinds.table kinds.lookup kinds.lengthOf kinds.kindOf
     fields.decoded
     ranges.oneOf ranges.sideOk ranges.priceOk ranges.sizeOk ranges.testOk ranges.marketOk
-    faults.faultAt faults.firstOf faults.dealFault faults.faultOf
+    faults.faultFrom faults.faultOf
     read.framed read.judged read.readBody read.goodBody
     head.numberOk head.bodyOf head.bodyJudged head.readRecord
     packet.before packet.behind packet.framesFrom packet.framing
@@ -59,7 +60,7 @@ unfolding exercises.begins exercises.goesOn
     book.planned book.carried book.applied
     slots.sameBytes slots.sameSlot
     theory.judge theory.goodSlot theory.highest theory.count theory.countsOf theory.try theory.stop theory.drain theory.after theory.run theory.said theory.told
-    shelf.shelfSize shelf.goodShelf shelf.toLe shelf.slotOf shelf.bytesOf shelf.slotAt shelf.putSlot
+    shelf.goodShelf shelf.slotOf shelf.bytesOf shelf.slotAt shelf.putSlot
     engine.appliedTo
     receiver.received receiver.framed receiver.sizesOk receiver.nextOk
 example-leaves = refl

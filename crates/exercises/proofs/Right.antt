@@ -7,7 +7,7 @@ use Rattle.facts.specs.Pick.{pick, both, either}
 use Rattle.facts.specs.Search.{first}
 use Rattle.facts.specs.Pieces.{cut, pieces, join, putPiece}
 use Rattle.facts.specs.Sums.{sumBy, onlyIf, countBy}
-use Rattle.wire.specs.Le.{le, field, padded}
+use Rattle.wire.specs.Le.{le, toLe, field, padded}
 use Rattle.kinds.specs.Table as kinds
 use Rattle.fields.specs.Fields as fields
 use Rattle.body.specs.Ranges as ranges
@@ -47,11 +47,11 @@ unfolding table
     exercises.begins exercises.goesOn exercises.ofAccount exercises.differ exercises.changes exercises.rankIn exercises.rankOf exercises.aheadIn exercises.aheadOf
     exercises.signed exercises.ofSpread exercises.answerTo exercises.answers exercises.known exercises.tableAnswers exercises.tableResults
     messages.numbered messages.systemTime messages.symbolUpdate messages.addOrder messages.modifyOrder messages.execution messages.example messages.ofExample messages.wholeExample
-    pick both either first cut pieces join putPiece sumBy onlyIf countBy le field padded
+    pick both either first cut pieces join putPiece sumBy onlyIf countBy le toLe field padded
     kinds.table kinds.lookup kinds.lengthOf kinds.kindOf
     fields.decoded
     ranges.oneOf ranges.sideOk ranges.priceOk ranges.sizeOk ranges.testOk ranges.marketOk ranges.flagsOk
-    faults.faultAt faults.firstOf faults.dealFault faults.faultOf
+    faults.faultFrom faults.faultOf
     read.framed read.judged read.readBody read.goodBody
     head.numberOk head.bodyOf head.bodyJudged head.readRecord
     packet.before packet.behind packet.framesFrom packet.framing
@@ -69,7 +69,7 @@ unfolding table
     views.goodTables views.viewFault views.spreadView
     slots.sameBytes slots.sameSlot
     theory.judge theory.goodSlot theory.highest theory.count theory.countsOf theory.try theory.stop theory.drain theory.after theory.run theory.said theory.told
-    shelf.shelfSize shelf.goodShelf shelf.toLe shelf.slotOf shelf.bytesOf shelf.slotAt shelf.putSlot
+    shelf.goodShelf shelf.slotOf shelf.bytesOf shelf.slotAt shelf.putSlot
     engine.appliedTo
     receiver.received receiver.framed receiver.sizesOk receiver.nextOk
 all-right = refl

@@ -5,6 +5,7 @@ use mathlib.Core.List.{List, [], _∷_}
 use lib.Dec.{ltb}
 use lib.IntN.{ℤ, pos, negsuc}
 use lib.ListN.{getD}
+use Rattle.facts.specs.Limits.{shelfSize}
 use Rattle.facts.specs.Pick.{pick}
 use Rattle.facts.specs.declared.Found.{Found}
 use Rattle.wire.specs.Le.{field}
@@ -16,7 +17,6 @@ use Rattle.symbols.specs.Entries.{entrySize}
 use Rattle.views.specs.declared.SpreadAnswer.{SpreadAnswer}
 use Rattle.views.specs.Views.{spreadView}
 use Rattle.arbitration.specs.Slots.{sameBytes}
-use Rattle.shelf.specs.Shelf.{shelfSize}
 use Rattle.receiver.specs.declared.Account.{Account}
 use Rattle.receiver.specs.declared.Received.{Received}
 use Rattle.receiver.specs.Lent.{stateNumbers, Lent, Outcome, outcome, fresh, received, numberOf}

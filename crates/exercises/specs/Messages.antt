@@ -4,7 +4,7 @@ use Prim.Native.Nat.{ℕ, _-_}
 use mathlib.Core.List.{List, [], _∷_, _++_, map}
 use lib.ListN.{length, replicate, getD}
 use Rattle.facts.specs.Pieces.{join}
-use Rattle.shelf.specs.Shelf.{toLe}
+use Rattle.wire.specs.Le.{toLe}
 
 -- "A record is: sequence number, 8 bytes; body length, 2 bytes; body"
 unfoldable pub numbered : ℕ → List ℕ → List ℕ

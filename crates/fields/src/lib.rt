@@ -1,7 +1,7 @@
 // The eleven messages as values: what stands where in a body (docs/MESSAGES.md). Decoding judges nothing; any bytes have fields.
 use kinds::Kind;
 ghost use mathlib.Core.Path.{_≡_};
-ghost use Rattle.fields.specs.Fields.{statusOf, clearOf, addOf, modifyOf, deleteOf, executionOf, tradeOf, cancelOf, symbolOf, stateOf, decoded, numberOf};
+ghost use Rattle.fields.specs.Fields.{statusOf, clearOf, addOf, modifyOf, deleteOf, executionOf, tradeOf, cancelOf, symbolOf, stateOf, decoded, bodyNumber};
 
 // Security Trading Status (4.4).
 pub struct TradingStatus {
@@ -267,7 +267,7 @@ pub fn decode(k: Kind, b: &[u8]) -> Body
 
 // The number of a refusal, 0 for a message.
 pub fn number_of(m: Body) -> u8
-    ensures { λ r. ⌜ r ≡ numberOf m ⌝ }
+    ensures { λ r. ⌜ r ≡ bodyNumber m ⌝ }
 {
     match m {
         Body::SystemTime(_) => 0,

@@ -1,18 +1,20 @@
 -- The table's rule, from one test that the checker computes over its pairs, and what it says of every type byte.
 -- Assumes nothing.
-use mathlib.Core.Path.{_≡_, refl}
+use mathlib.Core.Path.{_≡_, refl, ap, _∙_}
 use mathlib.Core.List.{List, [], _∷_}
 use mathlib.Core.Bool.{Bool, true, false}
 use mathlib.Core.Logic.{_⊎_, inl, inr}
 use Prim.Native.Nat.{ℕ, _+_, _≤_, _<_}
 use native.Mathlib.Numerals.{add-one}
+use native.Mathlib.Omega.{arith}
 use lib.ListN.{length, getD, drop}
 use lib.Seq.{drop-cons}
 use lib.Dec.{eqb, leb}
 use borrow.Author.Tests.{eqb-true, leb-true}
+use Rattle.facts.specs.Limits.{entrySize}
 use Rattle.facts.specs.Pick.{pick, both}
-use Rattle.facts.proofs.Picks.{both-true}
-use Rattle.kinds.specs.Table.{table, lookup, lengthOf, kindOf, typeOf, kindLength}
+use Rattle.facts.proofs.Picks.{pick-ind, both-true}
+use Rattle.kinds.specs.Table.{table, lookup, lengthOf, kindOf, typeOf, kindLength, refusalOf}
 use Rattle.kinds.specs.declared.Kind.{Kind}
 use Rattle.kinds.specs.declared.Pair.{Pair}
 
@@ -38,9 +40,9 @@ lookup-rule f (m ∷ rest) h t =
     go true e a b = inr (let q : t ≡ m .code = eqb-true t (m .code) e in rw q a)
     go false e a b = b
 
--- the rule: a message has 1 to 42 bytes, its length is that of the kind that its type decides, and its type is that kind's
+-- the rule: a message has 1 byte or more and at most as many as an entry, its length is that of the kind that its type decides, and its type is that kind's
 unfoldable rule : ℕ → ℕ → Bool
-rule t n = both (both (leb 1 n) (leb n 42)) (both (eqb n (kindLength (kindOf t))) (eqb t (typeOf (kindOf t))))
+rule t n = both (both (leb 1 n) (leb n entrySize)) (both (eqb n (kindLength (kindOf t))) (eqb t (typeOf (kindOf t))))
 
 table-rule : pairs rule table ≡ true
 unfolding table pairs rule kindLength lengthOf lookup kindOf pick both
@@ -49,17 +51,17 @@ table-rule = refl
 -- what the table says of a type that it has
 pub record Lengths (t : ℕ) : Type 0 where
   pub some : 1 ≤ lengthOf t
-  pub most : lengthOf t ≤ 42
+  pub most : lengthOf t ≤ entrySize
   pub of-kind : lengthOf t ≡ kindLength (kindOf t)
   pub of-type : t ≡ typeOf (kindOf t)
 
-ruled : (t n : ℕ) → rule t n ≡ true → (1 ≤ n) × (n ≤ 42) × (n ≡ kindLength (kindOf t)) × (t ≡ typeOf (kindOf t))
+ruled : (t n : ℕ) → rule t n ≡ true → (1 ≤ n) × (n ≤ entrySize) × (n ≡ kindLength (kindOf t)) × (t ≡ typeOf (kindOf t))
 unfolding rule
 ruled t n h =
-    let s = both-true {a = both (leb 1 n) (leb n 42)} {b = both (eqb n (kindLength (kindOf t))) (eqb t (typeOf (kindOf t)))} h in
-    let l = both-true {a = leb 1 n} {b = leb n 42} (s .0) in
+    let s = both-true {a = both (leb 1 n) (leb n entrySize)} {b = both (eqb n (kindLength (kindOf t))) (eqb t (typeOf (kindOf t)))} h in
+    let l = both-true {a = leb 1 n} {b = leb n entrySize} (s .0) in
     let k = both-true {a = eqb n (kindLength (kindOf t))} {b = eqb t (typeOf (kindOf t))} (s .1) in
-    (leb-true 1 n (l .0), leb-true n 42 (l .1), eqb-true n (kindLength (kindOf t)) (k .0), eqb-true t (typeOf (kindOf t)) (k .1))
+    (leb-true 1 n (l .0), leb-true n entrySize (l .1), eqb-true n (kindLength (kindOf t)) (k .0), eqb-true t (typeOf (kindOf t)) (k .1))
 
 -- no such type, or the rule
 pub lengths : (t : ℕ) → (lengthOf t ≡ 0) ⊎ Lengths t
@@ -85,3 +87,17 @@ type-kind Kind.Execution = refl
 type-kind Kind.Trade = refl
 type-kind Kind.TradeCancel = refl
 type-kind Kind.Unknown = refl
+
+-- "giving the message kind or refusal 3": a kind is a message's, or no type of the table gives it
+pub kind-or-3 : (k : Kind) → (refusalOf k ≡ 0) ⊎ ((refusalOf k ≡ 3) × (typeOf k ≡ 0))
+kind-or-3 k =
+    pick-ind (λ r. (r ≡ 0) ⊎ ((r ≡ 3) × (typeOf k ≡ 0))) (eqb (typeOf k) 0) 3 0
+    (λ e. inr (refl, eqb-true (typeOf k) 0 e))
+    (λ e. inl refl)
+
+zero-none : lengthOf 0 ≡ 0
+unfolding lengthOf lookup table pick
+zero-none = refl
+
+pub no-length : (t : ℕ) → refusalOf (kindOf t) ≡ 3 → lengthOf t ≡ 0
+no-length t h = elim (lengths t) [ inl e ↦ e | inr r ↦ elim (kind-or-3 (kindOf t)) [ inl e ↦ absurd (omega arith) | inr e ↦ ap lengthOf (r .of-type ∙ e .1) ∙ zero-none ] ]

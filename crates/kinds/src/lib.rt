@@ -2,7 +2,7 @@
 ghost use mathlib.Core.Path.{_≡_};
 ghost use Rattle.kinds.specs.Table.{lengthOf, kindOf};
 
-// The kind of a message; Unknown is refusal 3 (`refusalOf` of specs/).
+// The kind of a message; Unknown is refusal 3 (`refusalOf` of specs/; `type-refused` of body says that reading goes by it).
 pub enum Kind {
     SystemTime,
     SymbolUpdate,

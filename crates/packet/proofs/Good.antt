@@ -8,14 +8,15 @@ use Prim.Native.Nat.{ℕ, zero, suc, _+_, _≤_, _<_}
 use native.Mathlib.Omega.{arith}
 use borrow.Author.Tests.{leb-true}
 use lib.ListN.{length, drop, length-drop}
-use lib.Seq.{drop-drop, length-take-le}
+use lib.Seq.{drop-drop}
 use lib.Dec.{ltb, leb}
+use Rattle.facts.specs.Limits.{packetMost}
 use Rattle.facts.specs.Pick.{both}
 use Rattle.facts.proofs.Picks.{pick-ind, pick-cases, both-true}
 use Rattle.wire.specs.Records.{Rec, bad, records}
 use Rattle.fields.specs.Fields.{refusal}
 use Rattle.fields.specs.declared.Refusal.{Refusal}
-use Rattle.packet.specs.Record.{headOf, bodyOf, recOf, readRecord, recordNumber}
+use Rattle.packet.specs.Record.{headOf, recOf, readRecord, recordNumber}
 use Rattle.packet.specs.Packet.{Framing, before, behind, framesFrom, framing, told, readPacket, packetNumber}
 use Rattle.packet.specs.declared.Head.{Head}
 use Rattle.packet.specs.declared.Record.{Record}
@@ -53,7 +54,7 @@ frames-fine (suc f) t =
 pub framing-fine : (p : List ℕ) → Fine (framing p)
 unfolding framing
 framing-fine p =
-    pick-ind Fine (both (leb 1 (length p)) (leb (length p) 1500)) (framesFrom (length p) p) (bad (refusal 1))
+    pick-ind Fine (both (leb 1 (length p)) (leb (length p) packetMost)) (framesFrom (length p) p) (bad (refusal 1))
     (λ _. frames-fine (length p) p)
     (λ _. (omega arith, omega arith))
 
@@ -62,13 +63,8 @@ pub record Step (p : List ℕ) (at : ℕ) (cs : List Rec) : Type 0 where
   pub others : List Rec
   pub first-is : cs ≡ recOf (drop at p) ∷ others
   pub good : GoodRec (recOf (drop at p))
-  pub body-length : length (bodyOf (drop at p)) ≡ headOf (drop at p) .len
   pub inside : at + (10 + headOf (drop at p) .len) ≤ length p
   pub next : framesFrom (length p) (drop (at + (10 + headOf (drop at p) .len)) p) ≡ records others
-
-whole-body : (t : List ℕ) → 10 + headOf t .len ≤ length t → length (bodyOf t) ≡ headOf t .len
-unfolding bodyOf
-whole-body t w = length-take-le (headOf t .len) (drop 10 t) (rw length-drop (omega arith))
 
 pub step : (p : List ℕ) (at : ℕ) (cs : List Rec) → at < length p → framesFrom (length p) (drop at p) ≡ records cs → Step p at cs
 unfolding behind before
@@ -88,7 +84,6 @@ step p at cs lt e =
           others = os;
           first-is = cc;
           good = g;
-          body-length = whole-body (drop at p) w′;
           inside = omega (arith, length-drop at p);
           next = ap (framesFrom (length p)) (sym (drop-drop (10 + headOf (drop at p) .len) at p) ∙ ap (λ k. drop (10 + k) (drop at p)) (sym l)) ∙ x;
         }
@@ -107,12 +102,12 @@ pub data Outcome (p : List ℕ) : Type 0 where
   refused : (r : Refusal) → framing p ≡ bad r → readPacket p ≡ Packet.Refused r → 1 ≤ r .number → r .number ≤ 5 → Outcome p
 
 -- a good packet's size
-pub framing-size : (p : List ℕ) (cs : List Rec) → framing p ≡ records cs → (1 ≤ length p) × (length p ≤ 1500) × (framesFrom (length p) p ≡ records cs)
+pub framing-size : (p : List ℕ) (cs : List Rec) → framing p ≡ records cs → (1 ≤ length p) × (length p ≤ packetMost) × (framesFrom (length p) p ≡ records cs)
 unfolding framing
 framing-size p cs e = elim (pick-cases e) [ inl h ↦ sized (h .0) (h .1) | inr h ↦ let z : _≡_ {A = ℕ} 0 1 = cc in absurd (omega arith) ]
   where
-    sized : both (leb 1 (length p)) (leb (length p) 1500) ≡ true → framesFrom (length p) p ≡ records cs → (1 ≤ length p) × (length p ≤ 1500) × (framesFrom (length p) p ≡ records cs)
-    sized t f = let b = both-true {a = leb 1 (length p)} {b = leb (length p) 1500} t in (leb-true 1 (length p) (b .0), leb-true (length p) 1500 (b .1), f)
+    sized : both (leb 1 (length p)) (leb (length p) packetMost) ≡ true → framesFrom (length p) p ≡ records cs → (1 ≤ length p) × (length p ≤ packetMost) × (framesFrom (length p) p ≡ records cs)
+    sized t f = let b = both-true {a = leb 1 (length p)} {b = leb (length p) packetMost} t in (leb-true 1 (length p) (b .0), leb-true (length p) packetMost (b .1), f)
 
 some-records : (p : List ℕ) (cs : List Rec) → framing p ≡ records cs → 1 ≤ length cs
 some-records p cs e =

@@ -2,7 +2,7 @@
 -- Assumes nothing.
 use mathlib.Core.Path.{_≡_, refl, ap, sym, _∙_, subst}
 use mathlib.Core.List.{List, []}
-use mathlib.Core.Bool.{true}
+use mathlib.Core.Bool.{true, false}
 use mathlib.Core.Logic.{_⊎_, inl, inr}
 use Prim.Native.Nat.{ℕ, zero, suc, _+_, _-_, _≤_, _<_}
 use native.Mathlib.Nat.{add-sub-cancel-left, add-zero, zero-add}
@@ -11,12 +11,13 @@ use borrow.Author.Tests.{ltb-false, leb-true, lt-ltb, le-ltb, le-leb, lt-leb, eq
 use lib.ListN.{length, take, drop, length-drop, drop-of-length-le}
 use lib.Seq.{take-all, take-nil, drop-drop}
 use lib.Dec.{ltb, leb}
+use Rattle.facts.specs.Limits.{lastNumber, packetMost}
 use Rattle.facts.specs.Pick.{pick, both}
 use Rattle.facts.proofs.Picks.{pick-ind, both-true}
 use Rattle.wire.specs.Le.{field}
 use Rattle.wire.proofs.Laws.{field-past}
 use Rattle.wire.specs.Records.{Rec, bad, records}
-use Rattle.fields.specs.Fields.{refusal, numberOf}
+use Rattle.fields.specs.Fields.{refusal, bodyNumber}
 use Rattle.fields.specs.declared.Refusal.{Refusal}
 use Rattle.fields.specs.declared.Body.{Body}
 use Rattle.body.specs.Read.{readBody, goodBody}
@@ -55,14 +56,33 @@ body-past p at h =
 pub body-short : (p : List ℕ) (at n : ℕ) → n ≡ field (drop at p) 8 2 → length p - (at + 10) < n → drop (at + 10) p ≡ bodyOf (drop at p)
 body-short p at n e h = sym (take-all n (drop (at + 10) p) (rw length-drop (omega arith))) ∙ body-part p at n e
 
--- a record that is whole and whose number is good: the body reader decides
-pub record-judged : (t : List ℕ) (h : Head) (m : Body) (k : ℕ) → h ≡ headOf t → 10 ≤ length t → h .len ≤ length t - 10 → numberOk (h .number) ≡ true → m ≡ readBody (take (10 + h .len - 10) (drop 10 t)) → k ≡ numberOf m → readRecord t ≡ bodyJudged k (Record.Good h)
+-- ---- a record is judged by 2, 5, 3, 4: each is told whatever stands behind it
+pub short-header : (t : List ℕ) → length t < 10 → refused 2 ≡ readRecord t
 unfolding readRecord pick
-record-judged t h m k e a b o r q =
-    let n : h .len ≡ field t 8 2 = ap (λ x. x .len) e in
-    let s : h .number ≡ field t 0 8 = ap (λ x. x .number) e in
-    let j : k ≡ numberOf (readBody (bodyOf t)) = q ∙ ap numberOf (r ∙ ap readBody (body-cut t (h .len) n)) in
-    simp (le-ltb (length t) 10 a, ← n, le-ltb _ _ b, ← s, o, ← j)
+short-header t a = simp (lt-ltb (length t) 10 a)
+
+module _ (t : List ℕ) (h : Head) (e : h ≡ headOf t) (a : 10 ≤ length t) where
+  len-is : h .len ≡ field t 8 2
+  len-is = ap (λ x. x .len) e
+
+  number-is : h .number ≡ field t 0 8
+  number-is = ap (λ x. x .number) e
+
+  pub short-body : length t - 10 < h .len → refused 2 ≡ readRecord t
+  unfolding readRecord pick
+  short-body b = simp (le-ltb (length t) 10 a, ← len-is, lt-ltb _ _ b)
+
+  module _ (b : h .len ≤ length t - 10) where
+    pub bad-number : numberOk (h .number) ≡ false → refused 5 ≡ readRecord t
+    unfolding readRecord pick
+    bad-number o = simp (le-ltb (length t) 10 a, ← len-is, le-ltb _ _ b, ← number-is, o)
+
+    -- 3 and 4 are the body reader's
+    pub record-judged : numberOk (h .number) ≡ true → (m : Body) (k : ℕ) → m ≡ readBody (take (10 + h .len - 10) (drop 10 t)) → k ≡ bodyNumber m → bodyJudged k (Record.Good h) ≡ readRecord t
+    unfolding readRecord pick
+    record-judged o m k r q =
+        let j : k ≡ bodyNumber (readBody (bodyOf t)) = q ∙ ap bodyNumber (r ∙ ap readBody (body-cut t (h .len) len-is)) in
+        simp (le-ltb (length t) 10 a, ← len-is, le-ltb _ _ b, ← number-is, o, ← j)
 
 pub judged-good : (g : Record) (k : ℕ) → k ≡ 0 → g ≡ bodyJudged k g
 unfolding bodyJudged pick
@@ -75,7 +95,7 @@ judged-bad g k e = simp (ne-eqb k 0 e)
 -- what is known of a good record: its number is in range, and its body good
 pub record GoodRec (c : Rec) : Type 0 where
   pub number-from : 1 ≤ c .number
-  pub number-to : c .number ≤ 1000000000000
+  pub number-to : c .number ≤ lastNumber
   pub body-good : goodBody (c .body) ≡ true
 
 -- what reading the first record of t says: a good one lies within t, and a refusal is one of 2, 5, 3, 4
@@ -90,13 +110,13 @@ judged-held t k g (inl e) = rw e (g e)
 judged-held t k g (inr (inl e)) = rw e (omega arith, omega arith)
 judged-held t k g (inr (inr e)) = rw e (omega arith, omega arith)
 
-good-held : (t : List ℕ) → 10 + headOf t .len ≤ length t → numberOk (field t 0 8) ≡ true → numberOf (readBody (bodyOf t)) ≡ 0 → Held (Record.Good (headOf t)) t
+good-held : (t : List ℕ) → 10 + headOf t .len ≤ length t → numberOk (field t 0 8) ≡ true → bodyNumber (readBody (bodyOf t)) ≡ 0 → Held (Record.Good (headOf t)) t
 unfolding numberOk
 good-held t w o e =
-    let r = both-true {a = leb 1 (field t 0 8)} {b = leb (field t 0 8) 1000000000000} o in (
+    let r = both-true {a = leb 1 (field t 0 8)} {b = leb (field t 0 8) lastNumber} o in (
       refl,
       w,
-      record { number-from = leb-true 1 (field t 0 8) (r .0); number-to = leb-true (field t 0 8) 1000000000000 (r .1); body-good = number-good (bodyOf t) e },
+      record { number-from = leb-true 1 (field t 0 8) (r .0); number-to = leb-true (field t 0 8) lastNumber (r .1); body-good = number-good (bodyOf t) e },
     )
 
 pub record-held : (t : List ℕ) → Held (readRecord t) t
@@ -106,7 +126,7 @@ record-held t =
     (λ a. pick-ind (λ r. Held r t) (ltb (length t - 10) (field t 8 2)) _ _ (λ _. (omega arith, omega arith))
     (λ b.
     let w : 10 + field t 8 2 ≤ length t = omega (arith, ltb-false (length t) 10 a, ltb-false (length t - 10) (field t 8 2) b) in
-    pick-ind (λ r. Held r t) (numberOk (field t 0 8)) _ _ (λ o. judged-held t (numberOf (readBody (bodyOf t))) (good-held t w o) (numbers (bodyOf t))) (λ _. (omega arith, omega arith))))
+    pick-ind (λ r. Held r t) (numberOk (field t 0 8)) _ _ (λ o. judged-held t (bodyNumber (readBody (bodyOf t))) (good-held t w o) (numbers (bodyOf t))) (λ _. (omega arith, omega arith))))
 
 behind-cong : (F G : List ℕ → Framing) (t : List ℕ) (r : Record) → ((n : ℕ) → F (drop (10 + n) t) ≡ G (drop (10 + n) t)) → behind F t r ≡ behind G t r
 unfolding behind
@@ -186,16 +206,16 @@ unfolding told more
 at-end p at i h = ap (λ x. more i (told x)) (frames-end (length p) p at h) ∙ ap Packet.Good (add-zero i)
 
 -- a packet of a right size is its records; else 1
-pub packet-is : (p : List ℕ) → 1 ≤ length p → length p ≤ 1500 → readPacket p ≡ told (framesFrom (length p) p)
+pub packet-is : (p : List ℕ) → 1 ≤ length p → length p ≤ packetMost → readPacket p ≡ told (framesFrom (length p) p)
 unfolding readPacket framing pick both
-packet-is p a b = simp (le-leb 1 (length p) a, le-leb (length p) 1500 b)
+packet-is p a b = simp (le-leb 1 (length p) a, le-leb (length p) packetMost b)
 
 pub packet-empty : (p : List ℕ) → length p < 1 → Packet.Refused (refusal 1) ≡ readPacket p
 unfolding readPacket framing told pick both
 packet-empty p a = simp (lt-leb 1 (length p) a)
 
-pub packet-long : (p : List ℕ) → 1500 < length p → Packet.Refused (refusal 1) ≡ readPacket p
+pub packet-long : (p : List ℕ) → packetMost < length p → Packet.Refused (refusal 1) ≡ readPacket p
 unfolding readPacket framing told pick both
 packet-long p a =
     let b : 1 ≤ length p = omega arith in
-    simp (le-leb 1 (length p) b, lt-leb (length p) 1500 a)
+    simp (le-leb 1 (length p) b, lt-leb (length p) packetMost a)

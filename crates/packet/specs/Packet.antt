@@ -3,6 +3,7 @@ use Prim.Native.Nat.{ℕ, zero, suc, _+_}
 use mathlib.Core.List.{List, [], _∷_}
 use lib.ListN.{length, drop}
 use lib.Dec.{ltb, leb}
+use Rattle.facts.specs.Limits.{packetMost}
 use Rattle.facts.specs.Pick.{pick, both}
 use Rattle.wire.specs.Records.{Rec, Frames, bad, records}
 use Rattle.fields.specs.Fields.{refusal}
@@ -32,7 +33,7 @@ framesFrom (suc f) t = pick (ltb 0 (length t)) (behind (framesFrom f) t (readRec
 
 -- 1, then the records (no packet has more records than bytes)
 unfoldable pub framing : List ℕ → Framing
-framing p = pick (both (leb 1 (length p)) (leb (length p) 1500)) (framesFrom (length p) p) (bad (refusal 1))
+framing p = pick (both (leb 1 (length p)) (leb (length p) packetMost)) (framesFrom (length p) p) (bad (refusal 1))
 
 -- the answer to a packet: the number of its records, or the refusal
 unfoldable pub told : Framing → Packet

@@ -4,17 +4,18 @@ use mathlib.Core.List.{List}
 use mathlib.Core.Bool.{Bool}
 use lib.ListN.{length, take, drop}
 use lib.Dec.{ltb, leb, eqb}
+use Rattle.facts.specs.Limits.{lastNumber}
 use Rattle.facts.specs.Pick.{pick, both}
 use Rattle.wire.specs.Le.{field}
 use Rattle.wire.specs.Records.{Rec}
-use Rattle.fields.specs.Fields.{refusal, numberOf}
+use Rattle.fields.specs.Fields.{refusal, bodyNumber}
 use Rattle.body.specs.Read.{readBody}
 use Rattle.packet.specs.declared.Head.{Head}
 use Rattle.packet.specs.declared.Record.{Record}
 
 -- "Sequence numbers run from 1 to 1,000,000,000,000"
 unfoldable pub numberOk : ℕ → Bool
-numberOk n = both (leb 1 n) (leb n 1000000000000)
+numberOk n = both (leb 1 n) (leb n lastNumber)
 
 -- what the header says, at the front of what is left
 abbrev pub headOf : List ℕ → Head
@@ -40,7 +41,7 @@ readRecord t =
     pick (ltb (length t) 10) (refused 2)
     (pick (ltb (length t - 10) (field t 8 2)) (refused 2)
     (pick (numberOk (field t 0 8))
-    (bodyJudged (numberOf (readBody (bodyOf t))) (Record.Good (headOf t)))
+    (bodyJudged (bodyNumber (readBody (bodyOf t))) (Record.Good (headOf t)))
     (refused 5)))
 
 -- document 01's number of each answer, 0 for a good record

@@ -26,7 +26,7 @@ pub enum Packet {
 fn number_ok(n: u64) -> bool
     ensures { λ r. ⌜ r ≡ numberOk n ⌝ }
 {
-    1 <= n && n <= 1000000000000
+    1 <= n && n <= facts::LAST_NUMBER
 }
 
 // Number and length at a place of a packet, whatever stands there.
@@ -91,7 +91,7 @@ pub fn read_packet(p: &[u8]) -> Packet
     if p.len() < 1 {
         return Packet::Refused(Refusal { number: 1 });
     }
-    if 1500 < p.len() {
+    if facts::PACKET_MOST < p.len() {
         return Packet::Refused(Refusal { number: 1 });
     }
     let mut at: usize = 0;

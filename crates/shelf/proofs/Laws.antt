@@ -6,21 +6,22 @@ use mathlib.Core.Logic.{_≢_, _⊎_, inl, inr}
 use mathlib.Core.List.{List, [], _++_, append-assoc, append-nil}
 use mathlib.Core.Bool.{true, false}
 use lib.ListN.{length, getD, set, take, drop, replicate, length-append, length-drop, drop-of-length-le, List·getD-eq-default}
-use lib.Seq.{take-all, take-at, drop-at, take-take, length-take-le, take-suc-set, drop-drop, sets-eq, ext-getD}
+use lib.Seq.{sets, take-all, take-at, drop-at, take-take, length-take-le, drop-drop, sets-eq, ext-getD}
 use native.Mathlib.Nat.{add-sub-cancel-left, zero-add}
 use native.Mathlib.Numerals.{add-one}
 use native.Mathlib.Omega.{arith}
 use native.Mathlib.Decide.{decLt}
 use borrow.Author.Tests.{eqb-true, eq-eqb, ne-eqb}
+use Rattle.facts.specs.Limits.{shelfSize}
 use Rattle.facts.specs.Pick.{both}
 use Rattle.facts.specs.Pieces.{pieces}
 use Rattle.facts.proofs.PieceLaws.{length-pieces, getD-pieces, length-piece, piece-fits, put-in, put-out, pieces-replicate}
-use Rattle.wire.specs.Le.{le, field, padded}
-use Rattle.wire.proofs.Laws.{length-padded, getD-padded, padded-part}
+use Rattle.wire.specs.Le.{le, toLe, field, padded}
+use Rattle.wire.proofs.Laws.{length-padded, getD-padded, padded-part, length-toLe, stored-behind}
 use Rattle.arbitration.specs.Slots.{Slot, emptySlot, slotFor, slotBody, sameBytes, sameSlot}
 use Rattle.arbitration.proofs.SlotLaws.{same-bytes-refl, bytes-differ}
-use Rattle.shelf.specs.Shelf.{slotSize, shelfSize, goodShelf, toLe, slotOf, bytesOf, slotAt, putSlot}
-use Rattle.shelf.proofs.StoreLaws.{length-toLe, length-bytes}
+use Rattle.shelf.specs.Shelf.{slotSize, goodShelf, slotOf, bytesOf, slotAt, putSlot}
+use Rattle.shelf.proofs.StoreLaws.{length-bytes}
 
 -- ---- the bytes of a slot, as the code cuts them out
 pub slot-in : (t : List ℕ) (i : ℕ) → i < length t / 74 → take (74 * i + 74 - 74 * i) (drop (74 * i) t) ≡ getD (pieces slotSize t) i []
@@ -109,22 +110,6 @@ module _ (x b : List ℕ) where
       go : (k : ℕ) → k < 64 → getD (padded x 10 64) k 0 ≡ getD (padded b 0 64) k 0
       go k l = getD-padded x 10 64 k l ∙ h k l ∙ sym (body-at k l)
 
--- ---- writing a number: the bytes so far and those of what is left make the whole
-pub le-start : (w n : ℕ) (x : List ℕ) → take 0 x ++ toLe (w - 0) n ≡ toLe w n
-le-start w n x = let z : w - 0 ≡ w = omega arith in rw z
-
-pub le-step : (w v k : ℕ) (x : List ℕ) → k < w → length x ≡ w → take (k + 1) (set x k (v % 256)) ++ toLe (w - (k + 1)) (v / 256) ≡ take k x ++ toLe (w - k) v
-unfolding toLe
-le-step w v k x h l =
-    let z : w - k ≡ suc (w - (k + 1)) = omega arith in
-    rw (z, add-one k, take-suc-set x k (v % 256) (omega arith), append-assoc)
-
-pub le-end : (w v k : ℕ) (x : List ℕ) → w ≤ k → length x ≡ w → x ≡ take k x ++ toLe (w - k) v
-unfolding toLe
-le-end w v k x h l =
-    let z : w - k ≡ 0 = omega arith in
-    rw z (sym (append-nil (take k x) ∙ take-all k x (omega arith)))
-
 -- ---- writing a slot: a part that comes back as other 74 bytes is that slot put
 pub part-put : (t : List ℕ) (i : ℕ) (s : Slot) (x : List ℕ) → i < length t / 74 → x ≡ bytesOf s → length (s .bytes) ≡ 64
     → take (74 * i) t ++ (x ++ drop (74 * i + 74 - 74 * i) (drop (74 * i) t)) ≡ putSlot t i s
@@ -145,34 +130,25 @@ pub empty-part : (t : List ℕ) (i : ℕ) (x : List ℕ) → i < length t / 74 �
 unfolding bytesOf toLe
 empty-part t i x h e = rw (add-sub-cancel-left (74 * i) 74, length-piece slotSize t i h) at e
 
--- a part written right behind p
-seam : (p q y : List ℕ) (n k : ℕ) → length p ≡ n → take n (p ++ q) ++ (y ++ drop k (drop n (p ++ q))) ≡ (p ++ y) ++ drop k q
-seam p q y n k l = rw (take-at p q n l, drop-at p q n l) (sym (append-assoc p y (drop k q)))
-
--- three parts of 74 bytes, written one after the other, are number, length and padded body
-module _ (x : List ℕ) (n : ℕ) (b y1 y2 y3 : List ℕ) (l : length x ≡ 74) where
-  abbrev one : List ℕ
-  one = y1 ++ drop 8 x
-
-  abbrev two : List ℕ
-  two = take 8 one ++ (y2 ++ drop 2 (drop 8 one))
-
-  pub filled : y1 ≡ toLe (length (take 8 x)) n → y2 ≡ toLe (length (take 2 (drop 8 one))) (length b) → y3 ≡ padded b 0 (length (take 64 (drop 10 two)))
-      → take 10 two ++ (y3 ++ drop 64 (drop 10 two)) ≡ bytesOf (slotFor n b)
+-- number and length stored in front, and the body's part behind them, are the slot
+module _ (x : List ℕ) (n : ℕ) (b one two y : List ℕ) (l : length x ≡ 74) where
+  pub filled : one ≡ sets x 0 (toLe 8 n) → two ≡ sets one 8 (toLe 2 (length b)) → y ≡ padded b 0 (length (take 64 (drop 10 two)))
+      → take 10 two ++ (y ++ drop 64 (drop 10 two)) ≡ bytesOf (slotFor n b)
   unfolding bytesOf
   filled e1 e2 e3 =
-      let f1 : y1 ≡ toLe 8 n = rw (length-take-le 8 x (omega arith)) at e1 in
-      let n1 : length y1 ≡ 8 = ap length f1 ∙ length-toLe 8 n in
-      let r2 : length (drop 8 x) ≡ 66 = rw length-drop (omega arith) in
-      let f2 : y2 ≡ toLe 2 (length b) = rw (drop-at y1 (drop 8 x) 8 n1, length-take-le 2 (drop 8 x) (omega arith)) at e2 in
-      let n2 : length (y1 ++ y2) ≡ 10 = rw length-append (omega (arith, ap length f2 ∙ length-toLe 2 (length b))) in
-      let two-is : two ≡ (y1 ++ y2) ++ drop 2 (drop 8 x) = seam y1 (drop 8 x) y2 8 2 n1 in
-      let r3 : length (drop 2 (drop 8 x)) ≡ 64 = rw length-drop (omega arith) in
-      let f3 : y3 ≡ padded b 0 64 = rw (two-is, drop-at (y1 ++ y2) (drop 2 (drop 8 x)) 10 n2, length-take-le 64 (drop 2 (drop 8 x)) (omega arith)) at e3 in
-      rw two-is
-      (seam (y1 ++ y2) (drop 2 (drop 8 x)) y3 10 64 n2
-      ∙ ap (λ (r : List ℕ). ((y1 ++ y2) ++ y3) ++ r) (drop-of-length-le (drop 2 (drop 8 x)) {i = 64} (omega arith))
-      ∙ append-nil ((y1 ++ y2) ++ y3) ∙ append-assoc y1 y2 y3 ∙ cc (f1, f2, f3))
+      let p : List ℕ = toLe 8 n in
+      let q : List ℕ = toLe 2 (length b) in
+      let r : List ℕ = drop 2 (drop 8 x) in
+      let lp : length p ≡ 8 = length-toLe 8 n in
+      let lq : length q ≡ 2 = length-toLe 2 (length b) in
+      let first : one ≡ p ++ drop 8 x = e1 ∙ stored-behind [] x p 0 refl (omega arith) ∙ rw lp in
+      let second : two ≡ (p ++ q) ++ r = e2 ∙ rw first (stored-behind p (drop 8 x) q 8 lp (rw length-drop (omega arith)) ∙ rw lq) in
+      let lh : length (p ++ q) ≡ 10 = rw length-append (omega arith) in
+      let lr : length r ≡ 64 = rw (length-drop, length-drop) (omega arith) in
+      let front : take 10 two ≡ p ++ q = rw second (take-at (p ++ q) r 10 lh) in
+      let behind : drop 10 two ≡ r = rw second (drop-at (p ++ q) r 10 lh) in
+      let whole : y ≡ padded b 0 64 = rw (behind, length-take-le 64 r (omega arith)) at e3 in
+      rw (front, behind, whole, drop-of-length-le r {i = 64} (omega arith), append-nil) (append-assoc p q (padded b 0 64))
 
 -- ---- sizes and starts
 pub good-size : (n : ℕ) → goodShelf n ≡ true → n ≡ shelfSize

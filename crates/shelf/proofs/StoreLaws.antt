@@ -1,32 +1,21 @@
 -- The lent bytes keep 64 slots as the theory asks: a slot is a piece of 74 bytes that reads back as it was written, so the laws are those of pieces.
 -- Assumes nothing.
-use Prim.Native.Nat.{ℕ, zero, suc, _/_, _^_, _<_}
-use mathlib.Core.Path.{_≡_, refl, ap, _∙_}
+use Prim.Native.Nat.{ℕ, _/_, _<_}
+use mathlib.Core.Path.{_≡_, ap, _∙_}
 use mathlib.Core.Logic.{_≢_}
 use mathlib.Core.List.{List, []}
 use lib.ListN.{length, set, replicate, length-append}
 use lib.Seq.{take-at, getD-set-same, getD-set-other}
 use native.Mathlib.Omega.{arith}
+use Rattle.facts.specs.Limits.{shelfSize}
 use Rattle.facts.specs.Pieces.{pieces}
 use Rattle.facts.proofs.PieceLaws.{length-pieces, length-put, pieces-put}
-use Rattle.wire.specs.Le.{le, field, padded}
+use Rattle.wire.specs.Le.{toLe, field, padded}
+use Rattle.wire.proofs.Laws.{length-toLe, le-toLe}
 use Rattle.arbitration.specs.Slots.{Slot, Fits}
 use Rattle.arbitration.specs.Engine.{StoreLaws}
-use Rattle.shelf.specs.Shelf.{slotSize, shelfSize, toLe, slotOf, bytesOf, slotAt, putSlot}
+use Rattle.shelf.specs.Shelf.{slotSize, slotOf, bytesOf, slotAt, putSlot}
 use Rattle.shelf.specs.Store.{shelfStore}
-
-pub length-toLe : (w n : ℕ) → length (toLe w n) ≡ w
-unfolding toLe
-length-toLe zero n = refl
-length-toLe (suc w) n = ap suc (length-toLe w (n / 256))
-
--- a number that fits comes back
-pub le-toLe : (w n : ℕ) → n < 256 ^ w → le (toLe w n) ≡ n
-unfolding toLe le
-le-toLe zero n h = omega arith
-le-toLe (suc w) n h =
-    let ih : le (toLe w (n / 256)) ≡ n / 256 = le-toLe w (n / 256) (omega arith) in
-    omega arith
 
 -- ---- a slot and its bytes
 pub length-bytes : (s : Slot) → length (s .bytes) ≡ 64 → length (bytesOf s) ≡ slotSize
@@ -61,7 +50,6 @@ length-put-slot t i s = length-put slotSize t i (bytesOf s)
 
 -- a shelf of the right size has 64 slots
 pub whole : (t : List ℕ) → length t ≡ shelfSize → length t / slotSize ≡ 64
-unfolding shelfSize
 whole t h = omega arith
 
 pub shelfLaws : StoreLaws shelfStore

@@ -1,29 +1,21 @@
 -- The shelf in lent bytes (document 01: "The shelf is 64 slots of 74 bytes (number, length, body padded with zeros to 64 bytes)").
-use Prim.Native.Nat.{ℕ, zero, suc, _/_, _%_}
+use Prim.Native.Nat.{ℕ}
 use mathlib.Core.Bool.{Bool}
-use mathlib.Core.List.{List, [], _∷_, _++_}
+use mathlib.Core.List.{List, [], _++_}
 use lib.ListN.{getD}
 use lib.Dec.{eqb}
+use Rattle.facts.specs.Limits.{shelfSize}
 use Rattle.facts.specs.Pieces.{pieces, putPiece}
-use Rattle.wire.specs.Le.{field, padded}
+use Rattle.wire.specs.Le.{toLe, field, padded}
 use Rattle.arbitration.specs.Slots.{Slot}
 
 -- a slot's bytes: number 8, length 2, body 64
 abbrev pub slotSize : ℕ
 slotSize = 74
 
--- "64 slots of 74 bytes"
-unfoldable pub shelfSize : ℕ
-shelfSize = 4736
-
 -- no refusal 6 for a shelf of n bytes ("a table size outside these limits or not in whole rows")
 unfoldable pub goodShelf : ℕ → Bool
 goodShelf n = eqb n shelfSize
-
--- a number in w bytes, "unsigned and little-endian"; what does not fit is left out
-unfoldable pub toLe : ℕ → ℕ → List ℕ
-toLe zero n = []
-toLe (suc w) n = n % 256 ∷ toLe w (n / 256)
 
 -- the slot that its bytes are
 unfoldable pub slotOf : List ℕ → Slot

@@ -7,18 +7,16 @@ ghost use Rattle.facts.specs.Pieces.{pieces};
 ghost use Rattle.wire.specs.Le.{padded};
 ghost use Rattle.arbitration.specs.Slots.{emptySlot, slotFor, slotBody, sameBytes, sameSlot};
 ghost use Rattle.arbitration.specs.Receive.{highest as highestNumber};
-ghost use Rattle.shelf.specs.Shelf.{slotSize, goodShelf, toLe, bytesOf, slotAt, putSlot};
+ghost use Rattle.shelf.specs.Shelf.{slotSize, goodShelf, bytesOf, slotAt, putSlot};
 ghost use Rattle.shelf.specs.Store.{shelfStore};
 
-// The bytes of a slot, and of the whole shelf.
+// The bytes of a slot.
 const SLOT: usize = 74;
-
-const SHELF: usize = 4736;
 
 pub fn good_shelf(n: usize) -> bool
     ensures { λ r. ⌜ r ≡ goodShelf n ⌝ }
 {
-    n == SHELF
+    n == facts::SHELF_SIZE
 }
 
 // The bytes of slot i; none where there is no such slot.
@@ -87,27 +85,13 @@ pub fn holds(s: &[u8], i: usize, number: u64, body: &[u8]) -> bool
     same_bytes(x, body)
 }
 
-// A number in as many bytes as there are, the low byte first.
-fn put_le(x: &mut [u8], n: u64)
-    ensures { λ _. ⌜ now (x .exit) ≡ toLe (length (now (x .entry))) n ⌝ }
-{
-    let w = x.len();
-    let mut v = n;
-    let mut k: usize = 0;
-    while k < w {
-        x[k] = (v % 256) as u8;
-        v = v / 256;
-        k += 1;
-    }
-}
-
 // Every byte of one slot: number, length, padded body.
 fn fill(x: &mut [u8], number: u64, body: &[u8])
     requires { ⌜ length (now x) ≡ slotSize ⌝ }
     ensures { λ _. ⌜ now (x .exit) ≡ bytesOf (slotFor number (now (body .entry))) ⌝ }
 {
-    put_le(&mut x[0..8], number);
-    put_le(&mut x[8..10], body.len() as u64);
+    wire::put_le(x, 0, 8, number);
+    wire::put_le(x, 8, 2, body.len() as u64);
     wire::copy_at(body, 0, &mut x[10..74]);
 }
 

@@ -1,18 +1,18 @@
--- The shared law of little-endian reading, at every width, and what follows from it. No law asks that the bytes are there: a byte past
--- the end counts as 0, on both sides.
+-- The shared law of little-endian reading, at every width, and what follows from it; and of writing, byte by byte. No law of reading asks that
+-- the bytes are there: a byte past the end counts as 0, on both sides, and none is stored there.
 -- Assumes nothing.
 use mathlib.Core.Path.{_≡_, refl, sym, ap, _∙_}
 use mathlib.Core.List.{List, [], _∷_, _++_}
-use Prim.Native.Nat.{ℕ, zero, suc, _+_, _-_, _*_, _^_, _≤_, _<_}
+use Prim.Native.Nat.{ℕ, zero, suc, _+_, _-_, _*_, _/_, _%_, _^_, _≤_, _<_}
 use mathlib.Core.Bool.{Bool, true, false}
 use lib.Dec.{leb}
 use borrow.Author.Tests.{leb-true, leb-false, le-leb, lt-leb}
 use native.Mathlib.Nat.{pow-suc, pow-succ', pow-zero, zero-add, add-zero, suc-add, add-suc, mul-assoc}
 use native.Mathlib.Omega.{arith}
-use lib.ListN.{length, take, drop, getD, replicate, length-append, length-drop, length-replicate, drop-of-length-le}
-use lib.Seq.{take-nil, take-all, drop-nil, length-take-le, take-append-le, getD-take, getD-drop, ext-getD}
+use lib.ListN.{length, take, drop, getD, set, replicate, length-set, length-append, length-drop, length-replicate, drop-of-length-le}
+use lib.Seq.{sets, sets-eq, set-out, take-at, drop-at, drop-drop, take-nil, take-all, drop-nil, length-take-le, take-append-le, getD-take, getD-drop, ext-getD}
 use Rattle.facts.proofs.PieceLaws.{is-replicate}
-use Rattle.wire.specs.Le.{le, field, padded, Bytes}
+use Rattle.wire.specs.Le.{le, toLe, field, padded, Bytes}
 
 -- what the test for bytes that are there says, where n of them can be
 pub fits-test : (at n l : ℕ) → n ≤ l → leb at (l - n) ≡ leb (at + n) l
@@ -131,3 +131,54 @@ pub zeros-alone : (b : List ℕ) (at n : ℕ) → length b ≤ at → replicate 
 zeros-alone b at n h =
     is-padded b at (replicate n 0) (λ k lt. zeros n k ∙ sym (field-past b (at + k) 1 (omega arith)) ∙ field-one b (at + k))
     ∙ ap (padded b at) (length-replicate n 0)
+
+-- ---- writing a number
+pub length-toLe : (w n : ℕ) → length (toLe w n) ≡ w
+unfolding toLe
+length-toLe zero n = refl
+length-toLe (suc w) n = ap suc (length-toLe w (n / 256))
+
+-- a number that fits comes back
+pub le-toLe : (w n : ℕ) → n < 256 ^ w → le (toLe w n) ≡ n
+unfolding toLe le
+le-toLe zero n h = omega arith
+le-toLe (suc w) n h =
+    let ih : le (toLe w (n / 256)) ≡ n / 256 = le-toLe w (n / 256) (omega arith) in
+    omega arith
+
+-- bytes come back from the number that they are
+pub toLe-le : (l : List ℕ) → Bytes l → toLe (length l) (le l) ≡ l
+unfolding toLe le
+toLe-le [] h = refl
+toLe-le (x ∷ l) h =
+    let lt : x < 256 = h 0 in
+    let low : (x + 256 * le l) % 256 ≡ x = omega arith in
+    let high : (x + 256 * le l) / 256 ≡ le l = omega arith in
+    rw (low, high, toLe-le l (λ i. h (suc i)))
+
+-- past the end nothing is stored
+sets-past : (s x : List ℕ) (i : ℕ) → length x ≤ i → sets x i s ≡ x
+sets-past [] x i h = refl
+sets-past (a ∷ s) x i h = sets-past s (set x i a) (suc i) (rw length-set (omega arith)) ∙ set-out x i a h
+
+-- a number of w bytes stored from i on: its first byte and what is left behind it, or none
+pub le-more : (x : List ℕ) (i w v : ℕ) → 0 < w → sets (set x i (v % 256)) (i + 1) (toLe (w - 1) (v / 256)) ≡ sets x i (toLe w v)
+unfolding toLe
+le-more x i zero v h = absurd (omega arith)
+le-more x i (suc w) v h =
+    let z : suc w - 1 ≡ w = omega arith in
+    let j : i + 1 ≡ suc i = omega arith in
+    rw (z, j)
+
+pub le-none : (x : List ℕ) (i w v : ℕ) → w ≤ 0 → x ≡ sets x i (toLe w v)
+unfolding toLe
+le-none x i w v h = let z : w ≡ 0 = omega arith in rw z
+
+pub le-past : (x : List ℕ) (i w v : ℕ) → length x ≤ i → x ≡ sets x i (toLe w v)
+le-past x i w v h = sym (sets-past (toLe w v) x i h)
+
+-- bytes stored right behind p
+pub stored-behind : (p q s : List ℕ) (n : ℕ) → length p ≡ n → length s ≤ length q → sets (p ++ q) n s ≡ (p ++ s) ++ drop (length s) q
+stored-behind p q s n l h =
+    sets-eq s (p ++ q) n (rw length-append (omega arith))
+    ∙ rw (take-at p q n l, ← drop-drop (length s) n (p ++ q), drop-at p q n l)

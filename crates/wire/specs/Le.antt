@@ -1,5 +1,5 @@
 -- Numbers as the feed writes them (document 01: "All numbers are unsigned and little-endian, as the BinaryU type is").
-use Prim.Native.Nat.{ℕ, _+_, _*_, _<_}
+use Prim.Native.Nat.{ℕ, zero, suc, _+_, _*_, _/_, _%_, _<_}
 use mathlib.Core.List.{List, [], _∷_, _++_}
 use lib.ListN.{take, drop, replicate, getD}
 
@@ -7,6 +7,11 @@ use lib.ListN.{take, drop, replicate, getD}
 unfoldable pub le : List ℕ → ℕ
 le [] = 0
 le (x ∷ xs) = x + 256 * le xs
+
+-- a number in w bytes, the low byte first; what does not fit is left out
+unfoldable pub toLe : ℕ → ℕ → List ℕ
+toLe zero n = []
+toLe (suc w) n = n % 256 ∷ toLe w (n / 256)
 
 -- the number in the w bytes of b that start at `at`
 unfoldable pub field : List ℕ → ℕ → ℕ → ℕ

@@ -1,10 +1,11 @@
-// Little-endian numbers at fixed places of a run of bytes, and copies of its bytes by value.
-// A byte past the end counts as 0, so that every function here answers for any slice and any place.
+// Little-endian numbers at fixed places of a run of bytes, read and written, and copies of its bytes by value.
+// A byte past the end counts as 0 and is not stored, so that every function here answers for any slice and any place.
 ghost use mathlib.Core.Path.{_≡_};
 ghost use Prim.Native.Nat.{_+_, _≤_, _<_};
 ghost use lib.ListN.{length, getD, replicate};
+ghost use lib.Seq.{sets};
 ghost use lib.Dec.{leb};
-ghost use Rattle.wire.specs.Le.{field, padded};
+ghost use Rattle.wire.specs.Le.{toLe, field, padded};
 
 pub fn u8_at(b: &[u8], at: usize) -> u8
     ensures { λ r. ⌜ r ≡ getD (now (b .entry)) at 0 ⌝ }
@@ -139,5 +140,23 @@ pub fn wipe(t: &mut [u8])
     while i < n {
         t[i] = 0;
         i += 1;
+    }
+}
+
+// The low w bytes of a number, the low byte first, stored from at on as far as the slice reaches.
+pub fn put_le(out: &mut [u8], at: usize, w: usize, n: u64)
+    ensures { λ _. ⌜ now (out .exit) ≡ sets (now (out .entry)) at (toLe w n) ⌝ }
+{
+    let mut v = n;
+    let mut i = at;
+    let mut left = w;
+    while 0 < left {
+        if out.len() <= i {
+            return;
+        }
+        out[i] = (v % 256) as u8;
+        v = v / 256;
+        i += 1;
+        left -= 1;
     }
 }

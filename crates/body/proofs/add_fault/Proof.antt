@@ -1,6 +1,7 @@
--- Each call answers its part of the definition, so the answers in a row are the definition.
+-- Each call answers its part, in the order of the fields; those without a range have no part in it.
 -- Assumes nothing.
-use Rattle.body.specs.Faults.{faultOf}
+use Rattle.facts.specs.Pick.{pick}
+use Rattle.body.specs.Faults.{faultFrom, faultOf}
 use borrow.Author.Needs.{needs}
 use Rattle.body.proofs.add_fault.Statement.{statement}
 use Rattle.body.proofs.add_fault.Tie as tie
@@ -11,26 +12,17 @@ u8-at-requires c κs = search needs
 side-ok-requires : tie.Need-side-ok-requires
 side-ok-requires c κs = search needs
 
-fault-at-requires : tie.Need-fault-at-requires
-fault-at-requires c κs = search needs
-
 deal-fault-requires : tie.Need-deal-fault-requires
 deal-fault-requires c κs = search needs
 
-first-requires : tie.Need-first-requires
-first-requires c κs = search needs
+fault-at-requires : tie.Need-fault-at-requires
+fault-at-requires c κs = search needs
 
 returns : tie.Need-returns
-unfolding faultOf
-returns c = simp (c .first .ensures, c .before .deal-fault .ensures, c .before .before .fault-at .ensures, c .before .before .before .side-ok .ensures, c .before .before .before .before .u8-at .ensures)
+unfolding faultOf faultFrom pick
+returns c = cc
 
 pub add-fault-spec : {M : Type 1} → statement M
 add-fault-spec =
     tie.close
-    (tie.spec
-    u8-at-requires
-    side-ok-requires
-    fault-at-requires
-    deal-fault-requires
-    first-requires
-    returns)
+    (tie.spec u8-at-requires side-ok-requires deal-fault-requires fault-at-requires returns)

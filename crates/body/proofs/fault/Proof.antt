@@ -1,7 +1,8 @@
 -- Each arm knows its kind, and answers by that kind's own function, or 0 where the kind has no range.
 -- Assumes nothing.
 use mathlib.Core.Path.{refl}
-use Rattle.body.specs.Faults.{faultOf}
+use Rattle.facts.specs.Pick.{pick}
+use Rattle.body.specs.Faults.{faultFrom, faultOf}
 use borrow.Author.Needs.{needs}
 use Rattle.body.proofs.fault.Statement.{statement}
 use Rattle.body.proofs.fault.Tie as tie
@@ -61,22 +62,22 @@ enum-told-12 : tie.Need-enum-told-12
 enum-told-12 c = search needs
 
 returns : tie.Need-returns
-unfolding faultOf
+unfolding faultOf faultFrom pick
 returns c = rw (c .enum-told .given .1) refl
 
 returns-2 : tie.Need-returns-2
 returns-2 c = rw (c .before .enum-told2 .given .1) (c .symbol-fault .ensures)
 
 returns-3 : tie.Need-returns-3
-unfolding faultOf
+unfolding faultOf faultFrom pick
 returns-3 c = rw (c .enum-told3 .given .1) refl
 
 returns-4 : tie.Need-returns-4
-unfolding faultOf
+unfolding faultOf faultFrom pick
 returns-4 c = rw (c .enum-told4 .given .1) refl
 
 returns-5 : tie.Need-returns-5
-unfolding faultOf
+unfolding faultOf faultFrom pick
 returns-5 c = rw (c .enum-told5 .given .1) refl
 
 returns-6 : tie.Need-returns-6
@@ -86,7 +87,7 @@ returns-7 : tie.Need-returns-7
 returns-7 c = rw (c .before .enum-told7 .given .1) (c .modify-fault .ensures)
 
 returns-8 : tie.Need-returns-8
-unfolding faultOf
+unfolding faultOf faultFrom pick
 returns-8 c = rw (c .enum-told8 .given .1) refl
 
 returns-9 : tie.Need-returns-9
@@ -99,7 +100,7 @@ returns-11 : tie.Need-returns-11
 returns-11 c = rw (c .before .enum-told11 .given .1) (c .cancel-fault .ensures)
 
 returns-12 : tie.Need-returns-12
-unfolding faultOf
+unfolding faultOf faultFrom pick
 returns-12 c = rw (c .enum-told12 .given .1) refl
 
 pub fault-spec : {M : Type 1} → statement M

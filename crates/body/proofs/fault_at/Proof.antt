@@ -2,16 +2,15 @@
 -- Assumes nothing.
 use mathlib.Core.Path.{refl}
 use Rattle.facts.specs.Pick.{pick}
-use Rattle.body.specs.Faults.{faultAt}
 use Rattle.body.proofs.fault_at.Statement.{statement}
 use Rattle.body.proofs.fault_at.Tie as tie
 
 returns : tie.Need-returns
-unfolding faultAt pick
+unfolding pick
 returns c = rw (c .if1 .taken) refl
 
 returns-2 : tie.Need-returns-2
-unfolding faultAt pick
+unfolding pick
 returns-2 c = rw (c .if1 .left) refl
 
 pub fault-at-spec : {M : Type 1} → statement M

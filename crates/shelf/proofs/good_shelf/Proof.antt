@@ -1,12 +1,12 @@
 -- The comparison is the definition.
 -- Assumes nothing.
 use mathlib.Core.Path.{refl}
-use Rattle.shelf.specs.Shelf.{shelfSize, goodShelf}
+use Rattle.shelf.specs.Shelf.{goodShelf}
 use Rattle.shelf.proofs.good_shelf.Statement.{statement}
 use Rattle.shelf.proofs.good_shelf.Tie as tie
 
 returns : tie.Need-returns
-unfolding goodShelf shelfSize
+unfolding goodShelf
 returns c = refl
 
 pub good-shelf-spec : {M : Type 1} → statement M
