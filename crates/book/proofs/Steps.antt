@@ -39,7 +39,7 @@ use Rattle.book.specs.declared.Works.{Works}
 use Rattle.book.specs.declared.Plan.{Plan}
 use Rattle.book.specs.declared.Plan.the-variants.{Stop, Go}
 use Rattle.book.specs.Plan.{clock, works, onRows, idle, ofKnown, target, upon, moves, rowFor, roomFor, addPlan, modified, modifyPlan, deleted, deletePlan, executed, executionPlan, clearPlan, updatePlan, Finds, planBy}
-use Rattle.book.specs.Book.{Book, book, outcome, scans, planned, carried, applied}
+use Rattle.book.specs.Book.{Book, book, effect, scans, planned, carried, applied}
 use Rattle.book.proofs.Laws.{planned-by, carried-by}
 use Rattle.book.proofs.Plans.{Ruled, stops, goes, OnOrders, stops-orders, goes-orders, ruled, known-orders, room-orders, named-orders, executed-orders}
 
@@ -128,17 +128,17 @@ other-good (cancel m) = refl
 module _ (n : ℕ) (b : List ℕ) (c : Clock) (f : Finds) where
   names-orders : {m : Body} {s : ℕ} → Names m s → OnOrders c (planBy m n b c f)
   unfolding planBy addPlan modifyPlan deletePlan executionPlan clearPlan
-  names-orders (clear m) = known-orders c (f .entry (m .symbol)) (onRows c (RowWork.Clear (m .symbol))) (goes-orders (RowWork.Clear (m .symbol)))
-  names-orders (add m) = known-orders c (f .entry (m .symbol)) (roomFor c (rowFor m n) (f .order (m .order)) (f .free)) (room-orders c (rowFor m n) (f .order (m .order)) (f .free))
+  names-orders (clear m) = known-orders c (f .entry (m .symbol)) (λ e. onRows c (RowWork.Clear (m .symbol))) (λ e. goes-orders (RowWork.Clear (m .symbol)))
+  names-orders (add m) = known-orders c (f .entry (m .symbol)) (λ e. roomFor c (rowFor m n) (f .order (m .order)) (f .free)) (λ e. room-orders c (rowFor m n) (f .order (m .order)) (f .free))
   names-orders (modify m) =
-      known-orders c (f .entry (m .symbol)) (upon (target (f .order (m .order)) (m .symbol)) (modified c m n))
-      (named-orders c (f .order (m .order)) (m .symbol) (modified c m n) (λ i r. goes-orders (RowWork.Put i (remade (m .price) (m .size) (moves (m .flags)) n r))))
+      known-orders c (f .entry (m .symbol)) (λ e. upon (target (f .order (m .order)) (m .symbol)) (modified c m n))
+      (λ e. named-orders c (f .order (m .order)) (m .symbol) (modified c m n) (λ i r. goes-orders (RowWork.Put i (remade (m .price) (m .size) (moves (m .flags)) n r))))
   names-orders (delete m) =
-      known-orders c (f .entry (m .symbol)) (upon (target (f .order (m .order)) (m .symbol)) (deleted c))
-      (named-orders c (f .order (m .order)) (m .symbol) (deleted c) (λ i r. goes-orders (RowWork.Put i zeroRow)))
+      known-orders c (f .entry (m .symbol)) (λ e. upon (target (f .order (m .order)) (m .symbol)) (deleted c))
+      (λ e. named-orders c (f .order (m .order)) (m .symbol) (deleted c) (λ i r. goes-orders (RowWork.Put i zeroRow)))
   names-orders (execution m) =
-      known-orders c (f .entry (m .symbol)) (upon (target (f .order (m .order)) (m .symbol)) (executed c m))
-      (named-orders c (f .order (m .order)) (m .symbol) (executed c m) (executed-orders c m))
+      known-orders c (f .entry (m .symbol)) (λ e. upon (target (f .order (m .order)) (m .symbol)) (executed c m))
+      (λ e. named-orders c (f .order (m .order)) (m .symbol) (executed c m) (executed-orders c m))
 
   names-unknown : {m : Body} {s : ℕ} → Names m s → f .entry s ≡ Nothing → planBy m n b c f ≡ Stop 20
   unfolding planBy addPlan modifyPlan deletePlan executionPlan clearPlan ofKnown
@@ -286,17 +286,17 @@ module _ (n : ℕ) (b : List ℕ) (k : Book) where
   unfolding planned
   clock-kept = ⊎-elim inl (λ e. inr (ap (λ x. x .clock) applied-all ∙ e)) (kind-clock n b (k .clock) (scans k) (kind-of (readBody b)))
 
-  pub second-set : (c : ℕ) → readBody b ≡ Body.SystemTime c → applied n b k ≡ outcome 0 (book (k .orders) (k .symbols) (clock c))
+  pub second-set : (c : ℕ) → readBody b ≡ Body.SystemTime c → applied n b k ≡ effect 0 (book (k .orders) (k .symbols) (clock c))
   unfolding planBy carried committed entered
   second-set c e = sym (carried-by (idle (clock c)) n b k (sym (planned-by (Body.SystemTime c) n b k e)))
 
   -- "The other four apply without changing a table"
-  pub other-four : Other (readBody b) → applied n b k ≡ outcome 0 k
+  pub other-four : Other (readBody b) → applied n b k ≡ effect 0 k
   unfolding carried committed entered
   other-four h = sym (carried-by (idle (k .clock)) n b k (sym (planned-by (readBody b) n b k refl) ∙ other-idle n b (k .clock) (scans k) h))
 
   -- an unknown symbol breaks 20, whatever the order table holds
-  pub unknown-symbol : (s : ℕ) → Names (readBody b) s → knownSymbol s (entries (k .symbols)) ≡ false → applied n b k ≡ outcome 20 k
+  pub unknown-symbol : (s : ℕ) → Names (readBody b) s → knownSymbol s (entries (k .symbols)) ≡ false → applied n b k ≡ effect 20 k
   unfolding carried
   unknown-symbol s h u =
       sym (carried-by (Stop 20) n b k (sym (planned-by (readBody b) n b k refl) ∙ names-unknown n b (k .clock) (scans k) h (unknown-nowhere s (entries (k .symbols)) u)))

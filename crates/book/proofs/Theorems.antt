@@ -112,8 +112,8 @@ module _ (m : AddOrder) (n : ℕ) where
       add-entered =
           let d = done (Body.Add m) n b k e z in
           let t = k .orders in
-          let g = goes-known (findSymbol (m .symbol) (entries (k .symbols))) (roomFor (k .clock) (rowFor m n) (orderIn (m .order) t) (findFree (rows t))) (d .does) (d .plan-is) in
-          let r = goes-room (k .clock) (rowFor m n) (orderIn (m .order) t) (findFree (rows t)) (d .does) (g .1) in
+          let g = goes-known (findSymbol (m .symbol) (entries (k .symbols))) (λ e. roomFor (k .clock) (rowFor m n) (orderIn (m .order) t) (findFree (rows t))) (d .does) (d .plan-is) in
+          let r = goes-room (k .clock) (rowFor m n) (orderIn (m .order) t) (findFree (rows t)) (d .does) (g .2) in
           let j = r .1 .0 in
           subst (Added (rowFor m n) t) (sym (d .orders-are ∙ ap (λ (x : Works). committed (x .orders) t) (sym (r .1 .2))))
           (put-added (rowFor m n) t j (held-nowhere (findOrder (m .order) (rows t)) (rows t) (r .0)) (r .1 .1))
@@ -132,8 +132,8 @@ module _ (m : ModifyOrder) (n : ℕ) (b : List ℕ) (k : Book) (e : readBody b �
   modify-done =
       let d = done (Body.Modify m) n b k e z in
       let t = k .orders in
-      let g = goes-known (findSymbol (m .symbol) (entries (k .symbols))) (upon (target (orderIn (m .order) t) (m .symbol)) (modified (k .clock) m n)) (d .does) (d .plan-is) in
-      let x = goes-owned (orderIn (m .order) t) (m .symbol) (modified (k .clock) m n) (d .does) (g .1) in
+      let g = goes-known (findSymbol (m .symbol) (entries (k .symbols))) (λ e. upon (target (orderIn (m .order) t) (m .symbol)) (modified (k .clock) m n)) (d .does) (d .plan-is) in
+      let x = goes-owned (orderIn (m .order) t) (m .symbol) (modified (k .clock) m n) (d .does) (g .2) in
       let q = owner (m .order) (m .symbol) k (Go (d .does)) (modified (k .clock) m n) x in
       let y : works (k .clock) (RowWork.Put (x .place) (remade (m .price) (m .size) (moves (m .flags)) n (x .held))) EntryWork.Keep ≡ d .does = cc (x .goes) in
       named-by (m .order) (m .symbol) (remade (m .price) (m .size) (moves (m .flags)) n) t (applied n b k .after .orders) (d .does .orders) (x .place) (x .held) (q .0) (q .1) (x .under) (ap (λ (o : Works). o .orders) y) (d .orders-are)
@@ -168,8 +168,8 @@ module _ (m : DeleteOrder) (n : ℕ) (b : List ℕ) (k : Book) (e : readBody b �
   delete-done =
       let d = done (Body.Delete m) n b k e z in
       let t = k .orders in
-      let g = goes-known (findSymbol (m .symbol) (entries (k .symbols))) (upon (target (orderIn (m .order) t) (m .symbol)) (deleted (k .clock))) (d .does) (d .plan-is) in
-      let x = goes-owned (orderIn (m .order) t) (m .symbol) (deleted (k .clock)) (d .does) (g .1) in
+      let g = goes-known (findSymbol (m .symbol) (entries (k .symbols))) (λ e. upon (target (orderIn (m .order) t) (m .symbol)) (deleted (k .clock))) (d .does) (d .plan-is) in
+      let x = goes-owned (orderIn (m .order) t) (m .symbol) (deleted (k .clock)) (d .does) (g .2) in
       let q = owner (m .order) (m .symbol) k (Go (d .does)) (deleted (k .clock)) x in
       let y : works (k .clock) (RowWork.Put (x .place) zeroRow) EntryWork.Keep ≡ d .does = cc (x .goes) in
       named-by (m .order) (m .symbol) (λ r. zeroRow) t (applied n b k .after .orders) (d .does .orders) (x .place) (x .held) (q .0) (q .1) (x .under) (ap (λ (o : Works). o .orders) y) (d .orders-are)
@@ -184,8 +184,8 @@ module _ (m : OrderExecution) (n : ℕ) (b : List ℕ) (k : Book) (e : readBody 
   execution-both =
       let d = done (Body.Execution m) n b k e z in
       let t = k .orders in
-      let g = goes-known (findSymbol (m .symbol) (entries (k .symbols))) (upon (target (orderIn (m .order) t) (m .symbol)) (executed (k .clock) m)) (d .does) (d .plan-is) in
-      let x = goes-owned (orderIn (m .order) t) (m .symbol) (executed (k .clock) m) (d .does) (g .1) in
+      let g = goes-known (findSymbol (m .symbol) (entries (k .symbols))) (λ e. upon (target (orderIn (m .order) t) (m .symbol)) (executed (k .clock) m)) (d .does) (d .plan-is) in
+      let x = goes-owned (orderIn (m .order) t) (m .symbol) (executed (k .clock) m) (d .does) (g .2) in
       let q = owner (m .order) (m .symbol) k (Go (d .does)) (executed (k .clock) m) x in
       let y = goes-executed (k .clock) m (x .place) (x .held) (d .does) (x .goes) in
       let v = named-by (m .order) (m .symbol) (reduced (m .size)) t (applied n b k .after .orders) (d .does .orders) (x .place) (x .held) (q .0) (q .1) (x .under) (ap (λ (o : Works). o .orders) (y .1)) (d .orders-are) in
@@ -218,8 +218,8 @@ module _ (m : SymbolClear) (n : ℕ) (b : List ℕ) (k : Book) (e : readBody b �
   unfolding planBy clearPlan committed
   clear-done =
       let d = done (Body.SymbolClear m) n b k e z in
-      let g = goes-known (findSymbol (m .symbol) (entries (k .symbols))) (onRows (k .clock) (RowWork.Clear (m .symbol))) (d .does) (d .plan-is) in
-      let y : works (k .clock) (RowWork.Clear (m .symbol)) EntryWork.Keep ≡ d .does = cc (g .1) in
+      let g = goes-known (findSymbol (m .symbol) (entries (k .symbols))) (λ e. onRows (k .clock) (RowWork.Clear (m .symbol))) (d .does) (d .plan-is) in
+      let y : works (k .clock) (RowWork.Clear (m .symbol)) EntryWork.Keep ≡ d .does = cc (g .2) in
       d .orders-are ∙ ap (λ (o : Works). committed (o .orders) (k .orders)) (sym y)
 
   pub clear-none : (j : ℕ) → ofSymbol (m .symbol) (row (applied n b k .after .orders) j) ≡ false

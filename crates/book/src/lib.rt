@@ -18,7 +18,7 @@ ghost use Rattle.rows.specs.Find.{findFree};
 ghost use Rattle.symbols.specs.Entries.{entries, idOf};
 ghost use Rattle.symbols.specs.Find.{findSymbol, placeFor};
 ghost use Rattle.book.specs.Plan.{sideOf, moves, rowFor, onRows, idle, ofKnown, target, roomFor, addPlan, modifyPlan, deletePlan, executionPlan, clearPlan, updatePlan};
-ghost use Rattle.book.specs.Book.{orderIn, book, outcome, planned, applied};
+ghost use Rattle.book.specs.Book.{orderIn, book, effect, planned, applied};
 
 // What a book has by value: the current second.
 pub struct Clock {
@@ -96,7 +96,7 @@ fn at_rest(clock: Clock) -> Plan
 
 // 20, before whatever else a message breaks or does.
 fn of_known(entry: Found, p: Plan) -> Plan
-    ensures { λ r. ⌜ r ≡ ofKnown entry p ⌝ }
+    ensures { λ r. ⌜ r ≡ ofKnown entry (λ e. p) ⌝ }
 {
     match entry {
         Found::At(_) => p,
@@ -276,7 +276,7 @@ pub fn apply(
     number: u64,
     body: &[u8],
 ) -> Applied
-    ensures { λ r. ⌜ outcome (r .rule) (book (now (orders .exit)) (now (symbols .exit)) (r .clock)) ≡ applied number (now (body .entry)) (book (now (orders .entry)) (now (symbols .entry)) clock) ⌝ }
+    ensures { λ r. ⌜ effect (r .rule) (book (now (orders .exit)) (now (symbols .exit)) (r .clock)) ≡ applied number (now (body .entry)) (book (now (orders .entry)) (now (symbols .entry)) clock) ⌝ }
 {
     match plan_of(orders, symbols, clock, number, body) {
         Plan::Stop(n) => Applied { rule: n, clock },

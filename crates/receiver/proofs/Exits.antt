@@ -11,7 +11,7 @@ use Rattle.facts.specs.Pick.{pick}
 use Rattle.body.specs.Read.{goodBody}
 use Rattle.book.specs.declared.Clock.{Clock}
 use Rattle.book.specs.Plan.{clock}
-use Rattle.book.specs.Book.{Book, book, Outcome, outcome, applied}
+use Rattle.book.specs.Book.{Book, book, Effect, effect, applied}
 use Rattle.book.proofs.Steps.{broken-keeps, bad-body, rule-good}
 use Rattle.arbitration.specs.Slots.{Slot, emptySlot, slotBody}
 use Rattle.arbitration.specs.Engine.{ok, broke}
@@ -88,18 +88,18 @@ module _ (next second : ℕ) (o s h : List ℕ) where
             ∙ ap ofApplied (apply-ok next (slotBody here) k e)
 
         -- what the code's call of the book answered
-        module _ (q : ℕ) (c : Clock) (o′ s′ : List ℕ) (told : outcome q (book o′ s′ c) ≡ applied next (slotBody here) k) where
+        module _ (q : ℕ) (c : Clock) (o′ s′ : List ℕ) (told : effect q (book o′ s′ c) ≡ applied next (slotBody here) k) where
           pub turn-broken : q ≢ 0 → Turns r (rx next second o′ s′ h) false
           turn-broken e =
-              let e′ : rule ≢ 0 = λ z. e (ap (λ (x : Outcome). x .rule) told ∙ z) in
-              let same : book o′ s′ c ≡ k = ap (λ (x : Outcome). x .after) told ∙ broken-keeps next (slotBody here) k e′ in
+              let e′ : rule ≢ 0 = λ z. e (ap (λ (x : Effect). x .rule) told ∙ z) in
+              let same : book o′ s′ c ≡ k = ap (λ (x : Effect). x .after) told ∙ broken-keeps next (slotBody here) k e′ in
               let t = stayed r (stays-stuck shelfStore bookEngine r rule (tried-broken e′)) in
               ((λ i. rx next second (same i .orders) (same i .symbols) h) ∙ t .0, t .1)
 
           pub turn-goes : q ≡ 0 → (h′ : List ℕ) → h′ ≡ putSlot h (next % 64) emptySlot → Turns r (rx (next + 1) (c .second) o′ s′ h′) true
           turn-goes e h′ p =
-              let z : rule ≡ 0 = sym (ap (λ (x : Outcome). x .rule) told) ∙ e in
-              let a : book o′ s′ c ≡ applied next (slotBody here) k .after = ap (λ (x : Outcome). x .after) told in
+              let z : rule ≡ 0 = sym (ap (λ (x : Effect). x .rule) told) ∙ e in
+              let a : book o′ s′ c ≡ applied next (slotBody here) k .after = ap (λ (x : Effect). x .after) told in
               let m = moves shelfStore bookEngine r (applied next (slotBody here) k .after) (tried-goes z) in
               ((λ i. record { next = next + 1; shelf = p i; book = a i }) ∙ sym (m .moved), sym (m .on))
 
