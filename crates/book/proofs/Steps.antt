@@ -39,6 +39,7 @@ use Rattle.book.specs.declared.Works.{Works}
 use Rattle.book.specs.declared.Plan.{Plan}
 use Rattle.book.specs.declared.Plan.the-variants.{Stop, Go}
 use Rattle.book.specs.Plan.{clock, works, onRows, idle, ofKnown, target, upon, moves, rowFor, roomFor, addPlan, modified, modifyPlan, deleted, deletePlan, executed, executionPlan, clearPlan, updatePlan, Finds, planBy}
+use Rattle.book.specs.Parts.{the-second, the-symbols, the-orders, no-part, partOf}
 use Rattle.book.specs.Book.{Book, book, effect, scans, planned, carried, applied}
 use Rattle.book.proofs.Laws.{planned-by, carried-by}
 use Rattle.book.proofs.Plans.{Ruled, stops, goes, OnOrders, stops-orders, goes-orders, ruled, known-orders, room-orders, named-orders, executed-orders}
@@ -118,11 +119,35 @@ names-good (modify m) = refl
 names-good (delete m) = refl
 names-good (execution m) = refl
 
+names-part : {m : Body} {s : ℕ} → Names m s → partOf m ≡ the-orders
+unfolding partOf
+names-part (clear m) = refl
+names-part (add m) = refl
+names-part (modify m) = refl
+names-part (delete m) = refl
+names-part (execution m) = refl
+
 other-good : {m : Body} → Other m → numberOf m ≡ 0
 other-good state = refl
 other-good (status m) = refl
 other-good (trade m) = refl
 other-good (cancel m) = refl
+
+other-part : {m : Body} → Other m → partOf m ≡ no-part
+unfolding partOf
+other-part state = refl
+other-part (status m) = refl
+other-part (trade m) = refl
+other-part (cancel m) = refl
+
+-- a Symbol Update alone may change the symbol table
+pub part-update : {m : Body} → Kind m → partOf m ≡ the-symbols → m ≡ Body.SymbolUpdate
+unfolding partOf
+part-update update q = refl
+part-update (time s) q = let z : _≡_ {A = ℕ} 0 1 = cc in absurd (omega arith)
+part-update (names x) q = let y : the-orders ≡ the-symbols = sym (names-part x) ∙ q in let z : _≡_ {A = ℕ} 0 1 = cc in absurd (omega arith)
+part-update (other x) q = let y : no-part ≡ the-symbols = sym (other-part x) ∙ q in let z : _≡_ {A = ℕ} 0 1 = cc in absurd (omega arith)
+part-update (refused r) q = let z : _≡_ {A = ℕ} 0 1 = cc in absurd (omega arith)
 
 -- ---- the plan of each
 module _ (n : ℕ) (b : List ℕ) (c : Clock) (f : Finds) where
@@ -267,24 +292,35 @@ module _ (n : ℕ) (b : List ℕ) (k : Book) where
   unfolding applied
   applied-all = carried-all (planned n b k) b k
 
-  -- the order table is changed by a message that names a symbol, and by no other
-  pub orders-kept : ((s : ℕ) × Names (readBody b) s) ⊎ (applied n b k .after .orders ≡ k .orders)
+  -- it names a symbol, or the order table is as it was
+  pub orders-named : ((s : ℕ) × Names (readBody b) s) ⊎ (applied n b k .after .orders ≡ k .orders)
   unfolding committed planned
-  orders-kept =
+  orders-named =
       ⊎-elim inl (λ e. inr (ap (λ x. x .orders) applied-all ∙ ap (λ w. committed w (k .orders)) e))
       (kind-rows n b (k .clock) (scans k) (kind-of (readBody b)))
 
-  -- the symbol table by a Symbol Update, and by no other
-  pub symbols-kept : (readBody b ≡ Body.SymbolUpdate) ⊎ (applied n b k .after .symbols ≡ k .symbols)
+  -- it is a Symbol Update, or the symbol table is as it was
+  pub symbols-updated : (readBody b ≡ Body.SymbolUpdate) ⊎ (applied n b k .after .symbols ≡ k .symbols)
   unfolding entered planned
-  symbols-kept =
+  symbols-updated =
       ⊎-elim inl (λ e. inr (ap (λ x. x .symbols) applied-all ∙ ap (λ w. entered w b (k .symbols)) e))
       (kind-entries n b (k .clock) (scans k) (kind-of (readBody b)))
 
-  -- the second by a System Time, and by no other
-  pub clock-kept : ((s : ℕ) × (readBody b ≡ Body.SystemTime s)) ⊎ (applied n b k .after .clock ≡ k .clock)
+  clock-timed : ((s : ℕ) × (readBody b ≡ Body.SystemTime s)) ⊎ (applied n b k .after .clock ≡ k .clock)
   unfolding planned
-  clock-kept = ⊎-elim inl (λ e. inr (ap (λ x. x .clock) applied-all ∙ e)) (kind-clock n b (k .clock) (scans k) (kind-of (readBody b)))
+  clock-timed = ⊎-elim inl (λ e. inr (ap (λ x. x .clock) applied-all ∙ e)) (kind-clock n b (k .clock) (scans k) (kind-of (readBody b)))
+
+  -- each part of the book is left by every message but those of that part
+  pub orders-kept : (partOf (readBody b) ≡ the-orders → ⊥) → applied n b k .after .orders ≡ k .orders
+  orders-kept h = ⊎-elim (λ x. absurd (h (names-part (x .1)))) (λ e. e) orders-named
+
+  pub symbols-kept : (partOf (readBody b) ≡ the-symbols → ⊥) → applied n b k .after .symbols ≡ k .symbols
+  unfolding partOf
+  symbols-kept h = ⊎-elim (λ e. absurd (h (ap partOf e))) (λ e. e) symbols-updated
+
+  pub clock-kept : (partOf (readBody b) ≡ the-second → ⊥) → applied n b k .after .clock ≡ k .clock
+  unfolding partOf
+  clock-kept h = ⊎-elim (λ x. absurd (h (ap partOf (x .1)))) (λ e. e) clock-timed
 
   pub second-set : (c : ℕ) → readBody b ≡ Body.SystemTime c → applied n b k ≡ effect 0 (book (k .orders) (k .symbols) (clock c))
   unfolding planBy carried committed entered

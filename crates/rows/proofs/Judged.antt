@@ -103,6 +103,10 @@ one-kind r = go (free r) refl (live r) refl
 pub zero-not-live : live zeroRow ≡ false
 zero-not-live = free-not-live zeroRow zero-free
 
+pub zero-unspoiled : spoiled zeroRow ≡ false
+unfolding spoiled either
+zero-unspoiled = rw zero-free refl
+
 pub spoiled-not-live : (r : Row) → spoiled r ≡ true → live r ≡ false
 spoiled-not-live r e = go (one-kind r)
   where

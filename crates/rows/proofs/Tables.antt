@@ -6,7 +6,7 @@ use mathlib.Core.Bool.{Bool, true, false}
 use Prim.Native.Nat.{ℕ, suc, _+_, _*_, _/_, _%_, _≤_, _<_}
 use native.Mathlib.Nat.{add-zero, mod-lt, mod-def}
 use native.Mathlib.Omega.{arith}
-use lib.ListN.{length, getD, set, take, drop, replicate, length-drop, length-map, List·getD-map, List·getD-eq-default}
+use lib.ListN.{length, getD, set, take, drop, replicate, length-replicate, getD-replicate, length-drop, length-map, List·getD-map, List·getD-eq-default}
 use lib.Seq.{drop-at, getD-set-same, getD-set-other}
 use lib.Dec.{ltb}
 use borrow.Author.Tests.{ltb-true, ltb-false}
@@ -68,6 +68,14 @@ put-flat t i r h = sym (flat-rows (putRow t i r) (rw length-put-row h)) ∙ ap f
 pub rows-zero : (n : ℕ) → rows (replicate n 0) ≡ replicate (n / 5) zeroRow
 unfolding rows rowOf zeroRow
 rows-zero n = rw (pieces-replicate {A = ℕ} 5 n 0) (map-replicate rowOf (n / 5) (replicate 5 0))
+
+-- every row of a wiped table is the zero row, and so is what lies past the last
+pub wiped-row : (n i : ℕ) → getD (rows (replicate n 0)) i zeroRow ≡ zeroRow
+wiped-row n i = rw rows-zero (go (ltb i (n / 5)) refl)
+  where
+    go : (b : Bool) → ltb i (n / 5) ≡ b → getD (replicate (n / 5) zeroRow) i zeroRow ≡ zeroRow
+    go true e = getD-replicate (n / 5) i zeroRow zeroRow (ltb-true i (n / 5) e)
+    go false e = List·getD-eq-default (replicate (n / 5) zeroRow) zeroRow (rw length-replicate (ltb-false i (n / 5) e))
 
 -- ---- a table of any length is its rows and the rest
 pub length-rest : (t : List ℕ) → length (rest t) < 5
