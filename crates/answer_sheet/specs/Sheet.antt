@@ -1,10 +1,9 @@
 -- The sheet (document 01: "The sheet is key=value lines in a fixed order, each ended by one line feed, up to ten levels a side, bids first, symbols in table order").
-use Prim.Native.Nat.{ℕ, _+_, _*_, min}
+use Prim.Native.Nat.{ℕ, _+_, _*_}
 use mathlib.Core.List.{List, [], _∷_, _++_, map}
 use mathlib.Core.Bool.{Bool}
 use mathlib.Core.Path.{_≡_}
-use lib.ListN.{length, getD, take}
-use lib.Seq.{sets}
+use lib.ListN.{length, getD, take, drop}
 use Rattle.facts.specs.Pick.{pick, both}
 use Rattle.facts.specs.Pieces.{join}
 use Rattle.fields.specs.Fields.{symbolOf, refusal}
@@ -113,9 +112,9 @@ pub record Sheet : Type 0 where
 abbrev pub sheetAnd : SheetAnswer → List ℕ → Sheet
 sheetAnd a b = record { answer = a; buf = b }
 
--- a text in a buffer as far as the buffer reaches, and how many bytes of it that are
+-- how long the whole text is, written or not; as much of it as the buffer reaches, and the rest of the buffer untouched
 unfoldable pub stored : List ℕ → List ℕ → Sheet
-stored t b = sheetAnd (SheetAnswer.Written (min (length t) (length b))) (sets b 0 t)
+stored t b = sheetAnd (SheetAnswer.Length (length t)) (take (length b) t ++ drop (length t) b)
 
 -- "Each refusal returns its number alone; tables, output and state keep every byte"
 unfoldable pub sheetView : Recording → ℕ → State → List ℕ → List ℕ → List ℕ → Sheet
@@ -124,7 +123,7 @@ sheetView word bad s orders symbols b =
 
 -- document 01's number of each answer, 0 where nothing is refused
 unfoldable pub sheetNumber : SheetAnswer → ℕ
-sheetNumber (SheetAnswer.Written n) = 0
+sheetNumber (SheetAnswer.Length n) = 0
 sheetNumber (SheetAnswer.Refused r) = r .number
 
 -- ---- inside the code's loops and calls

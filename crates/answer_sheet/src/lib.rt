@@ -1,7 +1,7 @@
 // The sheet of a receiver: key=value lines, written into lent memory as far as it reaches.
 ghost use mathlib.Core.Path.{_≡_};
 ghost use mathlib.Core.Bool.{true};
-ghost use Prim.Native.Nat.{_+_, _*_, _≤_, min};
+ghost use Prim.Native.Nat.{_+_, _*_, _^_, _≤_, _<_, min};
 ghost use lib.ListN.{length, getD};
 ghost use mathlib.Core.List.{[]};
 ghost use Rattle.rows.specs.Rows.{rows};
@@ -32,9 +32,9 @@ pub enum Recording {
     Cut,
 }
 
-// How many bytes of the sheet stand in the buffer.
+// How many bytes the whole sheet has, written or not.
 pub enum SheetAnswer {
-    Written(usize),
+    Length(usize),
     Refused(Refusal),
 }
 
@@ -47,8 +47,9 @@ fn recording_line(buf: &mut [u8], at: usize, word: Recording) -> usize
     }
 }
 
+// The lines of the state, and that its stop is a machine's number: the length of the sheet is told by one.
 fn head(buf: &mut [u8], at: usize, word: Recording, bad: u64, state: State) -> usize
-    ensures { λ r. ⌜ Wrote (now (buf .entry)) at (headOf word bad state) (now (buf .exit)) r ⌝ }
+    ensures { λ r. ⌜ Wrote (now (buf .entry)) at (headOf word bad state) (now (buf .exit)) r × (state .stop < 2 ^ 8) ⌝ }
 {
     let o = recording_line(buf, at, word);
     let p = text::line(buf, o, b"bad=", bad);
@@ -56,9 +57,9 @@ fn head(buf: &mut [u8], at: usize, word: Recording, bad: u64, state: State) -> u
     text::line(buf, q, b"stop=", state.stop as u64)
 }
 
-// The second, and how much the tables hold.
+// The second, and how much the tables hold; and that the second is a machine's number.
 fn table_lines(buf: &mut [u8], at: usize, second: u32, sizes: Sizes) -> usize
-    ensures { λ r. ⌜ Wrote (now (buf .entry)) at (tableLines second (sizes .symbols) (sizes .orders)) (now (buf .exit)) r ⌝ }
+    ensures { λ r. ⌜ Wrote (now (buf .entry)) at (tableLines second (sizes .symbols) (sizes .orders)) (now (buf .exit)) r × (second < 2 ^ 32) ⌝ }
 {
     let o = text::line(buf, at, b"second=", second as u64);
     let p = text::line(buf, o, b"symbols=", sizes.symbols as u64);
@@ -220,7 +221,7 @@ fn all_lines(
     sizes: Sizes,
 ) -> usize
     requires { ⌜ Counted sizes (now orders) (now symbols) ⌝ }
-    ensures { λ r. ⌜ Wrote (now (buf .entry)) 0 (sheetOf word bad state (now (orders .entry)) (now (symbols .entry))) (now (buf .exit)) r ⌝ }
+    ensures { λ r. ⌜ Wrote (now (buf .entry)) 0 (sheetOf word bad state (now (orders .entry)) (now (symbols .entry))) (now (buf .exit)) r × (state .stop < 2 ^ 8) × (state .second < 2 ^ 32) ⌝ }
 {
     let o = head(buf, 0, word, bad, state);
     let p = table_lines(buf, o, state.second, sizes);
@@ -245,5 +246,5 @@ pub fn sheet(
     if !receiver::next_ok(state.next) {
         return SheetAnswer::Refused(Refusal { number: 6 });
     }
-    SheetAnswer::Written(all_lines(buf, orders, symbols, state, bad, word, sizes))
+    SheetAnswer::Length(all_lines(buf, orders, symbols, state, bad, word, sizes))
 }

@@ -27,7 +27,7 @@ returns c =
     let start = first .before .before .before .before .before in
     let a = start .args in
     let e = counted-lines (a .orders .now) (a .symbols .now) _ (a .sizes) (start .pre) in
-    wrote-then (first .head .ensures) (wrote-then (wrote-as e (summed .table-lines .ensures)) (c .before .before .blocks2 .ensures))
+    (wrote-then (first .head .ensures .0) (wrote-then (wrote-as e (summed .table-lines .ensures .0)) (c .before .before .blocks2 .ensures)), first .head .ensures .1, summed .table-lines .ensures .1)
 
 pub all-lines-spec : {M : Type 1} → statement M
 all-lines-spec =

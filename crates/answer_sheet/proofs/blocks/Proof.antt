@@ -23,7 +23,7 @@ entry-count-requires : tie.Need-entry-count-requires Inv-loop μ-loop
 entry-count-requires c κs = search needs
 
 loop-holds : tie.Need-loop-holds Inv-loop μ-loop
-loop-holds c = (search needs, each-none _ _ _)
+loop-holds c = (search needs, each-none _ (search needs))
 
 entry-text-requires : tie.Need-entry-text-requires Inv-loop μ-loop
 entry-text-requires c κs = search needs

@@ -21,7 +21,7 @@ is-used-at-requires c κs = search needs
 returns : tie.Need-returns
 returns c =
     let a = c .before .before .before .before .before .args in
-    wrote-as (unused-text (rows (a .orders .now)) (getD (entries (a .symbols .now)) (a .i) []) (sym (c .before .is-used-at .ensures) ∙ not-true _ (c .if1 .taken))) (wrote-none _ _)
+    wrote-as (unused-text (rows (a .orders .now)) (getD (entries (a .symbols .now)) (a .i) []) (sym (c .before .is-used-at .ensures) ∙ not-true _ (c .if1 .taken))) (wrote-none (search needs))
 
 entry-at-requires : tie.Need-entry-at-requires
 entry-at-requires c κs = search needs

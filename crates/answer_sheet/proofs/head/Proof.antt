@@ -36,7 +36,7 @@ same-length c = search needs
 
 returns : tie.Need-returns
 unfolding headOf badKey nextKey stopKey
-returns c = wrote-then (c .before .before .before .before .before .before .before .before .before .before .before .before .before .before .before .before .before .before .recording-line .ensures) (wrote-then (c .before .before .before .before .before .before .before .before .before .before .before .before .before .line .ensures) (wrote-then (c .before .before .before .before .before .before .before .before .line2 .ensures) (c .before .before .line3 .ensures)))
+returns c = (wrote-then (c .before .before .before .before .before .before .before .before .before .before .before .before .before .before .before .before .before .before .recording-line .ensures) (wrote-then (c .before .before .before .before .before .before .before .before .before .before .before .before .before .line .ensures) (wrote-then (c .before .before .before .before .before .before .before .before .line2 .ensures) (c .before .before .line3 .ensures))), search needs)
 
 pub head-spec : {M : Type 1} → statement M
 head-spec =

@@ -16,7 +16,7 @@ abbrev μ-loop : tie.MeasureT-loop
 μ-loop buf₀ at key run n i₀ o₀ buf i o = n - i
 
 loop-holds : tie.Need-loop-holds Inv-loop μ-loop
-loop-holds c = (search needs, each-none _ _ _)
+loop-holds c = (search needs, each-none _ (search needs))
 
 level-in-requires : tie.Need-level-in-requires Inv-loop μ-loop
 level-in-requires c κs = search needs

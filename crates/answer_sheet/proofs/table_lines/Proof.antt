@@ -30,7 +30,7 @@ same-length c = search needs
 
 returns : tie.Need-returns
 unfolding tableLines secondKey symbolsKey ordersKey
-returns c = wrote-then (c .before .before .before .before .before .before .before .before .before .before .before .before .line .ensures) (wrote-then (c .before .before .before .before .before .before .before .line2 .ensures) (c .before .before .line3 .ensures))
+returns c = (wrote-then (c .before .before .before .before .before .before .before .before .before .before .before .before .line .ensures) (wrote-then (c .before .before .before .before .before .before .before .line2 .ensures) (c .before .before .line3 .ensures)), search needs)
 
 pub table-lines-spec : {M : Type 1} → statement M
 table-lines-spec =
