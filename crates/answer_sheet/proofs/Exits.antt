@@ -22,6 +22,7 @@ use Rattle.text.specs.Text.{Wrote}
 use Rattle.text.proofs.Laws.{wrote-front}
 use Rattle.answer_sheet.specs.declared.Recording.{Recording}
 use Rattle.answer_sheet.specs.declared.SheetAnswer.{SheetAnswer}
+use Rattle.answer_sheet.specs.Lines.{textOf}
 use Rattle.answer_sheet.specs.Sheet.{tableLines, sheetOf, sheetOk, sheetAnd, stored, sheetView, Counted}
 use Rattle.answer_sheet.proofs.Bound.{Machine, sheet-le}
 
@@ -42,8 +43,8 @@ module _ (orders symbols : List ℕ) where
   pub counted-good : (z : Sizes) → Counted z orders symbols → goodTables orders symbols ≡ true
   counted-good z e = counted-is z e .0
 
-  pub counted-lines : (second : ℕ) (z : Sizes) → Counted z orders symbols → tableLines second (z .symbols) (z .orders) ≡ tableLines second (countUsed (entries symbols)) (countLive (rows orders))
-  counted-lines second z e = ap (λ (x : Sizes). tableLines second (x .symbols) (x .orders)) (counted-is z e .1)
+  pub counted-lines : (second : ℕ) (z : Sizes) → Counted z orders symbols → textOf (tableLines second (z .symbols) (z .orders)) ≡ textOf (tableLines second (countUsed (entries symbols)) (countLive (rows orders)))
+  counted-lines second z e = ap (λ (x : Sizes). textOf (tableLines second (x .symbols) (x .orders))) (counted-is z e .1)
 
   pub uncounted-bad : (r : Refusal) → CountsAnswer.Refused r ≡ countsView orders symbols → goodTables orders symbols ≡ false
   unfolding countsView pick

@@ -2,7 +2,7 @@
 -- Assumes nothing.
 use Prim.Native.Nat.{ℕ, suc, _+_, _-_, _≤_, _<_, min}
 use mathlib.Core.Path.{_≡_, refl, sym, ap, _∙_}
-use mathlib.Core.List.{List, [], _∷_, _++_, map}
+use mathlib.Core.List.{List, [], _∷_, _++_, map, append-nil}
 use native.Mathlib.Decide.{decLe}
 use native.Mathlib.Nat.{zero-add}
 use native.Mathlib.Omega.{arith}
@@ -51,6 +51,10 @@ wrote-then {b} {b'} {b''} {t} {u} {at} {r} p q = record {
 -- the text under another name
 pub wrote-as : {b b' t u : List ℕ} {at r : ℕ} → t ≡ u → Wrote b at t b' r → Wrote b at u b' r
 wrote-as e p = rw e at p
+
+-- behind the last text nothing comes
+pub wrote-last : {b b' t : List ℕ} {at r : ℕ} → Wrote b at t b' r → Wrote b at (t ++ []) b' r
+wrote-last {b} {b'} {t} p = rw (append-nil t) p
 
 -- a byte that a call answered
 pub wrote-byte : {x y : ℕ} {b b' : List ℕ} {at r : ℕ} → x ≡ y → Wrote b at (x ∷ []) b' r → Wrote b at (y ∷ []) b' r

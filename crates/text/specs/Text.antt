@@ -51,9 +51,9 @@ shownOf x = pick (both (leb 32 x) (leb x 126)) x 46
 unfoldable pub tickerOf : List ℕ → List ℕ
 tickerOf t = map shownOf (trimOf t)
 
--- "key=value lines .., each ended by one line feed", where the value is a number; the key is given with its equals sign
-unfoldable pub lineOf : List ℕ → ℕ → List ℕ
-lineOf key n = key ++ (decimalOf n ++ (10 ∷ []))
+-- "key=value lines .., each ended by one line feed"; the key is given with its equals sign
+unfoldable pub lineOf : List ℕ → List ℕ → List ℕ
+lineOf key value = key ++ (value ++ (10 ∷ []))
 
 -- "up to ten levels a side, .. symbols in table order": f 0, then f 1, up to f (n - 1)
 unfoldable pub each : (ℕ → List ℕ) → ℕ → List ℕ

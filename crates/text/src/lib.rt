@@ -134,7 +134,7 @@ pub fn ticker(buf: &mut [u8], at: usize, t: [u8; 11]) -> usize
 
 // The key with its equals sign, a number, a line feed.
 pub fn line(buf: &mut [u8], at: usize, key: &[u8], n: u64) -> usize
-    ensures { λ r. ⌜ Wrote (now (buf .entry)) at (lineOf (now (key .entry)) n) (now (buf .exit)) r ⌝ }
+    ensures { λ r. ⌜ Wrote (now (buf .entry)) at (lineOf (now (key .entry)) (decimalOf n)) (now (buf .exit)) r ⌝ }
 {
     let o = bytes(buf, at, key);
     let p = decimal(buf, o, n);
