@@ -1,6 +1,6 @@
 -- The book rules, message by message: from what the searches found to what is to be done (document 01: "Each rule is tried in the order given, and
 -- the first broken one counts"). A rule's number is the paper's. Nothing here looks into a table, so whoever searches, the plan is the same.
-use Prim.Native.Nat.{ℕ, _+_, _*_, _%_}
+use Prim.Native.Nat.{ℕ, _%_}
 use mathlib.Core.List.{List}
 use mathlib.Core.Bool.{Bool}
 use lib.Dec.{eqb, ltb}
@@ -16,6 +16,7 @@ use Rattle.fields.specs.declared.SymbolClear.{SymbolClear}
 use Rattle.rows.specs.declared.Row.{Row}
 use Rattle.rows.specs.declared.Held.{Held}
 use Rattle.rows.specs.declared.Held.the-variants.{Live, Nowhere}
+use Rattle.rows.specs.Keys.{keyFor}
 use Rattle.rows.specs.Rows.{zeroRow, symbolOf}
 use Rattle.symbols.specs.declared.EntryWork.{EntryWork}
 use Rattle.symbols.specs.Entries.{idOf}
@@ -66,7 +67,7 @@ moves flags = eqb (flags % 2) 1
 
 -- "order ID, symbol ID times 2 plus side (buy 0, sell 1), price, size, rank", "rank = sequence number"
 unfoldable pub rowFor : AddOrder → ℕ → Row
-rowFor m n = record { order = m .order; key = m .symbol * 2 + sideOf (m .side); price = m .price; size = m .size; rank = n }
+rowFor m n = record { order = m .order; key = keyFor (m .symbol) (sideOf (m .side)); price = m .price; size = m .size; rank = n }
 
 -- ---- the messages
 -- "Symbol Update replaces that symbol's entry, or takes the lowest free one. None free: 26."

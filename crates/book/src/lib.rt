@@ -50,7 +50,7 @@ pub struct Applied {
     pub clock: Clock,
 }
 
-fn side_of(x: u8) -> u64
+fn side_of(x: u8) -> u8
     ensures { λ r. ⌜ r ≡ sideOf x ⌝ }
 {
     if x == b'B' { 0 } else { 1 }
@@ -66,10 +66,10 @@ fn loses_place(flags: u8) -> bool
 pub fn row_for(m: AddOrder, number: u64) -> Row
     ensures { λ r. ⌜ r ≡ rowFor m number ⌝ }
 {
-    let side = side_of(m.side);
+    let key = rows::key_for(m.symbol, side_of(m.side));
     Row {
         order: m.order,
-        key: (m.symbol as u64) * 2 + side,
+        key,
         price: m.price,
         size: m.size as u64,
         rank: number,
@@ -111,7 +111,7 @@ fn target_of(order: Held, symbol: u32) -> Target
     let Held::Live(i, r) = order else {
         return Target::Rule(22);
     };
-    if r.key / 2 != symbol as u64 {
+    if rows::symbol_in(r.key) != symbol as u64 {
         return Target::Rule(23);
     }
     Target::Order(i, r)

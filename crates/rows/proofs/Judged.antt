@@ -160,6 +160,10 @@ pub is-this : (id : ℕ) (r : Row) → r .order ≡ id → live r ≡ true → i
 unfolding isOrder
 is-this id r e l = sym (same-number (r .order) id (live r) e) ∙ l
 
+pub of-key : (k : ℕ) (r : Row) → r .key ≡ k → live r ≡ true → ofKey k r ≡ true
+unfolding ofKey
+of-key k r e l = sym (same-number (r .key) k (live r) e) ∙ l
+
 pub other-symbol : (s : ℕ) (r : Row) → (symbolOf r ≡ s → ⊥) → ofSymbol s r ≡ false
 unfolding ofSymbol
 other-symbol s r n = sym (other-number (symbolOf r) s (live r) n)

@@ -1,2 +1,4 @@
+pub mod Keys
 pub mod Rows
 pub mod Find
+pub mod Shares
