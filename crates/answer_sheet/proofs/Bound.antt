@@ -33,7 +33,7 @@ use Rattle.views.specs.declared.SpreadAnswer.{SpreadAnswer}
 use Rattle.views.proofs.Laws.{shares-fit, orders-fit}
 use Rattle.views.proofs.Levels.{prices-low}
 use Rattle.views.proofs.Theorems.{spread-sides}
-use Rattle.receiver.specs.Lent.{nextOk}
+use Rattle.receiver.specs.Receiver.{nextOk}
 use Rattle.receiver.specs.declared.State.{State}
 use Rattle.receiver.proofs.Accounts.{next-most}
 use Rattle.text.specs.Text.{decimalOf, tickerOf, lineOf}
@@ -200,7 +200,7 @@ entry-few t e g h =
 -- what a state of machine numbers and a table of bytes say of themselves
 pub record Machine (bad : ℕ) (s : State) (symbols : List ℕ) : Type 0 where
   pub bad-fits : bad < 2 ^ 64
-  pub second-fits : s .second < 2 ^ 32
+  pub second-fits : s .clock .second < 2 ^ 32
   pub stop-fits : s .stop < 2 ^ 8
   pub bytes : Bytes symbols
 
@@ -267,7 +267,7 @@ pub sheet-le : (word : Recording) (bad : ℕ) (s : State) (orders symbols : List
 unfolding sheetOf linesOf sheetOk
 sheet-le word bad s orders symbols ok m =
     let w = both-true {a = goodTables orders symbols} {b = nextOk (s .next)} ok in
-    let counts = tableLines (s .second) (countUsed (entries symbols)) (countLive (rows orders)) in
+    let counts = tableLines (s .clock .second) (countUsed (entries symbols)) (countLive (rows orders)) in
     let all = few-append (headLines word bad s) (counts ++ allEntries orders symbols) (head-few word bad s (m .bad-fits) (w .1) (m .stop-fits))
-    (few-append counts (allEntries orders symbols) (table-few orders symbols (w .0) (s .second) (m .second-fits)) (entries-few orders symbols (w .0) (m .bytes))) in
+    (few-append counts (allEntries orders symbols) (table-few orders symbols (w .0) (s .clock .second) (m .second-fits)) (entries-few orders symbols (w .0) (m .bytes))) in
     omega (arith, all .count, lines-le (headLines word bad s ++ (counts ++ allEntries orders symbols)) (all .short))

@@ -16,7 +16,7 @@ use Rattle.symbols.specs.Find.{countUsed}
 use Rattle.views.specs.Views.{goodTables, countsView}
 use Rattle.views.specs.declared.Sizes.{Sizes}
 use Rattle.views.specs.declared.CountsAnswer.{CountsAnswer}
-use Rattle.receiver.specs.Lent.{nextOk}
+use Rattle.receiver.specs.Receiver.{nextOk}
 use Rattle.receiver.specs.declared.State.{State}
 use Rattle.text.specs.Text.{Wrote}
 use Rattle.text.proofs.Laws.{wrote-front}

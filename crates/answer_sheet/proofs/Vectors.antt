@@ -15,6 +15,7 @@ use Rattle.symbols.specs.Find.{countUsed}
 use Rattle.views.specs.Ladder.{keyOf, far, atPrice, placesOf, prices, levelOf, ladder}
 use Rattle.views.specs.Spread.{between, spreadOf}
 use Rattle.views.specs.declared.Side.{Side}
+use Rattle.book.specs.Plan.{clock}
 use Rattle.receiver.specs.declared.State.{State}
 use Rattle.text.specs.Text.{digitsOf, decimalOf, signedOf, trimCons, trimOf, shownOf, tickerOf, lineOf}
 use Rattle.answer_sheet.specs.declared.Recording.{Recording}
@@ -24,7 +25,7 @@ use Rattle.answer_sheet.specs.Sheet.{recordingWord, headLines, tableLine
 
 -- What the example's messages leave; that they do is `example-leaves` of exercises. "for numbers 1 to 5: second 34200; symbol 7, ABC, lot 100"
 abbrev pub after : State
-after = record { next = 6; second = 34200; stop = 0 }
+after = record { next = 6; clock = clock 34200; stop = 0 }
 
 abbrev pub symbol7 : List ℕ
 symbol7 = 1 ∷ 0 ∷ 0 ∷ 0 ∷ 0 ∷ 7 ∷ 0 ∷ 0 ∷ 0 ∷ 65 ∷ 66 ∷ 67 ∷ 32 ∷ 32 ∷ 32 ∷ 32 ∷ 32 ∷ 32 ∷ 32 ∷ 32 ∷ 0 ∷ 78 ∷ 0 ∷ 100 ∷ 0 ∷ 0 ∷ 0 ∷ 0 ∷ 0 ∷ 0 ∷ 0 ∷ 0 ∷ 0 ∷ 0 ∷ 0 ∷ 0 ∷ 0 ∷ 0 ∷ 0 ∷ 0 ∷ 0 ∷ 72 ∷ []

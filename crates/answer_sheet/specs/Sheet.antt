@@ -22,7 +22,7 @@ use Rattle.views.specs.declared.LadderAnswer.{LadderAnswer}
 use Rattle.views.specs.declared.SpreadAnswer.{SpreadAnswer}
 use Rattle.views.specs.declared.Sizes.{Sizes}
 use Rattle.views.specs.declared.CountsAnswer.{CountsAnswer}
-use Rattle.receiver.specs.Lent.{nextOk}
+use Rattle.receiver.specs.Receiver.{nextOk}
 use Rattle.receiver.specs.declared.State.{State}
 use Rattle.text.specs.Text.{decimalOf, signedOf, tickerOf}
 use Rattle.answer_sheet.specs.declared.Recording.{Recording}
@@ -105,7 +105,7 @@ allEntries orders symbols = join (map (entryLines (rows orders)) (entries symbol
 -- "The sheet is key=value lines in a fixed order": of a receiver's state and its tables, the count of bad packets and the recording's word
 unfoldable pub linesOf : Recording → ℕ → State → List ℕ → List ℕ → List Line
 linesOf word bad s orders symbols =
-    headLines word bad s ++ (tableLines (s .second) (countUsed (entries symbols)) (countLive (rows orders)) ++ allEntries orders symbols)
+    headLines word bad s ++ (tableLines (s .clock .second) (countUsed (entries symbols)) (countLive (rows orders)) ++ allEntries orders symbols)
 
 -- those lines, "each ended by one line feed"
 unfoldable pub sheetOf : Recording → ℕ → State → List ℕ → List ℕ → List ℕ

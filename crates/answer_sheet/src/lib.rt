@@ -222,10 +222,11 @@ fn all_lines(
     sizes: Sizes,
 ) -> usize
     requires { ⌜ Counted sizes (now orders) (now symbols) ⌝ }
-    ensures { λ r. ⌜ Wrote (now (buf .entry)) 0 (sheetOf word bad state (now (orders .entry)) (now (symbols .entry))) (now (buf .exit)) r × (state .stop < 2 ^ 8) × (state .second < 2 ^ 32) ⌝ }
+    ensures { λ r. ⌜ Wrote (now (buf .entry)) 0 (sheetOf word bad state (now (orders .entry)) (now (symbols .entry))) (now (buf .exit)) r × (state .stop < 2 ^ 8) × (state .clock .second < 2 ^ 32) ⌝ }
 {
+    let clock = state.clock;
     let o = head(buf, 0, word, bad, state);
-    let p = table_lines(buf, o, state.second, sizes);
+    let p = table_lines(buf, o, clock.second, sizes);
     all_entries(buf, p, orders, symbols)
 }
 

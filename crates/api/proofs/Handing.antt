@@ -25,7 +25,7 @@ use Rattle.receiver.specs.declared.State.{State}
 use Rattle.receiver.specs.declared.Account.{Account}
 use Rattle.receiver.specs.declared.Received.{Received}
 use Rattle.receiver.specs.declared.Started.{Started}
-use Rattle.receiver.specs.Lent.{stateNumbers, Begun, begun, lent, Outcome, outcome}
+use Rattle.receiver.specs.Lent.{stateNumbers, Begun, begun, lent, Handled, handled}
 use Rattle.answer_sheet.specs.declared.SheetAnswer.{SheetAnswer}
 use Rattle.answer_sheet.specs.Sheet.{Sheet, sheetAnd}
 use Rattle.api.specs.Calls.{accountNumbers, startAnswer, receiveCall, receiveAnswer, ladderAnswer, call, bitsOf, spreadAnswer, countsAnswer, packetAnswer, recordAnswer, sheetAnswer}
@@ -55,9 +55,9 @@ pub sheet-handed : (x k : SheetAnswer) → x ≡ k → (o : List ℕ) (v : Sheet
 sheet-handed x k q o v e l = handed (λ y. sheetAnswer y l) (λ y. sheetAnd y o) x k v q e
 
 -- ---- a packet to a receiver
-module _ (x : Received) (o s h : List ℕ) (t : State) (u : Outcome) (e : outcome x (lent o s h t) ≡ u) (l a : List ℕ) where
-  pub receive-handed : (k : Received) → x ≡ k → receiveAnswer (outcome k (lent o s h t)) l a ≡ receiveAnswer u l a
-  receive-handed k q = handed (λ y. receiveAnswer y l a) (λ y. outcome y (lent o s h t)) x k u q e
+module _ (x : Received) (o s h : List ℕ) (t : State) (u : Handled) (e : handled x (lent o s h t) ≡ u) (l a : List ℕ) where
+  pub receive-handed : (k : Received) → x ≡ k → receiveAnswer (handled k (lent o s h t)) l a ≡ receiveAnswer u l a
+  receive-handed k q = handed (λ y. receiveAnswer y l a) (λ y. handled y (lent o s h t)) x k u q e
 
   -- the account is what the call that copies it told
   pub receive-accepted : (c : Account) → x ≡ Received.Accepted c → (n : List ℕ) → n ≡ accountNumbers c → receiveCall 0 (stateNumbers t) n o s h ≡ receiveAnswer u l a

@@ -11,7 +11,9 @@ use Rattle.receiver.specs.declared.State.{State}
 use Rattle.receiver.specs.declared.Account.{Account}
 use Rattle.receiver.specs.declared.Received.{Received}
 use Rattle.receiver.specs.declared.Started.{Started}
-use Rattle.receiver.specs.Lent.{stateNumbers, Begun, Outcome, startNumber, numberOf}
+use Rattle.book.specs.Plan.{clock}
+use Rattle.receiver.specs.Receiver.{receivedNumber}
+use Rattle.receiver.specs.Lent.{stateNumbers, Begun, Handled, startNumber, ordersOf, symbolsOf, shelfOf, stateOf}
 use Rattle.views.specs.declared.Side.{Side}
 use Rattle.views.specs.declared.LadderAnswer.{LadderAnswer}
 use Rattle.views.specs.declared.SpreadAnswer.{SpreadAnswer}
@@ -27,12 +29,12 @@ use Rattle.packet.specs.Record.{recordNumber}
 
 -- a receiver's state in three lent numbers (`stateNumbers` of receiver): the second is the low 32 bits of its number, the stop the low 8
 abbrev pub stateIn : List ℕ → State
-stateIn l = record { next = getD l 0 0; second = getD l 1 0 % 4294967296; stop = getD l 2 0 % 256 }
+stateIn l = record { next = getD l 0 0; clock = clock (getD l 1 0 % 4294967296); stop = getD l 2 0 % 256 }
 
 -- a packet's answer as nine numbers: records taken, old, too far, repeated, differing; next, applied, highest, stop
 abbrev pub accountNumbers : Account → List ℕ
 accountNumbers a =
-    a .tally .taken ∷ a .tally .old ∷ a .tally .far ∷ a .tally .repeated ∷ a .tally .differing
+    a .counts .taken ∷ a .counts .old ∷ a .counts .far ∷ a .counts .repeated ∷ a .counts .differing
     ∷ a .next ∷ a .applied ∷ a .highest ∷ a .stop ∷ []
 
 -- ---- a start
@@ -77,10 +79,10 @@ abbrev pub accountReceived : Received → List ℕ → List ℕ
 accountReceived (Received.Accepted a) l = accountNumbers a
 accountReceived (Received.Refused r) l = l
 
-unfoldable pub receiveAnswer : Outcome → List ℕ → List ℕ → ReceiveCall
+unfoldable pub receiveAnswer : Handled → List ℕ → List ℕ → ReceiveCall
 receiveAnswer u l a =
-    receiveCall (numberOf (u .answer)) (stateReceived (u .answer) (u .after .state) l) (accountReceived (u .answer) a)
-    (u .after .orders) (u .after .symbols) (u .after .shelf)
+    receiveCall (receivedNumber (u .answer)) (stateReceived (u .answer) (stateOf (u .after)) l) (accountReceived (u .answer) a)
+    (ordersOf (u .after)) (symbolsOf (u .after)) (shelfOf (u .after))
 
 -- ---- views
 abbrev pub sideAsked : Bool → Side

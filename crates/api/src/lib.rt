@@ -11,6 +11,7 @@ ghost use Rattle.api.specs.Calls.{stateIn, accountNumbers, sideAsked, st
 ghost use Rattle.api.specs.Messages.{symbolFields, stateFields, statusFields, clearFields, addFields, modifyFields, deleteFields, executionFields, tradeFields, cancelFields, typed, bodyAnswer};
 use answer_sheet::Recording;
 use answer_sheet::SheetAnswer;
+use book::Clock;
 use fields::AddOrder;
 use fields::Body;
 use fields::DeleteOrder;
@@ -46,7 +47,8 @@ pub extern "C" fn rimeheath_start(
     match receiver::start(orders, symbols, shelf) {
         Started::Refused(r) => r.number,
         Started::Ready(s) => {
-            *state = [s.next, s.second as u64, s.stop as u64];
+            let clock = s.clock;
+            *state = [s.next, clock.second as u64, s.stop as u64];
             0
         }
     }
@@ -58,7 +60,9 @@ fn state_in(l: &[u64; 3]) -> State
 {
     State {
         next: l[0],
-        second: (l[1] % 4294967296) as u32,
+        clock: Clock {
+            second: (l[1] % 4294967296) as u32,
+        },
         stop: (l[2] % 256) as u8,
     }
 }
@@ -67,13 +71,13 @@ fn state_in(l: &[u64; 3]) -> State
 fn account_numbers(a: Account) -> [u64; 9]
     ensures { λ r. ⌜ r ≡ accountNumbers a ⌝ }
 {
-    let t = a.tally;
+    let t = a.counts;
     [
-        t.taken as u64,
-        t.old as u64,
-        t.far as u64,
-        t.repeated as u64,
-        t.differing as u64,
+        t.taken,
+        t.old,
+        t.far,
+        t.repeated,
+        t.differing,
         a.next,
         a.applied,
         a.highest,
@@ -99,7 +103,8 @@ pub extern "C" fn rimeheath_receive(
     match answer {
         Received::Refused(e) => e.number,
         Received::Accepted(a) => {
-            *state = [s.next, s.second as u64, s.stop as u64];
+            let clock = s.clock;
+            *state = [s.next, clock.second as u64, s.stop as u64];
             *account = account_numbers(a);
             0
         }

@@ -1,8 +1,8 @@
 -- Demand 3's first half, step by step: the book is what the list makes, and a slot holds nothing or the true copy of a number in the window. Shelving a
 -- true copy keeps that, and applying the message of next moves it one message on.
 -- Assumes nothing.
-use Prim.Native.Nat.{ℕ, suc, _+_, _-_, _%_, _≤_, _<_}
-use mathlib.Core.Path.{_≡_, refl, sym, ap, _∙_}
+use Prim.Native.Nat.{ℕ, zero, suc, _+_, _-_, _%_, _≤_, _<_}
+use mathlib.Core.Path.{_≡_, refl, sym, ap, subst, _∙_}
 use mathlib.Core.Logic.{_≢_}
 use mathlib.Core.Bool.{true, false≢true}
 use mathlib.Core.List.{List, [], _∷_}
@@ -10,7 +10,7 @@ use lib.ListN.{length}
 use native.Mathlib.Omega.{arith}
 use Rattle.wire.specs.Records.{Rec}
 use Rattle.arbitration.specs.Slots.{Slot, emptySlot, slotFor, slotBody, sameSlot, Fits}
-use Rattle.arbitration.specs.Engine.{ok, Engine, Store, Laws}
+use Rattle.arbitration.specs.Engine.{Applied, ok, broke, Engine, Store, Laws}
 use Rattle.arbitration.specs.Receive.{taken, differing, State, slotOf, turned, drain, shelved, judged, after, run}
 use Rattle.arbitration.specs.Lists.{Every, msg, WellFormed, Copies, Numbered, Copy, made, Started}
 use Rattle.arbitration.proofs.Window.{same-slot, slot-lt}
@@ -30,6 +30,32 @@ pub data Shelved (ms : List (List ℕ)) (next i : ℕ) (s : Slot) : Type 0 where
 pub made-suc : (E : Engine) (ms : List (List ℕ)) (s : ℕ) (b : E .Book) (k : ℕ) (x : E .Book) → made E ms s b k ≡ ok x → made E ms s b (suc k) ≡ E .apply (s + suc k) (msg ms (s + suc k)) x
 unfolding made
 made-suc E ms s b k x e = rw e
+
+broke≢ok : {B : Type 0} {q : ℕ} {b : B} → _≡_ {A = Applied B} (broke q) (ok b) → ⊥
+broke≢ok e = let z : _≡_ {A = ℕ} 0 1 = cc in omega arith
+
+pub ok-inj : {B : Type 0} {a b : B} → ok a ≡ ok b → a ≡ b
+ok-inj e = cc
+
+-- the book that one message more was applied to
+pub made-before : (E : Engine) (ms : List (List ℕ)) (s : ℕ) (b : E .Book) (k : ℕ) (x : E .Book) → made E ms s b (suc k) ≡ ok x
+    → (y : E .Book) × (made E ms s b k ≡ ok y) × (E .apply (s + suc k) (msg ms (s + suc k)) y ≡ ok x)
+unfolding made
+made-before E ms s b k x e = go (made E ms s b k) refl
+  where
+    go : (t : Applied (E .Book)) → made E ms s b k ≡ t → (y : E .Book) × (made E ms s b k ≡ ok y) × (E .apply (s + suc k) (msg ms (s + suc k)) y ≡ ok x)
+    go (broke q) m = absurd (broke≢ok (rw (m, made) at e))
+    go (ok y) m = (y, m, sym (made-suc E ms s b k y m) ∙ e)
+
+-- what each message of a list keeps as it applies, the list keeps
+pub made-keeps : (E : Engine) (ms : List (List ℕ)) (s : ℕ) (b : E .Book) (P : ℕ → E .Book → Type 0) → P 0 b
+    → ((k : ℕ) (x y : E .Book) → s + suc k ≤ length ms → P k x → E .apply (s + suc k) (msg ms (s + suc k)) x ≡ ok y → P (suc k) y)
+    → (k : ℕ) (x : E .Book) → s + k ≤ length ms → made E ms s b k ≡ ok x → P k x
+unfolding made
+made-keeps E ms s b P base step zero x l e = subst (P 0) (ok-inj e) base
+made-keeps E ms s b P base step (suc k) x l e =
+    let w = made-before E ms s b k x e in
+    step k (w .0) x l (made-keeps E ms s b P base step k (w .0) (omega arith) (w .1)) (w .2)
 
 module _ (S : Store) (E : Engine) (ms : List (List ℕ)) (s0 : ℕ) (b0 : E .Book) where
   -- k messages after the base s0 are applied

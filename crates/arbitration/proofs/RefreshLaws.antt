@@ -21,7 +21,7 @@ use Rattle.arbitration.specs.Lists.{msg, WellFormed, made, Made, Named}
 use Rattle.arbitration.specs.Refresh.{cleared, refreshed, Event, afterE, runE, Base, based, Fair, end, copy, fresh, AnsweredE, here, by-refresh, later, Ideal, ideal}
 use Rattle.arbitration.proofs.Window.{slot-lt}
 use Rattle.arbitration.proofs.SlotLaws.{empty-fits, put-at}
-use Rattle.arbitration.proofs.Invariant.{Shelved, free, held, Follows, copy-fits, made-suc, drain-inv}
+use Rattle.arbitration.proofs.Invariant.{Shelved, free, held, Follows, copy-fits, made-before, made-keeps, drain-inv}
 use Rattle.arbitration.proofs.Settled.{Held, Kept, drained, drain-kept, after-kept, here-kept}
 use Rattle.arbitration.proofs.Carried.{Carried}
 use Rattle.arbitration.proofs.Halves.{Ready, follows-made, after-ready, reached}
@@ -169,41 +169,23 @@ module _ (S : Store) (E : Engine) (L : Laws S E) where
         from p (inr x) = answeredE-kept (runE S E es r0 .next) a es r0 p f y x
 
 -- ---- without rank or place
-broke≢ok : {B : Type 0} {q : ℕ} {b : B} → _≡_ {A = Applied B} (broke q) (ok b) → ⊥
-broke≢ok e = let z : _≡_ {A = ℕ} 0 1 = cc in omega arith
-
-ok-inj : {B : Type 0} {a b : B} → ok a ≡ ok b → a ≡ b
-ok-inj e = cc
-
 -- lists of good messages that are made of bytes
 module _ (E : Engine) (I : Ideal E) (ms : List (List ℕ)) (wf : WellFormed (E .good) ms) (bytes : (n : ℕ) → Bytes (msg ms n)) where
   ideal-suc : (a : I .View) (n : ℕ) (z : I .View) → ideal E I ms a n ≡ ok z → ideal E I ms a (suc n) ≡ I .step (suc n) (msg ms (suc n)) z
   unfolding ideal
   ideal-suc a n z e = rw (e, ideal)
 
-  -- the book that one message more was applied to
-  made-before : (s : ℕ) (b : E .Book) (k : ℕ) (x : E .Book) → made E ms s b (suc k) ≡ ok x
-      → (y : E .Book) × (made E ms s b k ≡ ok y) × (E .apply (s + suc k) (msg ms (s + suc k)) y ≡ ok x)
-  unfolding made
-  made-before s b k x e = go (made E ms s b k) refl
-    where
-      go : (t : Applied (E .Book)) → made E ms s b k ≡ t → (y : E .Book) × (made E ms s b k ≡ ok y) × (E .apply (s + suc k) (msg ms (s + suc k)) y ≡ ok x)
-      go (broke q) m = absurd (broke≢ok (rw (m, made) at e))
-      go (ok y) m = (y, m, sym (made-suc E ms s b k y m) ∙ e)
-
   made-sound : (s : ℕ) (b : E .Book) (k : ℕ) (x : E .Book) → s + k ≤ length ms → I .Sound b → made E ms s b k ≡ ok x → I .Sound x
-  unfolding made
-  made-sound s b zero x l o e = subst (I .Sound) (ok-inj e) o
-  made-sound s b (suc k) x l o e =
-      let w = made-before s b k x e in
-      I .keeps (s + suc k) (msg ms (s + suc k)) (w .0) x (omega arith) (bytes (s + suc k)) (wf (s + suc k - 1) (omega arith)) (made-sound s b k (w .0) (omega arith) o (w .1)) (w .2)
+  made-sound s b k x l o e =
+      made-keeps E ms s b (λ _. I .Sound) o
+      (λ j y z h v. I .keeps (s + suc j) (msg ms (s + suc j)) y z (omega arith) (bytes (s + suc j)) (wf (s + suc j - 1) (omega arith)) v) k x l e
 
   -- if the refresh is the list's state at s (as a view), then what the receiver made after it is the list's state too
   pub made-ideal : (a : I .View) (s : ℕ) (b : E .Book) (k : ℕ) (x : E .Book) → s + k ≤ length ms → I .Sound b → ideal E I ms a s ≡ ok (I .view b) → made E ms s b k ≡ ok x → ideal E I ms a (s + k) ≡ ok (I .view x)
   unfolding made ideal
   made-ideal a s b zero x l o p e = rw add-zero (cc)
   made-ideal a s b (suc k) x l o p e =
-      let w = made-before s b k x e in
+      let w = made-before E ms s b k x e in
       ap (ideal E I ms a) (add-suc s k) ∙ ideal-suc a (s + k) (I .view (w .0)) (made-ideal a s b k (w .0) (omega arith) o p (w .1))
       ∙ subst (λ (n : ℕ). I .step n (msg ms n) (I .view (w .0)) ≡ ok (I .view x)) (add-suc s k) (I .law (s + suc k) (msg ms (s + suc k)) (w .0) x (omega arith) (bytes (s + suc k)) (wf (s + suc k - 1) (omega arith)) (made-sound s b k (w .0) (omega arith) o (w .1)) (w .2))
 

@@ -26,7 +26,7 @@ use Rattle.book.specs.Book as book
 use Rattle.arbitration.specs.Slots as slots
 use Rattle.arbitration.specs.Receive as theory
 use Rattle.shelf.specs.Shelf as shelf
-use Rattle.receiver.specs.Rules as engine
+use Rattle.receiver.specs.Receiver as generic
 use Rattle.receiver.specs.Lent as receiver
 use Rattle.answer_sheet.specs.declared.Recording.{Recording}
 use Rattle.answer_sheet.specs.Sheet.{sheetOf}
@@ -61,10 +61,9 @@ unfolding exercises.begins exercises.goesOn
     slots.sameBytes slots.sameSlot
     theory.judge theory.goodSlot theory.highest theory.count theory.countsOf theory.try theory.stop theory.drain theory.after theory.run theory.said theory.told
     shelf.goodShelf shelf.slotOf shelf.bytesOf shelf.slotAt shelf.putSlot
-    engine.appliedTo
-    receiver.received receiver.framed receiver.sizesOk receiver.nextOk
+    generic.receives generic.handledBy generic.fit generic.nextOk receiver.sizesOk
 example-leaves = refl
 
 -- "Whole example, for numbers 1 to 5": its sheet is the thirteen lines
-pub example-sheet : sheetOf Recording.Whole 0 (afterExample .state) (afterExample .orders) (afterExample .symbols) ≡ thirteen
-example-sheet = ap (λ (k : receiver.Lent). sheetOf Recording.Whole 0 (k .state) (k .orders) (k .symbols)) example-leaves ∙ example-is
+pub example-sheet : sheetOf Recording.Whole 0 (receiver.stateOf afterExample) (receiver.ordersOf afterExample) (receiver.symbolsOf afterExample) ≡ thirteen
+example-sheet = ap (λ (k : receiver.Lent). sheetOf Recording.Whole 0 (receiver.stateOf k) (receiver.ordersOf k) (receiver.symbolsOf k)) example-leaves ∙ example-is

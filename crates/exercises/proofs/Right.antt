@@ -30,7 +30,7 @@ use Rattle.views.specs.Views as views
 use Rattle.arbitration.specs.Slots as slots
 use Rattle.arbitration.specs.Receive as theory
 use Rattle.shelf.specs.Shelf as shelf
-use Rattle.receiver.specs.Rules as engine
+use Rattle.receiver.specs.Receiver as generic
 use Rattle.receiver.specs.Lent as receiver
 use Rattle.exercises.specs.Messages as messages
 use Rattle.exercises.specs.Exercises as exercises
@@ -44,7 +44,7 @@ all-there = refl
 -- the one test, of the whole table
 pub all-right : exercises.tableAnswers table ≡ exercises.tableResults table
 unfolding table
-    exercises.begins exercises.goesOn exercises.ofAccount exercises.differ exercises.changes exercises.rankIn exercises.rankOf exercises.aheadIn exercises.aheadOf
+    exercises.begins exercises.goesOn exercises.ofAccount exercises.differ exercises.changes exercises.rankIn exercises.rankOf exercises.together exercises.aheadIn exercises.aheadOf
     exercises.signed exercises.ofSpread exercises.answerTo exercises.answers exercises.known exercises.tableAnswers exercises.tableResults
     messages.numbered messages.systemTime messages.symbolUpdate messages.addOrder messages.modifyOrder messages.execution messages.example messages.ofExample messages.wholeExample
     pick both either first cut pieces join putPiece sumBy onlyIf countBy le toLe field padded
@@ -70,6 +70,5 @@ unfolding table
     slots.sameBytes slots.sameSlot
     theory.judge theory.goodSlot theory.highest theory.count theory.countsOf theory.try theory.stop theory.drain theory.after theory.run theory.said theory.told
     shelf.goodShelf shelf.slotOf shelf.bytesOf shelf.slotAt shelf.putSlot
-    engine.appliedTo
-    receiver.received receiver.framed receiver.sizesOk receiver.nextOk
+    generic.receives generic.handledBy generic.fit generic.nextOk receiver.sizesOk
 all-right = refl

@@ -2,11 +2,12 @@
 -- other crates answer is worked out beside it.
 use Prim.Native.Nat.{ℕ, suc, _+_, _*_}
 use mathlib.Core.List.{List, [], _∷_}
-use lib.Dec.{ltb}
+use mathlib.Core.Bool.{Bool}
+use lib.Dec.{ltb, eqb}
 use lib.IntN.{ℤ, pos, negsuc}
 use lib.ListN.{getD}
 use Rattle.facts.specs.Limits.{shelfSize}
-use Rattle.facts.specs.Pick.{pick}
+use Rattle.facts.specs.Pick.{pick, both}
 use Rattle.facts.specs.declared.Found.{Found}
 use Rattle.wire.specs.Le.{field}
 use Rattle.fields.specs.Fields.{refusal}
@@ -19,7 +20,8 @@ use Rattle.views.specs.Views.{spreadView}
 use Rattle.arbitration.specs.Slots.{sameBytes}
 use Rattle.receiver.specs.declared.Account.{Account}
 use Rattle.receiver.specs.declared.Received.{Received}
-use Rattle.receiver.specs.Lent.{stateNumbers, Lent, Outcome, outcome, fresh, received, numberOf}
+use Rattle.receiver.specs.Receiver.{receivedNumber}
+use Rattle.receiver.specs.Lent.{stateNumbers, Lent, ordersOf, symbolsOf, shelfOf, stateOf, Handled, handled, fresh, received}
 
 -- ---- the words of an exercise
 -- what can be asked after a packet
@@ -32,7 +34,7 @@ pub data Ask : Type 0 where
   changed : Ask
   -- the rank of an order that is live then
   rank : ℕ → Ask
-  -- which of two orders that are live then is ahead of the other
+  -- which of two orders that are live then, of one symbol and side and at one price, is ahead of the other
   ahead : ℕ → ℕ → Ask
   -- the spread of a symbol
   spread : ℕ → Ask
@@ -77,16 +79,16 @@ exercise n ss = record { P = n; steps = ss }
 -- a receiver before the last packet, and what the packet did
 pub record Now : Type 0 where
   pub was : Lent
-  pub last : Outcome
+  pub last : Handled
 
-abbrev pub now : Lent → Outcome → Now
+abbrev pub now : Lent → Handled → Now
 now k x = record { was = k; last = x }
 
 -- right after a start there is no packet yet: as if one had been refused
 unfoldable pub begins : ℕ → ℕ → Now
 begins orders symbols =
     let k : Lent = fresh (5 * orders) (entrySize * symbols) shelfSize in
-    now k (outcome (Received.Refused (refusal 0)) k)
+    now k (handled (Received.Refused (refusal 0)) k)
 
 unfoldable pub goesOn : Now → List ℕ → Now
 goesOn w p = now (w .last .after) (received (w .last .after) p)
@@ -101,7 +103,7 @@ differ s t = pick (sameBytes s t) 0 1
 
 unfoldable pub changes : Lent → Lent → ℕ
 changes a b =
-    differ (a .orders) (b .orders) + differ (a .symbols) (b .symbols) + differ (a .shelf) (b .shelf) + differ (stateNumbers (a .state)) (stateNumbers (b .state))
+    differ (ordersOf a) (ordersOf b) + differ (symbolsOf a) (symbolsOf b) + differ (shelfOf a) (shelfOf b) + differ (stateNumbers (stateOf a)) (stateNumbers (stateOf b))
 
 -- the rank in the row that was found
 unfoldable pub rankIn : Found → List Row → Told
@@ -111,9 +113,14 @@ rankIn Found.Nothing rs = nothing
 unfoldable pub rankOf : ℕ → List Row → Told
 rankOf order rs = rankIn (findOrder order rs) rs
 
--- ranked "by sequence number": of two orders the one with the lower rank is ahead; nothing where one of them is not live
+-- two orders in one price queue: the same symbol, side and price
+unfoldable pub together : Row → Row → Bool
+together r s = both (eqb (r .key) (s .key)) (eqb (r .price) (s .price))
+
+-- ranked "by sequence number": of two orders in one queue the one with the lower rank is ahead; nothing where one of them is not live, or they are in two queues
 unfoldable pub aheadIn : ℕ → Found → ℕ → Found → List Row → Told
-aheadIn a (Found.At i) b (Found.At j) rs = number (pick (ltb (getD rs i zeroRow .rank) (getD rs j zeroRow .rank)) a b)
+aheadIn a (Found.At i) b (Found.At j) rs =
+    pick (together (getD rs i zeroRow) (getD rs j zeroRow)) (number (pick (ltb (getD rs i zeroRow .rank) (getD rs j zeroRow .rank)) a b)) nothing
 aheadIn a (Found.At i) b Found.Nothing rs = nothing
 aheadIn a Found.Nothing b g rs = nothing
 
@@ -131,17 +138,17 @@ ofSpread (SpreadAnswer.Refused r) = refusal-by (r .number)
 
 -- what the definitions answer
 unfoldable pub answerTo : Ask → Now → Told
-answerTo taken w = ofAccount (λ a. a .tally .taken) (w .last .answer)
-answerTo old w = ofAccount (λ a. a .tally .old) (w .last .answer)
-answerTo tooFar w = ofAccount (λ a. a .tally .far) (w .last .answer)
+answerTo taken w = ofAccount (λ a. a .counts .taken) (w .last .answer)
+answerTo old w = ofAccount (λ a. a .counts .old) (w .last .answer)
+answerTo tooFar w = ofAccount (λ a. a .counts .far) (w .last .answer)
 answerTo applied w = ofAccount (λ a. a .applied) (w .last .answer)
 answerTo next w = ofAccount (λ a. a .next) (w .last .answer)
 answerTo stop w = ofAccount (λ a. a .stop) (w .last .answer)
-answerTo refused w = number (numberOf (w .last .answer))
+answerTo refused w = number (receivedNumber (w .last .answer))
 answerTo changed w = number (changes (w .was) (w .last .after))
-answerTo (rank order) w = rankOf order (rows (w .last .after .orders))
-answerTo (ahead a b) w = aheadOf a b (rows (w .last .after .orders))
-answerTo (spread symbol) w = ofSpread (spreadView symbol (w .last .after .orders) (w .last .after .symbols))
+answerTo (rank order) w = rankOf order (rows (ordersOf (w .last .after)))
+answerTo (ahead a b) w = aheadOf a b (rows (ordersOf (w .last .after)))
+answerTo (spread symbol) w = ofSpread (spreadView symbol (ordersOf (w .last .after)) (symbolsOf (w .last .after)))
 answerTo (price bytes) w = number (field bytes 0 8)
 
 -- the answers to an exercise's questions, in their order

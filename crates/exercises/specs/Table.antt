@@ -4,7 +4,7 @@
 use mathlib.Core.List.{List, [], _∷_, _++_}
 use lib.ListN.{replicate}
 use Rattle.exercises.specs.Messages.{numbered, systemTime, symbolUpdate, addOrder, modifyOrder, bit0Set, bit0Clear, execution, buy, sell, abc, ofExample, wholeExample}
-use Rattle.exercises.specs.Exercises.{Exercise, exercise, start, gets, _is_, _isMinus_, gone, taken, old, tooFar, applied, next, stop, refused, changed, rank, ahead, spread, price}
+use Rattle.exercises.specs.Exercises.{Exercise, exercise, start, gets, _is_, _isMinus_, gone, result, nothing, taken, old, tooFar, applied, next, stop, refused, changed, rank, ahead, spread, price}
 
 unfoldable pub table : List Exercise
 table =
@@ -40,11 +40,16 @@ table =
     ∷ gets wholeExample ∷ applied is 5 ∷ rank 500 is 3 ∷ rank 502 is 5 ∷ ahead 500 502 is 500
     ∷ gets (numbered 6 (modifyOrder 7 500 10000000 80 bit0Set)) ∷ applied is 1 ∷ rank 500 is 6 ∷ ahead 500 502 is 502
     ∷ [])
-    -- "bit 0 clear: rank 3, ahead"
+    -- "bit 0 clear: rank 3, ahead", and "the rank stays, whatever changed": the order shrinks, grows, and meets the other again at another price, which it came to first
+    -- or last
     ∷ exercise 6
     (start 4 1
     ∷ gets wholeExample
     ∷ gets (numbered 6 (modifyOrder 7 500 10000000 80 bit0Clear)) ∷ applied is 1 ∷ rank 500 is 3 ∷ ahead 500 502 is 500
+    ∷ gets (numbered 7 (modifyOrder 7 500 10000000 300 bit0Clear)) ∷ applied is 1 ∷ rank 500 is 3 ∷ ahead 500 502 is 500
+    ∷ gets (numbered 8 (modifyOrder 7 500 10010000 300 bit0Clear)) ∷ applied is 1 ∷ rank 500 is 3 ∷ result (ahead 500 502) nothing
+    ∷ gets (numbered 9 (modifyOrder 7 502 10010000 50 bit0Clear)) ∷ applied is 1 ∷ rank 502 is 5 ∷ ahead 500 502 is 500
+    ∷ gets (numbered 10 (modifyOrder 7 500 10000000 100 bit0Clear)) ∷ gets (numbered 11 (modifyOrder 7 500 10010000 100 bit0Clear)) ∷ applied is 1 ∷ rank 500 is 3 ∷ ahead 500 502 is 500
     ∷ [])
     -- "execution of 100 on 500: gone; a new Add of 500 is good"
     ∷ exercise 7

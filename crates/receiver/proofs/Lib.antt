@@ -5,3 +5,4 @@ pub mod Accounts
 pub mod Fits
 pub mod Demand
 pub mod Real
+pub mod Runs

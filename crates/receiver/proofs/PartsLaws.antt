@@ -8,7 +8,7 @@ use mathlib.Core.List.{List}
 use lib.Dec.{eqb}
 use lib.ListN.{length}
 use native.Mathlib.Omega.{arith}
-use borrow.Author.Tests.{eq-eqb, ne-eqb, eqb-false}
+use borrow.Author.Tests.{eq-eqb, ne-eqb, eqb-true, eqb-false}
 use Rattle.facts.specs.Pick.{pick}
 use Rattle.facts.proofs.Picks.{pick-cases}
 use Rattle.arbitration.specs.Slots.{Slot}
@@ -48,6 +48,13 @@ module _ (R : Rules) (n : ℕ) (b : List ℕ) (k : R .Book) where
     where
       go : ((eqb (R .rule n b k) 0 ≡ true) × (_≡_ {A = Applied (R .Book)} (ok (R .after n b k)) (ok y))) ⊎ ((eqb (R .rule n b k) 0 ≡ false) × (_≡_ {A = Applied (R .Book)} (broke (R .rule n b k)) (ok y))) → y ≡ R .after n b k
       go (inl h) = cc
+      go (inr h) = let z : _≡_ {A = ℕ} 0 1 = cc in absurd (omega arith)
+
+  pub applied-rule : (y : R .Book) → engineOf R .apply n b k ≡ ok y → R .rule n b k ≡ 0
+  applied-rule y e = go (pick-cases e)
+    where
+      go : ((eqb (R .rule n b k) 0 ≡ true) × (_≡_ {A = Applied (R .Book)} (ok (R .after n b k)) (ok y))) ⊎ ((eqb (R .rule n b k) 0 ≡ false) × (_≡_ {A = Applied (R .Book)} (broke (R .rule n b k)) (ok y))) → R .rule n b k ≡ 0
+      go (inl h) = eqb-true (R .rule n b k) 0 (h .0)
       go (inr h) = let z : _≡_ {A = ℕ} 0 1 = cc in absurd (omega arith)
 
   rule-pos : (q : ℕ) → engineOf R .apply n b k ≡ broke q → 1 ≤ q

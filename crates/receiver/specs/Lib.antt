@@ -2,3 +2,4 @@ pub mod Parts
 pub mod Receiver
 pub mod Demand3
 pub mod Lent
+pub mod Order

@@ -108,12 +108,12 @@ fn give(
 }
 
 fn show_account(a: Account) {
-    let t = a.tally;
-    io::print_decimal(STDOUT_FILENO, t.taken as u64);
-    also(t.old as u64);
-    also(t.far as u64);
-    also(t.repeated as u64);
-    also(t.differing as u64);
+    let t = a.counts;
+    io::print_decimal(STDOUT_FILENO, t.taken);
+    also(t.old);
+    also(t.far);
+    also(t.repeated);
+    also(t.differing);
     also(a.next);
     also(a.applied);
     also(a.highest);
@@ -123,7 +123,8 @@ fn show_account(a: Account) {
 
 fn show_tables(orders: &[u64], symbols: &[u8], levels: &mut [u64], end: State) {
     io::write_all(STDOUT_FILENO, b"second");
-    also(end.second as u64);
+    let clock = end.clock;
+    also(clock.second as u64);
     end_line();
     show_rows(orders);
     show_entries(symbols);

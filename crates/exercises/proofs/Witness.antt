@@ -1,0 +1,125 @@
+-- A witness that demand 3 speaks of something: document 01's example, in one packet to a fresh receiver, meets every premise, and every number up to 5 is answered. All of it computes.
+-- Assumes nothing.
+use Prim.Native.Nat.{ℕ, zero, suc, _-_, _≤_, _<_}
+use mathlib.Core.Path.{_≡_, refl}
+use mathlib.Core.Logic.{_⊎_}
+use mathlib.Core.Bool.{true}
+use mathlib.Core.List.{List, [], _∷_}
+use native.Mathlib.Omega.{arith}
+use lib.ListN.{length, getD}
+use borrow.Author.Tests.{leb-true}
+use Rattle.facts.specs.Limits.{shelfSize}
+use Rattle.facts.specs.Pick.{pick, both, either}
+use Rattle.facts.specs.Search.{first}
+use Rattle.facts.specs.Pieces.{cut, pieces, join, putPiece}
+use Rattle.wire.specs.Le.{le, toLe, field, padded}
+use Rattle.kinds.specs.Table as kinds
+use Rattle.fields.specs.Fields as fields
+use Rattle.body.specs.Ranges as ranges
+use Rattle.body.specs.Faults as faults
+use Rattle.body.specs.Read as read
+use Rattle.packet.specs.Record as head
+use Rattle.packet.specs.Packet as packet
+use Rattle.rows.specs.Rows as rows
+use Rattle.rows.specs.Find as find-row
+use Rattle.symbols.specs.Entries as entries
+use Rattle.symbols.specs.Find as find-entry
+use Rattle.symbols.specs.Work as entry-work
+use Rattle.orders.specs.Work as row-work
+use Rattle.book.specs.Plan as plan
+use Rattle.book.specs.Book as book
+use Rattle.arbitration.specs.Slots as slots
+use Rattle.arbitration.specs.Receive as theory
+use Rattle.arbitration.specs.Lists.{WellFormed, Copies, here, later, by-taken}
+use Rattle.shelf.specs.Shelf as shelf
+use Rattle.receiver.specs.Receiver as generic
+use Rattle.receiver.specs.Lent as receiver
+use Rattle.receiver.specs.Demand3.{Given, AnsweredTo, Names}
+use Rattle.receiver.proofs.Real.{real-demand, fresh-started}
+use Rattle.exercises.specs.Messages as messages
+
+-- room for four orders and one symbol
+abbrev start : receiver.Lent
+start = receiver.fresh 20 42 shelfSize
+
+abbrev given : List (List ℕ)
+given = messages.wholeExample ∷ []
+
+-- the five messages are well-formed
+all-good : WellFormed read.goodBody messages.example
+unfolding messages.systemTime messages.symbolUpdate messages.addOrder messages.example
+    pick both either le toLe field padded
+    kinds.table kinds.lookup kinds.lengthOf kinds.kindOf
+    fields.decoded
+    ranges.oneOf ranges.sideOk ranges.priceOk ranges.sizeOk ranges.testOk ranges.marketOk
+    faults.faultFrom faults.faultOf
+    read.framed read.judged read.readBody read.goodBody
+all-good zero h = refl
+all-good (suc zero) h = refl
+all-good (suc (suc zero)) h = refl
+all-good (suc (suc (suc zero))) h = refl
+all-good (suc (suc (suc (suc zero)))) h = refl
+all-good (suc (suc (suc (suc (suc i))))) h = absurd (omega arith)
+
+-- the packet's accepted records are true copies
+true-copies : Copies messages.example (theory.accepted packet.framing given)
+unfolding messages.numbered messages.systemTime messages.symbolUpdate messages.addOrder messages.example messages.ofExample messages.wholeExample
+    pick both either join le toLe field padded
+    kinds.table kinds.lookup kinds.lengthOf kinds.kindOf
+    fields.decoded
+    ranges.oneOf ranges.sideOk ranges.priceOk ranges.sizeOk ranges.testOk ranges.marketOk
+    faults.faultFrom faults.faultOf
+    read.framed read.judged read.readBody read.goodBody
+    head.numberOk head.bodyOf head.bodyJudged head.readRecord
+    packet.before packet.behind packet.framesFrom packet.framing
+    theory.accepted
+true-copies = (
+  record { in-list = leb-true 1 5 refl; same = refl },
+  record { in-list = leb-true 2 5 refl; same = refl },
+  record { in-list = leb-true 3 5 refl; same = refl },
+  record { in-list = leb-true 4 5 refl; same = refl },
+  record { in-list = leb-true 5 5 refl; same = refl },
+  tt,
+)
+
+sizes-good : receiver.sizesOk 20 42 shelfSize ≡ true
+unfolding receiver.sizesOk both rows.goodRows entries.goodEntries shelf.goodShelf
+sizes-good = refl
+
+-- every premise
+pub example-given : Given receiver.real messages.example (receiver.zeroBook 20 42) start given
+example-given = record { well-formed = all-good; started = fresh-started 20 42 shelfSize sizes-good; copies = true-copies }
+
+-- every number up to 5 is answered
+pub example-answered : AnsweredTo receiver.real 5 given start
+unfolding messages.numbered messages.systemTime messages.symbolUpdate messages.addOrder messages.example messages.ofExample messages.wholeExample
+    pick both either first cut pieces join putPiece le toLe field padded
+    kinds.table kinds.lookup kinds.lengthOf kinds.kindOf
+    fields.decoded
+    ranges.oneOf ranges.sideOk ranges.priceOk ranges.sizeOk ranges.testOk ranges.marketOk
+    faults.faultFrom faults.faultOf
+    read.framed read.judged read.readBody read.goodBody
+    head.numberOk head.bodyOf head.bodyJudged head.readRecord
+    packet.before packet.behind packet.framesFrom packet.framing
+    rows.rowOf rows.numbersOf rows.rows rows.putRow rows.zeroRow rows.free rows.live
+    find-row.isOrder find-row.findOrder find-row.heldAt find-row.findFree
+    entries.entries entries.entryOf entries.putEntry entries.used entries.freeEntry
+    find-entry.isSymbol find-entry.findSymbol find-entry.findFreeEntry find-entry.knownSymbol find-entry.placeFor
+    entry-work.entered
+    row-work.remade row-work.reduced row-work.committed
+    plan.ofKnown plan.target plan.upon plan.sideOf plan.moves plan.rowFor plan.updatePlan plan.roomFor plan.addPlan plan.modifyPlan plan.executionPlan plan.planBy
+    book.planned book.carried book.applied
+    slots.sameBytes slots.sameSlot
+    theory.judge theory.goodSlot theory.try theory.drain theory.after theory.run theory.said theory.accepted
+    shelf.slotOf shelf.bytesOf shelf.slotAt shelf.putSlot
+example-answered zero l h = absurd (omega arith)
+example-answered (suc zero) l h = here refl by-taken
+example-answered (suc (suc zero)) l h = later (here refl by-taken)
+example-answered (suc (suc (suc zero))) l h = later (later (here refl by-taken))
+example-answered (suc (suc (suc (suc zero)))) l h = later (later (later (here refl by-taken)))
+example-answered (suc (suc (suc (suc (suc zero))))) l h = later (later (later (later (here refl by-taken))))
+example-answered (suc (suc (suc (suc (suc (suc n)))))) l h = absurd (omega arith)
+
+-- so demand 3 says of it what it says
+pub example-demanded : (5 ≤ receiver.receivedAll given start .rx .next - 1) ⊎ Names receiver.real messages.example (receiver.zeroBook 20 42) (receiver.receivedAll given start)
+example-demanded = real-demand messages.example 20 42 .second start given example-given 5 example-answered
