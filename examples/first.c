@@ -67,7 +67,7 @@ static int refused(const char *call, uint8_t answer) {
 
 int main(void) {
     static uint8_t sheet[1500];
-    uint64_t account[9], answer[2], written[1];
+    uint64_t account[9], answer[2], length[1];
 
     example();
     if (refused("start", rimeheath_start(orders, 4 * 5, symbols, 2 * 42, shelf, sizeof shelf, state))) return 1;
@@ -78,7 +78,8 @@ int main(void) {
     if (answer[0] == 1) printf("spread %lld millionths\n", (long long)(int64_t)answer[1]);
 
     /* No packet was bad and nothing was cut. */
-    if (refused("sheet", rimeheath_sheet(sheet, sizeof sheet, orders, 4 * 5, symbols, 2 * 42, state, 0, false, written))) return 1;
-    fwrite(sheet, 1, (size_t)written[0], stdout);
+    if (refused("sheet", rimeheath_sheet(sheet, sizeof sheet, orders, 4 * 5, symbols, 2 * 42, state, 0, false, length))) return 1;
+    if (length[0] > sizeof sheet) return 1; /* it did not fit */
+    fwrite(sheet, 1, (size_t)length[0], stdout);
     return 0;
 }

@@ -67,10 +67,11 @@ uint8_t rimeheath_record(const uint8_t *rest, size_t rest_len, uint64_t head[2])
  */
 uint8_t rimeheath_body(const uint8_t *body, size_t body_len, uint64_t fields[8]);
 
-/* Writes the answer sheet into text as far as it reaches (1,500,000 bytes always hold it whole): bad packets and whether the recording was
- * cut are the caller's; written[0] becomes how many bytes were written. */
+/* Writes the answer sheet into text as far as it reaches: bad packets and whether the recording was cut are the caller's. length[0] becomes
+ * the length of the whole sheet, written or not: where it is above text_len, the sheet did not fit and its first text_len bytes stand in text.
+ * 1,500,000 bytes always hold it whole. */
 uint8_t rimeheath_sheet(uint8_t *text, size_t text_len, const uint64_t *orders, size_t orders_len, const uint8_t *symbols,
-                        size_t symbols_len, const uint64_t state[3], uint64_t bad, bool cut, uint64_t written[1]);
+                        size_t symbols_len, const uint64_t state[3], uint64_t bad, bool cut, uint64_t length[1]);
 
 #ifdef __cplusplus
 }

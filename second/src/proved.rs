@@ -85,7 +85,7 @@ pub mod lent {
             state: *const State,
             bad: u64,
             cut: bool,
-            written: *mut [u64; 1],
+            length: *mut [u64; 1],
         ) -> u8;
     }
 
@@ -211,7 +211,7 @@ pub mod lent {
         state: &State,
         bad: u64,
         cut: bool,
-        written: &mut [u64; 1],
+        length: &mut [u64; 1],
     ) -> u8 {
         // SAFETY: each pointer comes with its own slice's length; tables and state are only read,
         // and the two `&mut` are apart from them and from each other.
@@ -226,7 +226,7 @@ pub mod lent {
                 state,
                 bad,
                 cut,
-                written,
+                length,
             )
         }
     }

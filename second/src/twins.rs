@@ -369,27 +369,35 @@ impl Twins {
         whole: bool,
         wanted: &Result<Vec<u8>, u8>,
     ) -> Result<(), Difference> {
-        let (mut text, mut written) = (vec![MARK_BYTE; length], [MARK]);
+        let (mut text, mut whole_length) = (vec![MARK_BYTE; length], [MARK]);
         let Proved {
             orders,
             symbols,
             state,
             ..
         } = &self.proved;
-        let number = lent::sheet(&mut text, orders, symbols, state, bad, !whole, &mut written);
+        let number = lent::sheet(
+            &mut text,
+            orders,
+            symbols,
+            state,
+            bad,
+            !whole,
+            &mut whole_length,
+        );
         let mut wanted_text = vec![MARK_BYTE; length];
-        let (wanted, wanted_written) = match wanted {
+        let (wanted, wanted_length) = match wanted {
             Err(number) => (*number, [MARK]),
             Ok(sheet) => {
                 let end = sheet.len().min(length);
                 wanted_text[..end].copy_from_slice(&sheet[..end]);
                 self.tally.cut_sheets += u64::from(end < sheet.len());
-                (0, [end as u64])
+                (0, [sheet.len() as u64])
             }
         };
         self.tally.sheets += 1;
         same("sheet: answer", &number, &wanted)?;
-        same("sheet: written", &written, &wanted_written)?;
+        same("sheet: length", &whole_length, &wanted_length)?;
         if text != wanted_text {
             let (text, wanted) = (shown(&text), shown(&wanted_text));
             return Err(format!("sheet: proved\n{text}second\n{wanted}"));

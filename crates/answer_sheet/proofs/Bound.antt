@@ -1,4 +1,4 @@
--- No number of a sheet has more than twenty digits, no side more than ten lines, no table more than a thousand entries.
+-- No line of a sheet has more than 60 bytes, no side more than ten lines, no symbol more than 24, and no table more than a thousand entries.
 -- Assumes nothing.
 use Prim.Native.Nat.{ℕ, zero, suc, _+_, _*_, _/_, _^_, _≤_, _<_}
 use mathlib.Core.Path.{_≡_, refl}
@@ -6,7 +6,7 @@ use mathlib.Core.Bool.{true}
 use mathlib.Core.List.{List, [], _∷_, _++_, map}
 use native.Mathlib.Nat.{suc-mul}
 use native.Mathlib.Omega.{arith}
-use lib.ListN.{length, take, drop, length-append, length-take}
+use lib.ListN.{length, take, drop, length-append, length-take, length-map}
 use lib.Seq.{getD-drop}
 use Rattle.facts.specs.Pieces.{cut, pieces, join}
 use Rattle.facts.proofs.Picks.{pick-ind, both-true}
@@ -37,12 +37,13 @@ use Rattle.receiver.specs.Lent.{nextOk}
 use Rattle.receiver.specs.declared.State.{State}
 use Rattle.receiver.proofs.Accounts.{next-most}
 use Rattle.text.specs.Text.{decimalOf, tickerOf, lineOf}
-use Rattle.text.proofs.DecimalLaws.{decimal-le}
+use Rattle.text.proofs.DecimalLaws.{decimal-length, decimal-le}
 use Rattle.text.proofs.SignedLaws.{spread-le}
 use Rattle.text.proofs.TickerLaws.{ticker-length}
 use Rattle.answer_sheet.specs.declared.Recording.{Recording}
-use Rattle.answer_sheet.specs.Keys.{recordingKey, badKey, nextKey, stopKey, secondKey, symbolsKey, ordersKey, symbolKey, tickerKey, lotKey, spreadKey, bidKey, askKey, wholeWord, cutWord, noneWord}
-use Rattle.answer_sheet.specs.Sheet.{recordingLine, headOf, tableLines, valueOf, levelLine, levelsShown, sideLines, spreadWord, spreadLine, tickerLine, symbolLines, bookLines, blockOf, entryText, blocksOf, sheetOf, sheetOk}
+use Rattle.answer_sheet.specs.Keys.{recordingKey, badKey, nextKey, stopKey, secondKey, symbolsKey, ordersKey, symbolKey, tickerKey, lotKey, spreadKey, bidKey, askKey, sideKey, wholeWord, cutWord, noneWord}
+use Rattle.answer_sheet.specs.Lines.{Line, plain, lineText, textOf}
+use Rattle.answer_sheet.specs.Sheet.{recordingWord, headLines, tableLines, markedOf, levelValue, levelLine, levelsShown, sideLines, spreadWord, symbolLines, bookLines, entryLines, allEntries, linesOf, sheetOf, sheetOk}
 
 -- ---- lists
 all-take : {A : Type 0} (P : A → Type 0) (n : ℕ) (xs : List A) → All P xs → All P (take n xs)
@@ -50,8 +51,17 @@ all-take P zero xs a = tt
 all-take P (suc n) [] a = tt
 all-take P (suc n) (x ∷ xs) a = (a .0, all-take P n xs (a .1))
 
--- where no element's text has more than m bytes, the texts back to back have at most that for each
-join-le : {A : Type 0} (f : A → List ℕ) (m : ℕ) (xs : List A) → All (λ x. length (f x) ≤ m) xs → length (join (map f xs)) ≤ length xs * m
+all-append : {A : Type 0} (P : A → Type 0) (xs ys : List A) → All P xs → All P ys → All P (xs ++ ys)
+all-append P [] ys a b = b
+all-append P (x ∷ xs) ys a b = (a .0, all-append P xs ys (a .1) b)
+
+all-join : {A : Type 0} (P : A → Type 0) (xss : List (List A)) → All (All P) xss → All P (join xss)
+unfolding join
+all-join P [] a = tt
+all-join P (xs ∷ xss) a = all-append P xs (join xss) (a .0) (all-join P xss (a .1))
+
+-- where no element gives more than m, all of them back to back give at most that for each
+join-le : {A B : Type 0} (f : A → List B) (m : ℕ) (xs : List A) → All (λ x. length (f x) ≤ m) xs → length (join (map f xs)) ≤ length xs * m
 unfolding join
 join-le f m [] a = omega arith
 join-le f m (x ∷ xs) a = omega (arith, length-append (f x) (join (map f xs)), join-le f m xs (a .1), a .0, suc-mul (length xs) m)
@@ -74,25 +84,55 @@ bytes-entries t h = go (length t / entrySize) t h
     go (suc n) t h = (bytes-take entrySize t h, go n (drop entrySize t) (bytes-drop entrySize t h))
 
 -- ---- lines
-line-le : (key : List ℕ) (n : ℕ) → n < 2 ^ 64 → length (lineOf key n) ≤ length key + 21
+-- a line of at most 60 bytes, its line feed counted
+abbrev Short : Line → Type 0
+Short l = length (lineText l) ≤ 60
+
+lines-le : (ls : List Line) → All Short ls → length (textOf ls) ≤ length ls * 60
+unfolding textOf
+lines-le ls a = join-le lineText 60 ls a
+
+line-le : (key value : List ℕ) → length (lineOf key value) ≡ length key + length value + 1
 unfolding lineOf
-line-le key n h = omega (arith, length-append key (decimalOf n ++ (10 ∷ [])), length-append (decimalOf n) (10 ∷ []), decimal-le n h)
+line-le key value = omega (arith, length-append key (value ++ (10 ∷ [])), length-append value (10 ∷ []))
 
-value-le : (n mark : ℕ) → n < 2 ^ 64 → length (valueOf n mark) ≤ 21
-unfolding valueOf
-value-le n mark h = omega (arith, length-append (decimalOf n) (mark ∷ []), decimal-le n h)
+plain-short : (key value : List ℕ) → length key ≤ 10 → length value ≤ 20 → Short (plain key value)
+unfolding lineText plain
+plain-short key value k v = omega (arith, line-le key value)
 
--- a level of numbers of 64 bits
+-- a key and a number of 64 bits
+number-short : (key : List ℕ) (n : ℕ) → length key ≤ 10 → n < 2 ^ 64 → Short (plain key (decimalOf n))
+number-short key n k h = plain-short key (decimalOf n) k (decimal-le n h)
+
+-- ---- levels
+-- a level of a table of good size
 abbrev Fits : Level → Type 0
-Fits l = (l .price < 2 ^ 64) × (l .shares < 2 ^ 64) × (l .orders < 2 ^ 64)
+Fits l = (l .price < 10 ^ 16) × (l .shares < 2 ^ 64) × (l .orders < 10 ^ 5)
 
-level-le : (key : List ℕ) (l : Level) → Fits l → length (levelLine key l) ≤ length key + 63
-unfolding levelLine
-level-le key l h =
-    let p = valueOf (l .price) 32 in
-    let s = valueOf (l .shares) 32 in
-    let o = valueOf (l .orders) 10 in
-    omega (arith, length-append key (p ++ (s ++ o)), length-append p (s ++ o), length-append s o, value-le (l .price) 32 (h .0), value-le (l .shares) 32 (h .1), value-le (l .orders) 10 (h .2))
+level-le : (l : Level) → Fits l → length (levelValue l) ≤ 43
+unfolding levelValue markedOf
+level-le l h =
+    let p = decimalOf (l .price) ++ (32 ∷ []) in
+    let s = decimalOf (l .shares) ++ (32 ∷ []) in
+    omega (
+      arith,
+      length-append p (s ++ decimalOf (l .orders)),
+      length-append s (decimalOf (l .orders)),
+      length-append (decimalOf (l .price)) (32 ∷ []),
+      length-append (decimalOf (l .shares)) (32 ∷ []),
+      decimal-length 15 (l .price) (h .0),
+      decimal-le (l .shares) (h .1),
+      decimal-length 4 (l .orders) (h .2),
+    )
+
+side-key-le : (side : Side) → length (sideKey side) ≤ 4
+unfolding sideKey bidKey askKey
+side-key-le Side.Buy = omega arith
+side-key-le Side.Sell = omega arith
+
+level-short : (side : Side) (id : ℕ) (l : Level) → Fits l → Short (levelLine side id l)
+unfolding lineText levelLine
+level-short side id l h = omega (arith, line-le (sideKey side) (levelValue l), side-key-le side, level-le l h)
 
 ladder-fits : (k : ℕ) (t : List ℕ) → goodRows (length t) ≡ true → All Fits (ladder k (rows t))
 unfolding ladder levelOf
@@ -100,59 +140,61 @@ ladder-fits k t g =
     all-map Fits (levelOf k (rows t)) (prices k (rows t))
     (all-weaken (λ p h. (omega arith, omega (arith, shares-fit k p t g), omega (arith, orders-fit k p t g))) (prices k (rows t)) (prices-low k (rows t)))
 
--- ten lines, each of a key and three numbers
-side-le : (key : List ℕ) (k : ℕ) (t : List ℕ) → goodRows (length t) ≡ true → length key ≡ 4 → length (sideLines key (ladder k (rows t))) ≤ 670
-unfolding sideLines levelsShown
-side-le key k t g e =
-    let ls = ladder k (rows t) in
-    omega (arith, length-take 10 ls, join-le (levelLine key) 67 (take 10 ls) (all-weaken (λ l h. omega (arith, level-le key l h)) (take 10 ls) (all-take Fits 10 ls (ladder-fits k t g))))
+-- what a run of lines has: few of them, and each short
+record Few (n : ℕ) (ls : List Line) : Type 0 where
+  count : length ls ≤ n
+  short : All Short ls
 
-spread-line-le : (s : ℕ) (rs : List Row) → length (spreadLine (spreadOf s rs)) ≤ 25
-unfolding spreadLine spreadWord spreadKey noneWord
-spread-line-le s rs = omega (arith, length-append spreadKey (spreadWord (spreadOf s rs) ++ (10 ∷ [])), length-append (spreadWord (spreadOf s rs)) (10 ∷ []), go (spreadOf s rs) refl)
+few-append : {m n : ℕ} (xs ys : List Line) → Few m xs → Few n ys → Few (m + n) (xs ++ ys)
+few-append xs ys a b = record { count = omega (arith, length-append xs ys, a .count, b .count); short = all-append Short xs ys (a .short) (b .short) }
+
+-- ten levels a side
+side-few : (side : Side) (id : ℕ) (t : List ℕ) → goodRows (length t) ≡ true → Few 10 (sideLines side id (rows t))
+unfolding sideLines levelsShown
+side-few side id t g =
+    let ls = ladder (keyOf side id) (rows t) in
+    record {
+      count = omega (arith, length-map (take 10 ls) (levelLine side id), length-take 10 ls);
+      short = all-map Short (levelLine side id) (take 10 ls) (all-weaken (level-short side id) (take 10 ls) (all-take Fits 10 ls (ladder-fits (keyOf side id) t g)));
+    }
+
+spread-short : (s : ℕ) (rs : List Row) → Short (plain spreadKey (spreadWord (spreadOf s rs)))
+unfolding spreadWord spreadKey noneWord
+spread-short s rs = plain-short spreadKey (spreadWord (spreadOf s rs)) (omega arith) (go (spreadOf s rs) refl)
   where
-    go : (a : SpreadAnswer) → spreadOf s rs ≡ a → length (spreadWord a) ≤ 17
-    go (SpreadAnswer.Of z) e = spread-le z (spread-sides s rs z e .size)
+    go : (a : SpreadAnswer) → spreadOf s rs ≡ a → length (spreadWord a) ≤ 20
+    go (SpreadAnswer.Of z) e = omega (arith, spread-le z (spread-sides s rs z e .size))
     go SpreadAnswer.Empty e = omega arith
     go (SpreadAnswer.Refused r) e = omega arith
 
 -- ---- a symbol
-symbol-le : (e : List ℕ) → Bytes e → length (symbolLines (symbolOf e)) ≤ 72
-unfolding symbolLines tickerLine symbolKey tickerKey lotKey
-symbol-le e h =
+symbol-few : (e : List ℕ) → Bytes e → Few 3 (symbolLines (symbolOf e))
+unfolding symbolLines symbolKey tickerKey lotKey
+symbol-few e h =
     let s = symbolOf e in
-    omega (
-      arith,
-      length-append (lineOf symbolKey (s .id)) (tickerLine (s .ticker) ++ lineOf lotKey (s .lot)),
-      length-append (tickerLine (s .ticker)) (lineOf lotKey (s .lot)),
-      length-append tickerKey (tickerOf (s .ticker) ++ (10 ∷ [])),
-      length-append (tickerOf (s .ticker)) (10 ∷ []),
-      ticker-length (s .ticker),
-      length-padded e 9 11,
-      line-le symbolKey (s .id) (omega (arith, field-below e h 5 4)),
-      line-le lotKey (s .lot) (omega (arith, field-below e h 23 2)),
-    )
+    record {
+      count = omega arith;
+      short = (
+        number-short symbolKey (s .id) (omega arith) (omega (arith, field-below e h 5 4)),
+        (
+          plain-short tickerKey (tickerOf (s .ticker)) (omega arith) (omega (arith, ticker-length (s .ticker), length-padded e 9 11)),
+          (number-short lotKey (s .lot) (omega arith) (omega (arith, field-below e h 23 2)), tt),
+        ),
+      );
+    }
 
-book-le : (id : ℕ) (t : List ℕ) → goodRows (length t) ≡ true → length (bookLines id (rows t)) ≤ 1365
-unfolding bookLines bidKey askKey
-book-le id t g =
-    let bids = sideLines bidKey (ladder (keyOf Side.Buy id) (rows t)) in
-    let asks = sideLines askKey (ladder (keyOf Side.Sell id) (rows t)) in
-    omega (
-      arith,
-      length-append (spreadLine (spreadOf id (rows t))) (bids ++ asks),
-      length-append bids asks,
-      spread-line-le id (rows t),
-      side-le bidKey (keyOf Side.Buy id) t g refl,
-      side-le askKey (keyOf Side.Sell id) t g refl,
-    )
+book-few : (id : ℕ) (t : List ℕ) → goodRows (length t) ≡ true → Few 21 (bookLines id (rows t))
+unfolding bookLines
+book-few id t g =
+    let sides = few-append (sideLines Side.Buy id (rows t)) (sideLines Side.Sell id (rows t)) (side-few Side.Buy id t g) (side-few Side.Sell id t g) in
+    record { count = omega (arith, sides .count); short = (spread-short id (rows t), sides .short) }
 
-entry-le : (t e : List ℕ) → goodRows (length t) ≡ true → Bytes e → length (entryText (rows t) e) ≤ 1437
-unfolding entryText blockOf
-entry-le t e g h =
-    pick-ind (λ x. length x ≤ 1437) (used e) (symbolLines (symbolOf e) ++ bookLines (symbolOf e .id) (rows t)) []
-    (λ _. omega (arith, length-append (symbolLines (symbolOf e)) (bookLines (symbolOf e .id) (rows t)), symbol-le e h, book-le (symbolOf e .id) t g))
-    (λ _. omega arith)
+entry-few : (t e : List ℕ) → goodRows (length t) ≡ true → Bytes e → Few 24 (entryLines (rows t) e)
+unfolding entryLines
+entry-few t e g h =
+    pick-ind (Few 24) (used e) (symbolLines (symbolOf e) ++ bookLines (symbolOf e .id) (rows t)) []
+    (λ _. few-append (symbolLines (symbolOf e)) (bookLines (symbolOf e .id) (rows t)) (symbol-few e h) (book-few (symbolOf e .id) t g))
+    (λ _. record { count = omega arith; short = tt })
 
 -- ---- the whole
 -- what a state of machine numbers and a table of bytes say of themselves
@@ -175,54 +217,57 @@ module _ (orders symbols : List ℕ) (g : goodTables orders symbols ≡ true) wh
   unfolding maxRows
   few-rows = rw length-rows (good-rows (length orders) rows-good .1)
 
-  blocks-le : Bytes symbols → length (blocksOf orders symbols) ≤ 1437000
-  unfolding blocksOf
-  blocks-le h = omega (arith, few-entries, join-le (entryText (rows orders)) 1437 (entries symbols) (all-weaken (λ e b. entry-le orders e rows-good b) (entries symbols) (bytes-entries symbols h)))
+  entries-few : Bytes symbols → Few 24000 (allEntries orders symbols)
+  unfolding allEntries
+  entries-few h =
+      let each-few : All (λ e. Few 24 (entryLines (rows orders) e)) (entries symbols) = all-weaken (λ e b. entry-few orders e rows-good b) (entries symbols) (bytes-entries symbols h) in
+      record {
+        count = omega (arith, few-entries, join-le (entryLines (rows orders)) 24 (entries symbols) (all-weaken (λ e f. f .count) (entries symbols) each-few));
+        short = all-join Short (map (entryLines (rows orders)) (entries symbols)) (all-map (All Short) (entryLines (rows orders)) (entries symbols) (all-weaken (λ e f. f .short) (entries symbols) each-few));
+      }
 
-  table-lines-le : (second : ℕ) → second < 2 ^ 32 → length (tableLines second (countUsed (entries symbols)) (countLive (rows orders))) ≤ 85
+  table-few : (second : ℕ) → second < 2 ^ 32 → Few 3 (tableLines second (countUsed (entries symbols)) (countLive (rows orders)))
   unfolding tableLines secondKey symbolsKey ordersKey countUsed countLive
-  table-lines-le second h =
-      let u = countUsed (entries symbols) in
-      let l = countLive (rows orders) in
-      omega (
-        arith,
-        length-append (lineOf secondKey second) (lineOf symbolsKey u ++ lineOf ordersKey l),
-        length-append (lineOf symbolsKey u) (lineOf ordersKey l),
-        line-le secondKey second (omega arith),
-        line-le symbolsKey u (omega (arith, count-bound used (entries symbols), few-entries)),
-        line-le ordersKey l (omega (arith, count-bound live (rows orders), few-rows)),
-      )
+  table-few second h =
+      record {
+        count = omega arith;
+        short = (
+          number-short secondKey second (omega arith) (omega arith),
+          (
+            number-short symbolsKey (countUsed (entries symbols)) (omega arith) (omega (arith, count-bound used (entries symbols), few-entries)),
+            (number-short ordersKey (countLive (rows orders)) (omega arith) (omega (arith, count-bound live (rows orders), few-rows)), tt),
+          ),
+        );
+      }
 
-recording-le : (word : Recording) → length (recordingLine word) ≤ 16
-unfolding recordingLine recordingKey wholeWord cutWord
-recording-le Recording.Whole = omega arith
-recording-le Recording.Cut = omega arith
+word-le : (word : Recording) → length (recordingWord word) ≤ 20
+unfolding recordingWord wholeWord cutWord
+word-le Recording.Whole = omega arith
+word-le Recording.Cut = omega arith
 
-head-le : (word : Recording) (bad : ℕ) (s : State) → bad < 2 ^ 64 → nextOk (s .next) ≡ true → s .stop < 2 ^ 8 → length (headOf word bad s) ≤ 93
-unfolding headOf badKey nextKey stopKey
-head-le word bad s b n p =
-    omega (
-      arith,
-      length-append (recordingLine word) (lineOf badKey bad ++ (lineOf nextKey (s .next) ++ lineOf stopKey (s .stop))),
-      length-append (lineOf badKey bad) (lineOf nextKey (s .next) ++ lineOf stopKey (s .stop)),
-      length-append (lineOf nextKey (s .next)) (lineOf stopKey (s .stop)),
-      recording-le word,
-      line-le badKey bad b,
-      line-le nextKey (s .next) (omega (arith, next-most (s .next) n)),
-      line-le stopKey (s .stop) (omega arith),
-    )
+head-few : (word : Recording) (bad : ℕ) (s : State) → bad < 2 ^ 64 → nextOk (s .next) ≡ true → s .stop < 2 ^ 8 → Few 4 (headLines word bad s)
+unfolding headLines recordingKey badKey nextKey stopKey
+head-few word bad s b n p =
+    record {
+      count = omega arith;
+      short = (
+        plain-short recordingKey (recordingWord word) (omega arith) (word-le word),
+        (
+          number-short badKey bad (omega arith) b,
+          (
+            number-short nextKey (s .next) (omega arith) (omega (arith, next-most (s .next) n)),
+            (number-short stopKey (s .stop) (omega arith) (omega arith), tt),
+          ),
+        ),
+      );
+    }
 
 -- a sheet has at most 1,500,000 bytes
 pub sheet-le : (word : Recording) (bad : ℕ) (s : State) (orders symbols : List ℕ) → sheetOk s orders symbols ≡ true → Machine bad s symbols → length (sheetOf word bad s orders symbols) ≤ 1500000
-unfolding sheetOf sheetOk
+unfolding sheetOf linesOf sheetOk
 sheet-le word bad s orders symbols ok m =
     let w = both-true {a = goodTables orders symbols} {b = nextOk (s .next)} ok in
     let counts = tableLines (s .second) (countUsed (entries symbols)) (countLive (rows orders)) in
-    omega (
-      arith,
-      length-append (headOf word bad s) (counts ++ blocksOf orders symbols),
-      length-append counts (blocksOf orders symbols),
-      head-le word bad s (m .bad-fits) (w .1) (m .stop-fits),
-      table-lines-le orders symbols (w .0) (s .second) (m .second-fits),
-      blocks-le orders symbols (w .0) (m .bytes),
-    )
+    let all = few-append (headLines word bad s) (counts ++ allEntries orders symbols) (head-few word bad s (m .bad-fits) (w .1) (m .stop-fits))
+    (few-append counts (allEntries orders symbols) (table-few orders symbols (w .0) (s .second) (m .second-fits)) (entries-few orders symbols (w .0) (m .bytes))) in
+    omega (arith, all .count, lines-le (headLines word bad s ++ (counts ++ allEntries orders symbols)) (all .short))

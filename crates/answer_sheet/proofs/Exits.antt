@@ -1,6 +1,6 @@
 -- The counts are told where both sizes are good; then the next number decides between the sheet and the refusal.
 -- Assumes nothing.
-use Prim.Native.Nat.{ℕ, min}
+use Prim.Native.Nat.{ℕ}
 use mathlib.Core.Path.{_≡_, refl, ap}
 use mathlib.Core.Bool.{Bool, true, false}
 use mathlib.Core.List.{List}
@@ -19,9 +19,12 @@ use Rattle.views.specs.declared.CountsAnswer.{CountsAnswer}
 use Rattle.receiver.specs.Lent.{nextOk}
 use Rattle.receiver.specs.declared.State.{State}
 use Rattle.text.specs.Text.{Wrote}
+use Rattle.text.proofs.Laws.{wrote-front}
 use Rattle.answer_sheet.specs.declared.Recording.{Recording}
 use Rattle.answer_sheet.specs.declared.SheetAnswer.{SheetAnswer}
+use Rattle.answer_sheet.specs.Lines.{textOf}
 use Rattle.answer_sheet.specs.Sheet.{tableLines, sheetOf, sheetOk, sheetAnd, stored, sheetView, Counted}
+use Rattle.answer_sheet.proofs.Bound.{Machine, sheet-le}
 
 -- ---- the counts
 module _ (orders symbols : List ℕ) where
@@ -40,8 +43,8 @@ module _ (orders symbols : List ℕ) where
   pub counted-good : (z : Sizes) → Counted z orders symbols → goodTables orders symbols ≡ true
   counted-good z e = counted-is z e .0
 
-  pub counted-lines : (second : ℕ) (z : Sizes) → Counted z orders symbols → tableLines second (z .symbols) (z .orders) ≡ tableLines second (countUsed (entries symbols)) (countLive (rows orders))
-  counted-lines second z e = ap (λ (x : Sizes). tableLines second (x .symbols) (x .orders)) (counted-is z e .1)
+  pub counted-lines : (second : ℕ) (z : Sizes) → Counted z orders symbols → textOf (tableLines second (z .symbols) (z .orders)) ≡ textOf (tableLines second (countUsed (entries symbols)) (countLive (rows orders)))
+  counted-lines second z e = ap (λ (x : Sizes). textOf (tableLines second (x .symbols) (x .orders))) (counted-is z e .1)
 
   pub uncounted-bad : (r : Refusal) → CountsAnswer.Refused r ≡ countsView orders symbols → goodTables orders symbols ≡ false
   unfolding countsView pick
@@ -61,9 +64,11 @@ module _ (word : Recording) (bad : ℕ) (s : State) (orders symbols b : List ℕ
   unfolding sheetView sheetOk both pick
   next-refused g n = rw (g, n)
 
-  pub sheet-stored : goodTables orders symbols ≡ true → nextOk (s .next) ≡ true → (b' : List ℕ) (r : ℕ) → Wrote b 0 (sheetOf word bad s orders symbols) b' r
-      → sheetAnd (SheetAnswer.Written r) b' ≡ sheetView word bad s orders symbols b
+  -- no sheet is so long that a machine's number does not tell it
+  pub sheet-stored : goodTables orders symbols ≡ true → nextOk (s .next) ≡ true → Machine bad s symbols → (b' : List ℕ) (r : ℕ) → Wrote b 0 (sheetOf word bad s orders symbols) b' r
+      → sheetAnd (SheetAnswer.Length r) b' ≡ sheetView word bad s orders symbols b
   unfolding sheetView sheetOk stored both pick
-  sheet-stored g n b' r w =
-      let e : r ≡ min (length (sheetOf word bad s orders symbols)) (length b) = omega (arith, w .end) in
-      rw (g, n, e, w .bytes)
+  sheet-stored g n m b' r w =
+      let ok : both (goodTables orders symbols) (nextOk (s .next)) ≡ true = rw (g, n) in
+      let e : r ≡ length (sheetOf word bad s orders symbols) = omega (arith, w .end, sheet-le word bad s orders symbols ok m) in
+      rw (g, n, e, wrote-front w)

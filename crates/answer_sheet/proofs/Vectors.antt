@@ -2,7 +2,7 @@
 -- Assumes nothing.
 use Prim.Native.Nat.{ℕ}
 use mathlib.Core.Path.{_≡_, refl}
-use mathlib.Core.List.{List, [], _∷_}
+use mathlib.Core.List.{List, [], _∷_, map}
 use Rattle.facts.specs.Pick.{pick, both}
 use Rattle.facts.specs.Pieces.{cut, pieces, join}
 use Rattle.facts.specs.Sums.{sumBy, onlyIf, countBy}
@@ -14,11 +14,13 @@ use Rattle.symbols.specs.Entries.{entrySize, entries, used}
 use Rattle.symbols.specs.Find.{countUsed}
 use Rattle.views.specs.Ladder.{keyOf, far, atPrice, placesOf, prices, levelOf, ladder}
 use Rattle.views.specs.Spread.{between, spreadOf}
+use Rattle.views.specs.declared.Side.{Side}
 use Rattle.receiver.specs.declared.State.{State}
 use Rattle.text.specs.Text.{digitsOf, decimalOf, signedOf, trimCons, trimOf, shownOf, tickerOf, lineOf}
 use Rattle.answer_sheet.specs.declared.Recording.{Recording}
-use Rattle.answer_sheet.specs.Keys.{recordingKey, badKey, nextKey, stopKey, secondKey, symbolsKey, ordersKey, symbolKey, tickerKey, lotKey, spreadKey, bidKey, askKey, wholeWord, noneWord}
-use Rattle.answer_sheet.specs.Sheet.{recordingLine, headOf, tableLines, valueOf, levelLine, levelsShown, sideLines, spreadWord, spreadLine, tickerLine, symbolLines, bookLines, blockOf, entryText, blocksOf, sheetOf}
+use Rattle.answer_sheet.specs.Keys.{recordingKey, badKey, nextKey, stopKey, secondKey, symbolsKey, ordersKey, symbolKey, tickerKey, lotKey, spreadKey, bidKey, askKey, sideKey, wholeWord, noneWord}
+use Rattle.answer_sheet.specs.Lines.{About, nothing, level, Line, plain, lineText, textOf}
+use Rattle.answer_sheet.specs.Sheet.{recordingWord, headLines, tableLines, markedOf, levelValue, levelLine, levelsShown, sideLines, spreadWord, symbolLines, bookLines, entryLines, allEntries, linesOf, sheetOf}
 
 -- What the example's messages leave; that they do is `example-leaves` of exercises. "for numbers 1 to 5: second 34200; symbol 7, ABC, lot 100"
 abbrev pub after : State
@@ -65,7 +67,7 @@ thirteen =
 
 -- the sheet of those tables
 pub example-is : sheetOf Recording.Whole 0 after three symbol7 ≡ thirteen
-unfolding sheetOf headOf tableLines blocksOf entryText blockOf symbolLines tickerLine recordingLine recordingKey wholeWord badKey nextKey stopKey secondKey symbolsKey ordersKey symbolKey tickerKey lotKey lineOf tickerOf trimOf trimCons shownOf countUsed countLive entries entrySize used field le padded bookLines spreadLine spreadWord sideLines levelsShown levelLine valueOf spreadKey bidKey askKey noneWord decimalOf digitsOf signedOf spreadOf between ladder levelOf prices placesOf far atPrice keyOf places ins sumBy onlyIf countBy ofKey live rows rowOf pieces cut join pick both
+unfolding sheetOf linesOf headLines tableLines allEntries entryLines symbolLines recordingWord recordingKey wholeWord badKey nextKey stopKey secondKey symbolsKey ordersKey symbolKey tickerKey lotKey tickerOf trimOf trimCons shownOf countUsed countLive entries entrySize used field le padded bookLines spreadWord sideLines sideKey levelsShown levelLine levelValue markedOf lineText textOf plain lineOf spreadKey bidKey askKey noneWord decimalOf digitsOf signedOf spreadOf between ladder levelOf prices placesOf far atPrice keyOf places ins sumBy onlyIf countBy ofKey live rows rowOf pieces cut join pick both
 example-is = refl
 
 -- P9: "bid 10.020000, offer 10.000000: spread -20000"
@@ -80,8 +82,8 @@ crossed =
     (97 ∷ 115 ∷ 107 ∷ 61 ∷ 49 ∷ 48 ∷ 48 ∷ 48 ∷ 48 ∷ 48 ∷ 48 ∷ 48 ∷ 32 ∷ 50 ∷ 48 ∷ 48 ∷ 32 ∷ 49 ∷ 10 ∷ []) ∷
     [])
 
-pub crossed-is : bookLines 7 (rows (500 ∷ 14 ∷ 10020000 ∷ 100 ∷ 3 ∷ 501 ∷ 15 ∷ 10000000 ∷ 200 ∷ 4 ∷ [])) ≡ crossed
-unfolding bookLines spreadLine spreadWord sideLines levelsShown levelLine valueOf spreadKey bidKey askKey noneWord decimalOf digitsOf signedOf spreadOf between ladder levelOf prices placesOf far atPrice keyOf places ins sumBy onlyIf countBy ofKey live rows rowOf pieces cut join pick both
+pub crossed-is : textOf (bookLines 7 (rows (500 ∷ 14 ∷ 10020000 ∷ 100 ∷ 3 ∷ 501 ∷ 15 ∷ 10000000 ∷ 200 ∷ 4 ∷ []))) ≡ crossed
+unfolding bookLines spreadWord sideLines sideKey levelsShown levelLine levelValue markedOf lineText textOf plain lineOf spreadKey bidKey askKey noneWord decimalOf digitsOf signedOf spreadOf between ladder levelOf prices placesOf far atPrice keyOf places ins sumBy onlyIf countBy ofKey live rows rowOf pieces cut join pick both
 crossed-is = refl
 
 -- "An empty side has no lines; an empty one makes spread=none"
@@ -94,6 +96,11 @@ bidsOnly =
     (98 ∷ 105 ∷ 100 ∷ 61 ∷ 49 ∷ 48 ∷ 48 ∷ 48 ∷ 48 ∷ 48 ∷ 48 ∷ 48 ∷ 32 ∷ 49 ∷ 48 ∷ 48 ∷ 32 ∷ 49 ∷ 10 ∷ []) ∷
     [])
 
-pub empty-is : bookLines 7 (rows (500 ∷ 14 ∷ 10000000 ∷ 100 ∷ 3 ∷ [])) ≡ bidsOnly
-unfolding bookLines spreadLine spreadWord sideLines levelsShown levelLine valueOf spreadKey bidKey askKey noneWord decimalOf digitsOf signedOf spreadOf between ladder levelOf prices placesOf far atPrice keyOf places ins sumBy onlyIf countBy ofKey live rows rowOf pieces cut join pick both
+pub empty-is : textOf (bookLines 7 (rows (500 ∷ 14 ∷ 10000000 ∷ 100 ∷ 3 ∷ []))) ≡ bidsOnly
+unfolding bookLines spreadWord sideLines sideKey levelsShown levelLine levelValue markedOf lineText textOf plain lineOf spreadKey bidKey askKey noneWord decimalOf digitsOf signedOf spreadOf between ladder levelOf prices placesOf far atPrice keyOf places ins sumBy onlyIf countBy ofKey live rows rowOf pieces cut join pick both
 empty-is = refl
+
+-- what those three lines are about: the spread is no level, and each level is known by symbol, side and price
+pub crossed-about : map (λ (l : Line). l .about) (bookLines 7 (rows (500 ∷ 14 ∷ 10020000 ∷ 100 ∷ 3 ∷ 501 ∷ 15 ∷ 10000000 ∷ 200 ∷ 4 ∷ []))) ≡ nothing ∷ level 7 Side.Buy 10020000 ∷ level 7 Side.Sell 10000000 ∷ []
+unfolding bookLines sideLines levelsShown levelLine plain ladder levelOf prices placesOf far atPrice keyOf places ins sumBy onlyIf countBy ofKey live rows rowOf pieces cut pick both
+crossed-about = refl

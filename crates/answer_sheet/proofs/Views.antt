@@ -3,7 +3,7 @@
 use Prim.Native.Nat.{ℕ, _+_, _*_, _/_, _≤_, _<_, min}
 use mathlib.Core.Path.{_≡_, refl, sym, ap, _∙_}
 use mathlib.Core.Bool.{true, false}
-use mathlib.Core.List.{List, [], map}
+use mathlib.Core.List.{List, [], _++_, map}
 use native.Mathlib.Decide.{decLe}
 use native.Mathlib.Omega.{arith}
 use lib.ListN.{length, getD, take}
@@ -23,9 +23,11 @@ use Rattle.views.specs.declared.Side.{Side}
 use Rattle.views.specs.declared.LadderAnswer.{LadderAnswer}
 use Rattle.views.proofs.Theorems.{level-stands, run-length}
 use Rattle.views.proofs.ViewLaws.{no-fault}
-use Rattle.text.specs.Text.{each}
-use Rattle.answer_sheet.specs.Sheet.{levelLine, levelsShown, sideLines, blockOf, entryText, blocksOf, levelCount, levelAt}
-use Rattle.answer_sheet.proofs.Lines.{each-is, each-all-is}
+use Rattle.text.specs.Text.{lineOf, each}
+use Rattle.answer_sheet.specs.Keys.{sideKey}
+use Rattle.answer_sheet.specs.Lines.{lineText, textOf}
+use Rattle.answer_sheet.specs.Sheet.{levelValue, levelLine, levelsShown, sideLines, symbolLines, bookLines, entryLines, allEntries, levelCount, levelAt}
+use Rattle.answer_sheet.proofs.Lines.{each-is, each-all-is, text-join, text-map}
 
 -- no view of a used entry's symbol is refused
 pub used-shown : (orders symbols : List ℕ) (i : ℕ) → goodTables orders symbols ≡ true → used (getD (entries symbols) i []) ≡ true → viewFault (idOf (getD (entries symbols) i [])) orders symbols ≡ 0
@@ -33,18 +35,19 @@ used-shown orders symbols i g u =
     let e = getD (entries symbols) i [] in
     sym (no-fault (idOf e) orders symbols g (some-known (idOf e) (entries symbols) i (is-symbol (idOf e) e u refl)))
 
--- ---- an entry's text
-pub unused-text : (rs : List Row) (e : List ℕ) → used e ≡ false → [] ≡ entryText rs e
-unfolding entryText pick
-unused-text rs e u = rw u
+-- ---- an entry's lines
+pub unused-lines : (rs : List Row) (e : List ℕ) → used e ≡ false → [] ≡ textOf (entryLines rs e)
+unfolding entryLines textOf join pick
+unused-lines rs e u = rw u
 
-pub used-text : (rs : List Row) (e : List ℕ) → used e ≡ true → blockOf rs (symbolOf e) ≡ entryText rs e
-unfolding entryText pick
-used-text rs e u = rw u
+pub used-lines : (rs : List Row) (e : List ℕ) → used e ≡ true → textOf (symbolLines (symbolOf e) ++ bookLines (symbolOf e .id) rs) ≡ textOf (entryLines rs e)
+unfolding entryLines pick
+used-lines rs e u = rw u
 
-pub blocks-are : (orders symbols : List ℕ) (n : ℕ) → n ≡ length (entries symbols) → each (λ i. entryText (rows orders) (getD (entries symbols) i [])) n ≡ blocksOf orders symbols
-unfolding blocksOf
-blocks-are orders symbols n e = rw e (each-all-is (entryText (rows orders)) (λ i. entryText (rows orders) (getD (entries symbols) i [])) (entries symbols) [] (λ i h. refl))
+pub entries-are : (orders symbols : List ℕ) (n : ℕ) → n ≡ length (entries symbols) → each (λ i. textOf (entryLines (rows orders) (getD (entries symbols) i []))) n ≡ textOf (allEntries orders symbols)
+unfolding allEntries
+entries-are orders symbols n e =
+    rw e (each-all-is (λ x. textOf (entryLines (rows orders) x)) (λ i. textOf (entryLines (rows orders) (getD (entries symbols) i []))) (entries symbols) [] (λ i h. refl) ∙ sym (text-join (entryLines (rows orders)) (entries symbols)))
 
 -- ---- a run of thirty numbers
 module _ (ls : List Level) (o : List ℕ) (l : length o ≡ 30) where
@@ -66,11 +69,16 @@ shown-take ls n = go (decLe n (length ls))
 noLevel : Level
 noLevel = record { price = 0; shares = 0; orders = 0 }
 
-pub run-lines : (key : List ℕ) (ls : List Level) (o : List ℕ) (n : ℕ) → length o ≡ 30 → n ≡ min levelsShown (length ls) → each (λ i. levelLine key (levelAt (written ls o) i)) n ≡ sideLines key ls
-unfolding sideLines levelsShown
-run-lines key ls o n l e =
-    each-is (levelLine key) (λ i. levelLine key (levelAt (written ls o) i)) ls noLevel n (omega arith) (λ i h. ap (levelLine key) (stands ls o l i noLevel (omega arith) (omega arith)))
-    ∙ ap (λ (x : List Level). join (map (levelLine key) x)) (ap (λ (k : ℕ). take k ls) e ∙ shown-take ls 10)
+-- the first levels of a run, each under the side's key
+module _ (side : Side) (id : ℕ) (key : List ℕ) (k : key ≡ sideKey side) where
+  run-lines : (ls : List Level) (o : List ℕ) (n : ℕ) → length o ≡ 30 → n ≡ min levelsShown (length ls)
+      → each (λ i. lineOf key (levelValue (levelAt (written ls o) i))) n ≡ textOf (map (levelLine side id) (take levelsShown ls))
+  unfolding levelsShown levelLine lineText
+  run-lines ls o n l e =
+      each-is (λ x. lineOf key (levelValue x)) (λ i. lineOf key (levelValue (levelAt (written ls o) i))) ls noLevel n (omega arith) (λ i h. ap (λ (x : Level). lineOf key (levelValue x)) (stands ls o l i noLevel (omega arith) (omega arith)))
+      ∙ ap (λ (x : List Level). join (map (λ y. lineOf key (levelValue y)) x)) (ap (λ (m : ℕ). take m ls) e ∙ shown-take ls 10)
+      ∙ ap (λ (q : List ℕ). join (map (λ y. lineOf q (levelValue y)) (take 10 ls))) k
+      ∙ sym (text-map (levelLine side id) (take 10 ls))
 
 -- ---- the ladder of a symbol whose views are not refused
 module _ (side : Side) (id : ℕ) (orders symbols o : List ℕ) (f : viewFault id orders symbols ≡ 0) (a : LadderAnswer) (u : List ℕ) (e : shown a u ≡ ladderView side id orders symbols o) where
@@ -78,11 +86,12 @@ module _ (side : Side) (id : ℕ) (orders symbols o : List ℕ) (f : viewFault i
   unfolding ladderView pick
   told = e ∙ rw (eq-eqb (viewFault id orders symbols) 0 f)
 
-  pub ladder-lines : (key : List ℕ) (n : ℕ) → length o ≡ 30 → n ≡ min levelsShown (levelCount a) → each (λ i. levelLine key (levelAt u i)) n ≡ sideLines key (ladder (keyOf side id) (rows orders))
-  unfolding levelCount
-  ladder-lines key n l m =
-      ap (λ (x : Shown). each (λ i. levelLine key (levelAt (x .run) i)) n) told
-      ∙ run-lines key (ladder (keyOf side id) (rows orders)) o n l (m ∙ ap (λ (x : Shown). min levelsShown (levelCount (x .answer))) told)
+  pub ladder-lines : (key : List ℕ) → key ≡ sideKey side → (n : ℕ) → length o ≡ 30 → n ≡ min levelsShown (levelCount a)
+      → each (λ i. lineOf key (levelValue (levelAt u i))) n ≡ textOf (sideLines side id (rows orders))
+  unfolding levelCount sideLines
+  ladder-lines key k n l m =
+      ap (λ (x : Shown). each (λ i. lineOf key (levelValue (levelAt (x .run) i))) n) told
+      ∙ run-lines side id key k (ladder (keyOf side id) (rows orders)) o n l (m ∙ ap (λ (x : Shown). min levelsShown (levelCount (x .answer))) told)
 
   pub ladder-fits : (n : ℕ) → length o ≡ 30 → n ≡ min levelsShown (levelCount a) → 3 * n ≤ length u
   unfolding levelsShown

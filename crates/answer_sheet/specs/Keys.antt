@@ -1,6 +1,7 @@
 -- The fixed words of a sheet, as bytes (document 01: "Fixed key strings such as spread= and bid=").
 use Prim.Native.Nat.{ℕ}
 use mathlib.Core.List.{List, [], _∷_}
+use Rattle.views.specs.declared.Side.{Side}
 
 -- "recording="
 unfoldable pub recordingKey : List ℕ
@@ -53,6 +54,11 @@ bidKey = 98 ∷ 105 ∷ 100 ∷ 61 ∷ []
 -- "ask="
 unfoldable pub askKey : List ℕ
 askKey = 97 ∷ 115 ∷ 107 ∷ 61 ∷ []
+
+-- the key of a side's levels
+unfoldable pub sideKey : Side → List ℕ
+sideKey Side.Buy = bidKey
+sideKey Side.Sell = askKey
 
 -- ---- values that are words
 

@@ -1,10 +1,9 @@
 -- The sheet (document 01: "The sheet is key=value lines in a fixed order, each ended by one line feed, up to ten levels a side, bids first, symbols in table order").
-use Prim.Native.Nat.{ℕ, _+_, _*_, min}
+use Prim.Native.Nat.{ℕ, _+_, _*_}
 use mathlib.Core.List.{List, [], _∷_, _++_, map}
 use mathlib.Core.Bool.{Bool}
 use mathlib.Core.Path.{_≡_}
-use lib.ListN.{length, getD, take}
-use lib.Seq.{sets}
+use lib.ListN.{length, getD, take, drop}
 use Rattle.facts.specs.Pick.{pick, both}
 use Rattle.facts.specs.Pieces.{join}
 use Rattle.fields.specs.Fields.{symbolOf, refusal}
@@ -25,41 +24,55 @@ use Rattle.views.specs.declared.Sizes.{Sizes}
 use Rattle.views.specs.declared.CountsAnswer.{CountsAnswer}
 use Rattle.receiver.specs.Lent.{nextOk}
 use Rattle.receiver.specs.declared.State.{State}
-use Rattle.text.specs.Text.{decimalOf, signedOf, tickerOf, lineOf}
+use Rattle.text.specs.Text.{decimalOf, signedOf, tickerOf}
 use Rattle.answer_sheet.specs.declared.Recording.{Recording}
 use Rattle.answer_sheet.specs.declared.SheetAnswer.{SheetAnswer}
-use Rattle.answer_sheet.specs.Keys.{recordingKey, badKey, nextKey, stopKey, secondKey, symbolsKey, ordersKey, symbolKey, tickerKey, lotKey, spreadKey, bidKey, askKey, wholeWord, cutWord, noneWord}
+use Rattle.answer_sheet.specs.Keys.{recordingKey, badKey, nextKey, stopKey, secondKey, symbolsKey, ordersKey, symbolKey, tickerKey, lotKey, spreadKey, sideKey, wholeWord, cutWord, noneWord}
+use Rattle.answer_sheet.specs.Lines.{level, Line, plain, textOf}
 
 -- ---- the head
 -- "a recording that ends inside a length or packet gives recording=cut"
-unfoldable pub recordingLine : Recording → List ℕ
-recordingLine Recording.Whole = recordingKey ++ (wholeWord ++ (10 ∷ []))
-recordingLine Recording.Cut = recordingKey ++ (cutWord ++ (10 ∷ []))
+unfoldable pub recordingWord : Recording → List ℕ
+recordingWord Recording.Whole = wholeWord
+recordingWord Recording.Cut = cutWord
 
 -- "recording=whole", "bad=0", "next=6", "stop=0"
-unfoldable pub headOf : Recording → ℕ → State → List ℕ
-headOf word bad s = recordingLine word ++ (lineOf badKey bad ++ (lineOf nextKey (s .next) ++ lineOf stopKey (s .stop)))
+unfoldable pub headLines : Recording → ℕ → State → List Line
+headLines word bad s =
+    plain recordingKey (recordingWord word) ∷
+    plain badKey (decimalOf bad) ∷
+    plain nextKey (decimalOf (s .next)) ∷
+    plain stopKey (decimalOf (s .stop)) ∷
+    []
 
 -- "second=34200", "symbols=1", "orders=3"
-unfoldable pub tableLines : ℕ → ℕ → ℕ → List ℕ
-tableLines second symbols orders = lineOf secondKey second ++ (lineOf symbolsKey symbols ++ lineOf ordersKey orders)
+unfoldable pub tableLines : ℕ → ℕ → ℕ → List Line
+tableLines second symbols orders =
+    plain secondKey (decimalOf second) ∷
+    plain symbolsKey (decimalOf symbols) ∷
+    plain ordersKey (decimalOf orders) ∷
+    []
 
 -- ---- a side of a symbol
 -- a number and the byte behind it
-unfoldable pub valueOf : ℕ → ℕ → List ℕ
-valueOf n mark = decimalOf n ++ (mark ∷ [])
+unfoldable pub markedOf : ℕ → ℕ → List ℕ
+markedOf n mark = decimalOf n ++ (mark ∷ [])
 
--- "bid=10000000 150 2": "price, shares, number of orders"
-unfoldable pub levelLine : List ℕ → Level → List ℕ
-levelLine key l = key ++ (valueOf (l .price) 32 ++ (valueOf (l .shares) 32 ++ valueOf (l .orders) 10))
+-- "price, shares, number of orders", as in "10000000 150 2"
+unfoldable pub levelValue : Level → List ℕ
+levelValue l = markedOf (l .price) 32 ++ (markedOf (l .shares) 32 ++ decimalOf (l .orders))
+
+-- "bid=10000000 150 2"
+unfoldable pub levelLine : Side → ℕ → Level → Line
+levelLine side id l = record { key = sideKey side; value = levelValue l; about = level id side (l .price) }
 
 -- "up to ten levels a side"
 unfoldable pub levelsShown : ℕ
 levelsShown = 10
 
 -- "An empty side has no lines"
-unfoldable pub sideLines : List ℕ → List Level → List ℕ
-sideLines key ls = join (map (levelLine key) (take levelsShown ls))
+unfoldable pub sideLines : Side → ℕ → List Row → List Line
+sideLines side id rs = map (levelLine side id) (take levelsShown (ladder (keyOf side id) rs))
 
 -- ---- a symbol
 -- "with a side empty the answer is none": "spread=none"; a spread is refused only for an unknown symbol or tables of a bad size, so never on a sheet
@@ -68,38 +81,35 @@ spreadWord (SpreadAnswer.Of z) = signedOf z
 spreadWord SpreadAnswer.Empty = noneWord
 spreadWord (SpreadAnswer.Refused r) = []
 
--- "spread=20000"
-unfoldable pub spreadLine : SpreadAnswer → List ℕ
-spreadLine a = spreadKey ++ (spreadWord a ++ (10 ∷ []))
-
--- "ticker=ABC"
-unfoldable pub tickerLine : List ℕ → List ℕ
-tickerLine t = tickerKey ++ (tickerOf t ++ (10 ∷ []))
-
 -- "symbol=7", "ticker=ABC", "lot=100"
-unfoldable pub symbolLines : Symbol → List ℕ
-symbolLines e = lineOf symbolKey (e .id) ++ (tickerLine (e .ticker) ++ lineOf lotKey (e .lot))
+unfoldable pub symbolLines : Symbol → List Line
+symbolLines e =
+    plain symbolKey (decimalOf (e .id)) ∷
+    plain tickerKey (tickerOf (e .ticker)) ∷
+    plain lotKey (decimalOf (e .lot)) ∷
+    []
 
--- the spread, then the levels, "bids first"
-unfoldable pub bookLines : ℕ → List Row → List ℕ
-bookLines id rs = spreadLine (spreadOf id rs) ++ (sideLines bidKey (ladder (keyOf Side.Buy id) rs) ++ sideLines askKey (ladder (keyOf Side.Sell id) rs))
-
-unfoldable pub blockOf : List Row → Symbol → List ℕ
-blockOf rs e = symbolLines e ++ bookLines (e .id) rs
+-- "spread=20000", then the levels, "bids first"
+unfoldable pub bookLines : ℕ → List Row → List Line
+bookLines id rs = plain spreadKey (spreadWord (spreadOf id rs)) ∷ (sideLines Side.Buy id rs ++ sideLines Side.Sell id rs)
 
 -- a free or spoiled entry has no lines: "type 1 marks an entry in use"
-unfoldable pub entryText : List Row → List ℕ → List ℕ
-entryText rs e = pick (used e) (blockOf rs (symbolOf e)) []
+unfoldable pub entryLines : List Row → List ℕ → List Line
+entryLines rs e = pick (used e) (symbolLines (symbolOf e) ++ bookLines (symbolOf e .id) rs) []
 
 -- "symbols in table order"
-unfoldable pub blocksOf : List ℕ → List ℕ → List ℕ
-blocksOf orders symbols = join (map (entryText (rows orders)) (entries symbols))
+unfoldable pub allEntries : List ℕ → List ℕ → List Line
+allEntries orders symbols = join (map (entryLines (rows orders)) (entries symbols))
 
 -- ---- the whole
 -- "The sheet is key=value lines in a fixed order": of a receiver's state and its tables, the count of bad packets and the recording's word
+unfoldable pub linesOf : Recording → ℕ → State → List ℕ → List ℕ → List Line
+linesOf word bad s orders symbols =
+    headLines word bad s ++ (tableLines (s .second) (countUsed (entries symbols)) (countLive (rows orders)) ++ allEntries orders symbols)
+
+-- those lines, "each ended by one line feed"
 unfoldable pub sheetOf : Recording → ℕ → State → List ℕ → List ℕ → List ℕ
-sheetOf word bad s orders symbols =
-    headOf word bad s ++ (tableLines (s .second) (countUsed (entries symbols)) (countLive (rows orders)) ++ blocksOf orders symbols)
+sheetOf word bad s orders symbols = textOf (linesOf word bad s orders symbols)
 
 -- no refusal 6: "a table size outside these limits or not in whole rows, or a next number outside 1 to 10^12 + 1"
 unfoldable pub sheetOk : State → List ℕ → List ℕ → Bool
@@ -113,9 +123,9 @@ pub record Sheet : Type 0 where
 abbrev pub sheetAnd : SheetAnswer → List ℕ → Sheet
 sheetAnd a b = record { answer = a; buf = b }
 
--- a text in a buffer as far as the buffer reaches, and how many bytes of it that are
+-- how long the whole text is, written or not; as much of it as the buffer reaches, and the rest of the buffer untouched
 unfoldable pub stored : List ℕ → List ℕ → Sheet
-stored t b = sheetAnd (SheetAnswer.Written (min (length t) (length b))) (sets b 0 t)
+stored t b = sheetAnd (SheetAnswer.Length (length t)) (take (length b) t ++ drop (length t) b)
 
 -- "Each refusal returns its number alone; tables, output and state keep every byte"
 unfoldable pub sheetView : Recording → ℕ → State → List ℕ → List ℕ → List ℕ → Sheet
@@ -124,7 +134,7 @@ sheetView word bad s orders symbols b =
 
 -- document 01's number of each answer, 0 where nothing is refused
 unfoldable pub sheetNumber : SheetAnswer → ℕ
-sheetNumber (SheetAnswer.Written n) = 0
+sheetNumber (SheetAnswer.Length n) = 0
 sheetNumber (SheetAnswer.Refused r) = r .number
 
 -- ---- inside the code's loops and calls

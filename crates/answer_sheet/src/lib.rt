@@ -1,15 +1,16 @@
 // The sheet of a receiver: key=value lines, written into lent memory as far as it reaches.
 ghost use mathlib.Core.Path.{_≡_};
 ghost use mathlib.Core.Bool.{true};
-ghost use Prim.Native.Nat.{_+_, _*_, _≤_, min};
+ghost use Prim.Native.Nat.{_+_, _*_, _^_, _≤_, _<_, min};
 ghost use lib.ListN.{length, getD};
 ghost use mathlib.Core.List.{[]};
 ghost use Rattle.rows.specs.Rows.{rows};
 ghost use Rattle.symbols.specs.Entries.{entries};
-ghost use Rattle.views.specs.Ladder.{keyOf, ladder};
 ghost use Rattle.views.specs.Views.{goodTables, viewFault};
-ghost use Rattle.text.specs.Text.{Wrote, each};
-ghost use Rattle.answer_sheet.specs.Sheet.{recordingLine, headOf, tableLines, valueOf, levelLine, levelsShown, levelAt, levelCount, sideLines, spreadWord, spreadLine, tickerLine, symbolLines, bookLines, entryText, blocksOf, sheetOf, sheetAnd, sheetView, Counted};
+ghost use Rattle.text.specs.Text.{Wrote, tickerOf, lineOf, each};
+ghost use Rattle.answer_sheet.specs.Keys.{recordingKey, tickerKey, spreadKey, sideKey};
+ghost use Rattle.answer_sheet.specs.Lines.{textOf};
+ghost use Rattle.answer_sheet.specs.Sheet.{recordingWord, headLines, tableLines, markedOf, levelValue, levelsShown, levelAt, levelCount, sideLines, spreadWord, symbolLines, bookLines, entryLines, allEntries, sheetOf, sheetAnd, sheetView, Counted};
 use fields::Refusal;
 use fields::Symbol;
 use receiver::State;
@@ -32,14 +33,14 @@ pub enum Recording {
     Cut,
 }
 
-// How many bytes of the sheet stand in the buffer.
+// How many bytes the whole sheet has, written or not.
 pub enum SheetAnswer {
-    Written(usize),
+    Length(usize),
     Refused(Refusal),
 }
 
 fn recording_line(buf: &mut [u8], at: usize, word: Recording) -> usize
-    ensures { λ r. ⌜ Wrote (now (buf .entry)) at (recordingLine word) (now (buf .exit)) r ⌝ }
+    ensures { λ r. ⌜ Wrote (now (buf .entry)) at (lineOf recordingKey (recordingWord word)) (now (buf .exit)) r ⌝ }
 {
     match word {
         Recording::Whole => text::bytes(buf, at, b"recording=whole\n"),
@@ -47,8 +48,9 @@ fn recording_line(buf: &mut [u8], at: usize, word: Recording) -> usize
     }
 }
 
+// The lines of the state, and that its stop is a machine's number: the length of the sheet is told by one.
 fn head(buf: &mut [u8], at: usize, word: Recording, bad: u64, state: State) -> usize
-    ensures { λ r. ⌜ Wrote (now (buf .entry)) at (headOf word bad state) (now (buf .exit)) r ⌝ }
+    ensures { λ r. ⌜ Wrote (now (buf .entry)) at (textOf (headLines word bad state)) (now (buf .exit)) r × (state .stop < 2 ^ 8) ⌝ }
 {
     let o = recording_line(buf, at, word);
     let p = text::line(buf, o, b"bad=", bad);
@@ -56,9 +58,9 @@ fn head(buf: &mut [u8], at: usize, word: Recording, bad: u64, state: State) -> u
     text::line(buf, q, b"stop=", state.stop as u64)
 }
 
-// The second, and how much the tables hold.
+// The second, and how much the tables hold; and that the second is a machine's number.
 fn table_lines(buf: &mut [u8], at: usize, second: u32, sizes: Sizes) -> usize
-    ensures { λ r. ⌜ Wrote (now (buf .entry)) at (tableLines second (sizes .symbols) (sizes .orders)) (now (buf .exit)) r ⌝ }
+    ensures { λ r. ⌜ Wrote (now (buf .entry)) at (textOf (tableLines second (sizes .symbols) (sizes .orders))) (now (buf .exit)) r × (second < 2 ^ 32) ⌝ }
 {
     let o = text::line(buf, at, b"second=", second as u64);
     let p = text::line(buf, o, b"symbols=", sizes.symbols as u64);
@@ -67,14 +69,14 @@ fn table_lines(buf: &mut [u8], at: usize, second: u32, sizes: Sizes) -> usize
 
 // A number and the byte behind it.
 fn number(buf: &mut [u8], at: usize, n: u64, mark: u8) -> usize
-    ensures { λ r. ⌜ Wrote (now (buf .entry)) at (valueOf n mark) (now (buf .exit)) r ⌝ }
+    ensures { λ r. ⌜ Wrote (now (buf .entry)) at (markedOf n mark) (now (buf .exit)) r ⌝ }
 {
     let o = text::decimal(buf, at, n);
     text::byte(buf, o, mark)
 }
 
 fn level_line(buf: &mut [u8], at: usize, key: &[u8], l: Level) -> usize
-    ensures { λ r. ⌜ Wrote (now (buf .entry)) at (levelLine (now (key .entry)) l) (now (buf .exit)) r ⌝ }
+    ensures { λ r. ⌜ Wrote (now (buf .entry)) at (lineOf (now (key .entry)) (levelValue l)) (now (buf .exit)) r ⌝ }
 {
     let o = text::bytes(buf, at, key);
     let p = number(buf, o, l.price, b' ');
@@ -98,7 +100,7 @@ fn level_in(run: &[u64], i: usize) -> Level
 // The first n levels of a run.
 fn levels(buf: &mut [u8], at: usize, key: &[u8], run: &[u64], n: usize) -> usize
     requires { ⌜ 3 * n ≤ length (now run) ⌝ }
-    ensures { λ r. ⌜ Wrote (now (buf .entry)) at (each (λ i. levelLine (now (key .entry)) (levelAt (now (run .entry)) i)) n) (now (buf .exit)) r ⌝ }
+    ensures { λ r. ⌜ Wrote (now (buf .entry)) at (each (λ i. lineOf (now (key .entry)) (levelValue (levelAt (now (run .entry)) i))) n) (now (buf .exit)) r ⌝ }
 {
     let mut i = 0;
     let mut o = at;
@@ -119,7 +121,7 @@ fn levels_shown(a: LadderAnswer) -> usize
     }
 }
 
-// The levels of a symbol and side, for a caller that knows it.
+// The levels of a symbol and side, under the side's key, for a caller that knows the symbol.
 fn side_lines(
     buf: &mut [u8],
     at: usize,
@@ -129,8 +131,8 @@ fn side_lines(
     id: u32,
     side: Side,
 ) -> usize
-    requires { ⌜ viewFault id (now orders) (now symbols) ≡ 0 ⌝ }
-    ensures { λ r. ⌜ Wrote (now (buf .entry)) at (sideLines (now (key .entry)) (ladder (keyOf side id) (rows (now (orders .entry))))) (now (buf .exit)) r ⌝ }
+    requires { ⌜ (viewFault id (now orders) (now symbols) ≡ 0) × (now key ≡ sideKey side) ⌝ }
+    ensures { λ r. ⌜ Wrote (now (buf .entry)) at (textOf (sideLines side id (rows (now (orders .entry))))) (now (buf .exit)) r ⌝ }
 {
     let mut run = [0u64; RUN_SIZE];
     let a = views::ladder(orders, symbols, id, side, &mut run);
@@ -148,7 +150,7 @@ fn spread_word(buf: &mut [u8], at: usize, a: SpreadAnswer) -> usize
 }
 
 fn spread_line(buf: &mut [u8], at: usize, a: SpreadAnswer) -> usize
-    ensures { λ r. ⌜ Wrote (now (buf .entry)) at (spreadLine a) (now (buf .exit)) r ⌝ }
+    ensures { λ r. ⌜ Wrote (now (buf .entry)) at (lineOf spreadKey (spreadWord a)) (now (buf .exit)) r ⌝ }
 {
     let o = text::bytes(buf, at, b"spread=");
     let p = spread_word(buf, o, a);
@@ -158,7 +160,7 @@ fn spread_line(buf: &mut [u8], at: usize, a: SpreadAnswer) -> usize
 // The spread and both sides of a symbol, for a caller that knows it.
 fn book_lines(buf: &mut [u8], at: usize, orders: &[u64], symbols: &[u8], id: u32) -> usize
     requires { ⌜ viewFault id (now orders) (now symbols) ≡ 0 ⌝ }
-    ensures { λ r. ⌜ Wrote (now (buf .entry)) at (bookLines id (rows (now (orders .entry)))) (now (buf .exit)) r ⌝ }
+    ensures { λ r. ⌜ Wrote (now (buf .entry)) at (textOf (bookLines id (rows (now (orders .entry))))) (now (buf .exit)) r ⌝ }
 {
     let o = spread_line(buf, at, views::spread(orders, symbols, id));
     let p = side_lines(buf, o, b"bid=", orders, symbols, id, Side::Buy);
@@ -166,7 +168,7 @@ fn book_lines(buf: &mut [u8], at: usize, orders: &[u64], symbols: &[u8], id: u32
 }
 
 fn ticker_line(buf: &mut [u8], at: usize, t: [u8; 11]) -> usize
-    ensures { λ r. ⌜ Wrote (now (buf .entry)) at (tickerLine t) (now (buf .exit)) r ⌝ }
+    ensures { λ r. ⌜ Wrote (now (buf .entry)) at (lineOf tickerKey (tickerOf t)) (now (buf .exit)) r ⌝ }
 {
     let o = text::bytes(buf, at, b"ticker=");
     let p = text::ticker(buf, o, t);
@@ -174,7 +176,7 @@ fn ticker_line(buf: &mut [u8], at: usize, t: [u8; 11]) -> usize
 }
 
 fn symbol_lines(buf: &mut [u8], at: usize, e: Symbol) -> usize
-    ensures { λ r. ⌜ Wrote (now (buf .entry)) at (symbolLines e) (now (buf .exit)) r ⌝ }
+    ensures { λ r. ⌜ Wrote (now (buf .entry)) at (textOf (symbolLines e)) (now (buf .exit)) r ⌝ }
 {
     let ticker = e.ticker;
     let o = text::line(buf, at, b"symbol=", e.id as u64);
@@ -183,9 +185,9 @@ fn symbol_lines(buf: &mut [u8], at: usize, e: Symbol) -> usize
 }
 
 // The lines of entry i; none where it is not in use.
-fn entry_text(buf: &mut [u8], at: usize, orders: &[u64], symbols: &[u8], i: usize) -> usize
+fn entry_lines(buf: &mut [u8], at: usize, orders: &[u64], symbols: &[u8], i: usize) -> usize
     requires { ⌜ goodTables (now orders) (now symbols) ≡ true ⌝ }
-    ensures { λ r. ⌜ Wrote (now (buf .entry)) at (entryText (rows (now (orders .entry))) (getD (entries (now (symbols .entry))) i [])) (now (buf .exit)) r ⌝ }
+    ensures { λ r. ⌜ Wrote (now (buf .entry)) at (textOf (entryLines (rows (now (orders .entry))) (getD (entries (now (symbols .entry))) i []))) (now (buf .exit)) r ⌝ }
 {
     if !symbols::is_used_at(symbols, i) {
         return at;
@@ -195,15 +197,15 @@ fn entry_text(buf: &mut [u8], at: usize, orders: &[u64], symbols: &[u8], i: usiz
     book_lines(buf, o, orders, symbols, e.id)
 }
 
-fn blocks(buf: &mut [u8], at: usize, orders: &[u64], symbols: &[u8]) -> usize
+fn all_entries(buf: &mut [u8], at: usize, orders: &[u64], symbols: &[u8]) -> usize
     requires { ⌜ goodTables (now orders) (now symbols) ≡ true ⌝ }
-    ensures { λ r. ⌜ Wrote (now (buf .entry)) at (blocksOf (now (orders .entry)) (now (symbols .entry))) (now (buf .exit)) r ⌝ }
+    ensures { λ r. ⌜ Wrote (now (buf .entry)) at (textOf (allEntries (now (orders .entry)) (now (symbols .entry)))) (now (buf .exit)) r ⌝ }
 {
     let n = symbols::entry_count(symbols);
     let mut i = 0;
     let mut o = at;
     while i < n {
-        o = entry_text(buf, o, orders, symbols, i);
+        o = entry_lines(buf, o, orders, symbols, i);
         i += 1;
     }
     o
@@ -220,11 +222,11 @@ fn all_lines(
     sizes: Sizes,
 ) -> usize
     requires { ⌜ Counted sizes (now orders) (now symbols) ⌝ }
-    ensures { λ r. ⌜ Wrote (now (buf .entry)) 0 (sheetOf word bad state (now (orders .entry)) (now (symbols .entry))) (now (buf .exit)) r ⌝ }
+    ensures { λ r. ⌜ Wrote (now (buf .entry)) 0 (sheetOf word bad state (now (orders .entry)) (now (symbols .entry))) (now (buf .exit)) r × (state .stop < 2 ^ 8) × (state .second < 2 ^ 32) ⌝ }
 {
     let o = head(buf, 0, word, bad, state);
     let p = table_lines(buf, o, state.second, sizes);
-    blocks(buf, p, orders, symbols)
+    all_entries(buf, p, orders, symbols)
 }
 
 // The sheet of a receiver of any state with any tables, its bad count and the recording's word.
@@ -245,5 +247,5 @@ pub fn sheet(
     if !receiver::next_ok(state.next) {
         return SheetAnswer::Refused(Refusal { number: 6 });
     }
-    SheetAnswer::Written(all_lines(buf, orders, symbols, state, bad, word, sizes))
+    SheetAnswer::Length(all_lines(buf, orders, symbols, state, bad, word, sizes))
 }

@@ -155,10 +155,10 @@ abbrev pub wordOf : Bool → Recording
 wordOf true = Recording.Cut
 wordOf false = Recording.Whole
 
--- how many bytes were written
-abbrev pub bytesWritten : SheetAnswer → List ℕ → List ℕ
-bytesWritten (SheetAnswer.Written n) l = n ∷ []
-bytesWritten (SheetAnswer.Refused r) l = l
+-- how long the whole sheet is
+abbrev pub sheetLength : SheetAnswer → List ℕ → List ℕ
+sheetLength (SheetAnswer.Length n) l = n ∷ []
+sheetLength (SheetAnswer.Refused r) l = l
 
 unfoldable pub sheetAnswer : Sheet → List ℕ → FillCall
-sheetAnswer v l = fillCall (sheetNumber (v .answer)) (bytesWritten (v .answer) l) (v .buf)
+sheetAnswer v l = fillCall (sheetNumber (v .answer)) (sheetLength (v .answer) l) (v .buf)

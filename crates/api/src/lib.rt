@@ -377,7 +377,7 @@ fn word_of(cut: bool) -> Recording
     }
 }
 
-// The answer sheet, as far as the buffer reaches, and how many bytes of it were written.
+// The answer sheet, as far as the buffer reaches, and how long the whole of it is.
 #[no_mangle]
 pub extern "C" fn rimeheath_sheet(
     buf: &mut [u8],
@@ -386,15 +386,15 @@ pub extern "C" fn rimeheath_sheet(
     state: &[u64; 3],
     bad: u64,
     cut: bool,
-    written: &mut [u64; 1],
+    length: &mut [u64; 1],
 ) -> u8
-    ensures { λ r. ⌜ fillCall r (now (written .exit)) (now (buf .exit)) ≡ sheetAnswer (sheetView (wordOf cut) bad (stateIn (now (state .entry))) (now (orders .entry)) (now (symbols .entry)) (now (buf .entry))) (now (written .entry)) ⌝ }
+    ensures { λ r. ⌜ fillCall r (now (length .exit)) (now (buf .exit)) ≡ sheetAnswer (sheetView (wordOf cut) bad (stateIn (now (state .entry))) (now (orders .entry)) (now (symbols .entry)) (now (buf .entry))) (now (length .entry)) ⌝ }
 {
     let s = state_in(state);
     match answer_sheet::sheet(buf, orders, symbols, s, bad, word_of(cut)) {
         SheetAnswer::Refused(r) => r.number,
-        SheetAnswer::Written(n) => {
-            *written = [n as u64];
+        SheetAnswer::Length(n) => {
+            *length = [n as u64];
             0
         }
     }

@@ -14,7 +14,7 @@ use Rattle.wire.specs.Records.{Rec}
 use Rattle.arbitration.specs.Slots.{Slot, slotFor, sameSlot}
 use Rattle.arbitration.specs.Engine.{Engine, Store}
 use Rattle.arbitration.specs.Receive.{Answer, taken, old, tooFar, repeated, differing, judge, Said, State, drain, shelved, judged, acted, after, run, said, told}
-use Rattle.arbitration.specs.Demand3.{Every}
+use Rattle.arbitration.specs.Lists.{Every}
 use Rattle.arbitration.proofs.Turns.{drain-next}
 
 -- ---- the tests, in their order

@@ -14,9 +14,9 @@ use Rattle.facts.specs.Pick.{pick}
 use Rattle.facts.specs.Sums.{sumBy, onlyIf, countBy}
 use Rattle.wire.specs.Records.{Rec}
 use Rattle.arbitration.specs.Slots.{Slot, slotBody}
-use Rattle.arbitration.specs.Engine.{Applied, ok, broke, Engine, Store}
+use Rattle.arbitration.specs.Engine.{Applied, ok, broke, Engine, Store, Laws}
 use Rattle.arbitration.specs.Receive.{Answer, taken, old, tooFar, repeated, differing, codeOf, count, ofApplied, goodSlot, State, slotOf, try, judged, after, run, said}
-use Rattle.arbitration.specs.Demand3.{Every, Copy, msg, WellFormed, here, later, Started, Answered, Made, Named}
+use Rattle.arbitration.specs.Lists.{Every, Copy, msg, WellFormed, here, later, Started, Answered, Made, Named}
 use Rattle.arbitration.proofs.Window.{slot-lt}
 use Rattle.arbitration.proofs.Turns.{short-good, try-good, try-goes, stop-stuck}
 use Rattle.arbitration.proofs.Answers.{run-keeps}
@@ -46,27 +46,27 @@ not-14 tooFar n = refl
 not-14 repeated n = refl
 not-14 differing n = absurd (n refl)
 
-module _ (S : Store) (E : Engine) (ms : List (List ℕ)) (wf : WellFormed (E .good) ms) (s0 : ℕ) (b0 : E .Book) where
+module _ (S : Store) (E : Engine) (L : Laws S E) (ms : List (List ℕ)) (wf : WellFormed (E .good) ms) (s0 : ℕ) (b0 : E .Book) where
   -- a true copy keeps a receiver ready
   pub after-ready : (c : Rec) (r : State S E) → Copy ms c → Ready S E ms s0 b0 r → Ready S E ms s0 b0 (after S E c r)
   unfolding Follows
   after-ready c r cp y =
       record {
-        follows = after-inv S E ms wf s0 b0 c r cp (y .follows);
-        settled = after-settled S E c r (copy-fits S E ms wf c cp) (y .follows .1 .ok-shelf) (y .settled);
+        follows = after-inv S E L ms wf s0 b0 c r cp (y .follows);
+        settled = after-settled S E L c r (copy-fits S E L ms wf c cp) (y .follows .1 .ok-shelf) (y .settled);
       }
 
   pub run-ready : (cs : List Rec) (r : State S E) → Every (Copy ms) cs → Ready S E ms s0 b0 r → Ready S E ms s0 b0 (run S E cs r)
   run-ready cs r h y = run-keeps S E (Ready S E ms s0 b0) (Copy ms) after-ready cs r h y
 
   pub run-kept : (n : ℕ) (cs : List Rec) (r : State S E) → 1 ≤ n → Every (Copy ms) cs → Kept S E n r → Kept S E n (run S E cs r)
-  run-kept n cs r p h v = run-keeps S E (Kept S E n) (Copy ms) (λ c r cp v. after-kept S E n c r p (copy-fits S E ms wf c cp) v) cs r h v
+  run-kept n cs r p h v = run-keeps S E (Kept S E n) (Copy ms) (λ c r cp v. after-kept S E L n c r p (copy-fits S E L ms wf c cp) v) cs r h v
 
   answered-kept : (n : ℕ) (cs : List Rec) (r : State S E) → 1 ≤ n → Every (Copy ms) cs → Ready S E ms s0 b0 r → Answered S E n cs r → Kept S E n (run S E cs r)
   unfolding run said Follows
   answered-kept n (c ∷ cs) r p h y (here e w) =
       run-kept n cs (after S E c r) p (h .1)
-      (subst (λ (m : ℕ). Kept S E m (after S E c r)) e (here-kept S E c r (y .follows .1 .ok-shelf) (copy-fits S E ms wf c (h .0)) w))
+      (subst (λ (m : ℕ). Kept S E m (after S E c r)) e (here-kept S E L c r (y .follows .1 .ok-shelf) (copy-fits S E L ms wf c (h .0)) w))
   answered-kept n (c ∷ cs) r p h y (later a) = answered-kept n cs (after S E c r) p (h .1) (after-ready c r (h .0) y) a
 
   -- with true copies 14 is never answered
@@ -74,8 +74,8 @@ module _ (S : Store) (E : Engine) (ms : List (List ℕ)) (wf : WellFormed (E .go
   unfolding said count countBy sumBy onlyIf pick
   none-differs [] r h v = refl
   none-differs (c ∷ cs) r h v =
-      rw (not-14 (judged S E c r) (never-differing S E ms wf s0 b0 c r (h .0) v))
-      (zero-add _ ∙ none-differs cs (after S E c r) (h .1) (after-inv S E ms wf s0 b0 c r (h .0) v))
+      rw (not-14 (judged S E c r) (never-differing S E L ms wf s0 b0 c r (h .0) v))
+      (zero-add _ ∙ none-differs cs (after S E c r) (h .1) (after-inv S E L ms wf s0 b0 c r (h .0) v))
 
   -- a settled receiver whose slot for next holds next names the rule that the list itself breaks there
   pub names : (r : State S E) → Ready S E ms s0 b0 r → slotOf S E r (r .next) .number ≡ r .next → Named S E ms s0 b0 r
@@ -92,13 +92,13 @@ module _ (S : Store) (E : Engine) (ms : List (List ℕ)) (wf : WellFormed (E .go
           not-0 = λ z. omega (arith, v .next-is)
 
           me : Mine S E ms s0 b0 k r
-          me = mine S E ms wf s0 b0 v not-0
+          me = mine S E L ms wf s0 b0 v not-0
 
           is-good : goodSlot E (slotOf S E r (r .next)) ≡ true
           is-good =
               let n : slotOf S E r (r .next) .len ≡ length (msg ms (s0 + suc k)) = ap (λ (x : Slot). x .len) (me .slot-is) in
-              let l : slotOf S E r (r .next) .len ≤ 64 = omega (arith, msg-short S E ms wf (s0 + suc k) (omega arith) (me .in-list)) in
-              short-good E (slotOf S E r (r .next)) l ∙ (ap (E .good) (me .body-is) ∙ msg-good S E ms wf (s0 + suc k) (omega arith) (me .in-list))
+              let l : slotOf S E r (r .next) .len ≤ 64 = omega (arith, msg-short S E L ms wf (s0 + suc k) (omega arith) (me .in-list)) in
+              short-good E (slotOf S E r (r .next)) l ∙ (ap (E .good) (me .body-is) ∙ msg-good S E L ms wf (s0 + suc k) (omega arith) (me .in-list))
 
           full : try S E r ≡ ofApplied (E .apply (r .next) (slotBody (slotOf S E r (r .next))) (r .book))
           full = try-good S E r not-0 e is-good
@@ -111,7 +111,7 @@ module _ (S : Store) (E : Engine) (ms : List (List ℕ)) (wf : WellFormed (E .go
                 next-is = nx;
                 in-list = me .in-list;
                 made-k = v .book-is;
-                rule-named = rw (stop-stuck S E r q (full ∙ ap ofApplied w)) (E .rule-pos _ _ _ q w);
+                rule-named = rw (stop-stuck S E r q (full ∙ ap ofApplied w)) (L .engine .rule-pos _ _ _ q w);
                 breaks = rw (stop-stuck S E r q (full ∙ ap ofApplied w)) (made-suc E ms s0 b0 k (r .book) (v .book-is) ∙ cc (nx, me .body-is, w));
               }
 
@@ -141,10 +141,10 @@ module _ (S : Store) (E : Engine) (ms : List (List ℕ)) (wf : WellFormed (E .go
       (λ past l. answered-kept (run S E cs r0 .next) cs r0 (omega arith) h y (all _ past l))
 
 -- a start is ready for any list
-pub start-ready : (S : Store) (E : Engine) (ms : List (List ℕ)) (wf : WellFormed (E .good) ms) (b0 : E .Book) (r : State S E) → Started S E b0 r → Ready S E ms 0 b0 r
+pub start-ready : (S : Store) (E : Engine) (L : Laws S E) (ms : List (List ℕ)) (wf : WellFormed (E .good) ms) (b0 : E .Book) (r : State S E) → Started S E b0 r → Ready S E ms 0 b0 r
 unfolding Settled
-start-ready S E ms wf b0 r s =
+start-ready S E L ms wf b0 r s =
     record {
-      follows = start-follows S E ms wf b0 r s;
+      follows = start-follows S E L ms wf b0 r s;
       settled = λ b e. try-goes S E r b e .number-not-0 (s .shelf-empty _ (slot-lt (r .next)));
     }

@@ -10,9 +10,9 @@ use lib.ListN.{length}
 use native.Mathlib.Omega.{arith}
 use Rattle.wire.specs.Records.{Rec}
 use Rattle.arbitration.specs.Slots.{Slot, emptySlot, slotFor, slotBody, sameSlot, Fits}
-use Rattle.arbitration.specs.Engine.{ok, Engine, Store}
+use Rattle.arbitration.specs.Engine.{ok, Engine, Store, Laws}
 use Rattle.arbitration.specs.Receive.{taken, differing, State, slotOf, turned, drain, shelved, judged, after, run}
-use Rattle.arbitration.specs.Demand3.{Every, msg, WellFormed, Copies, Numbered, Copy, made, Started}
+use Rattle.arbitration.specs.Lists.{Every, msg, WellFormed, Copies, Numbered, Copy, made, Started}
 use Rattle.arbitration.proofs.Window.{same-slot, slot-lt}
 use Rattle.arbitration.proofs.SlotLaws.{empty-fits, slotFor-fits, body-back, same-refl, put-at}
 use Rattle.arbitration.proofs.Turns.{Went, drain-keeps}
@@ -49,13 +49,13 @@ module _ (S : Store) (E : Engine) (ms : List (List ℕ)) (s0 : ℕ) (b0 : E .Boo
     pub slot-is : slotOf S E r (r .next) ≡ slotFor (r .next) (msg ms (s0 + suc k))
     pub body-is : slotBody (slotOf S E r (r .next)) ≡ msg ms (s0 + suc k)
 
-module _ (S : Store) (E : Engine) (ms : List (List ℕ)) (wf : WellFormed (E .good) ms) where
+module _ (S : Store) (E : Engine) (L : Laws S E) (ms : List (List ℕ)) (wf : WellFormed (E .good) ms) where
   -- a message of the list is good, and fits a slot
   pub msg-good : (n : ℕ) → 1 ≤ n → n ≤ length ms → E .good (msg ms n) ≡ true
   msg-good n h l = wf (n - 1) (omega arith)
 
   pub msg-short : (n : ℕ) → 1 ≤ n → n ≤ length ms → length (msg ms n) ≤ 64
-  msg-short n h l = E .good-fits (msg ms n) (msg-good n h l)
+  msg-short n h l = L .engine .good-fits (msg ms n) (msg-good n h l)
 
   pub copy-fits : (c : Rec) → Copy ms c → Fits (slotFor (c .number) (c .body))
   copy-fits c (n, t) =
@@ -82,11 +82,11 @@ module _ (S : Store) (E : Engine) (ms : List (List ℕ)) (wf : WellFormed (E .go
         let me : Mine S E ms s0 b0 k r = mine v (w .number-not-0) in
         let nx : r .next ≡ s0 + suc k = v .next-is in
         record {
-          ok-shelf = S .ok-put _ _ emptySlot (v .ok-shelf) (slot-lt (r .next)) empty-fits;
+          ok-shelf = L .store .ok-put _ _ emptySlot (v .ok-shelf) (slot-lt (r .next)) empty-fits;
           next-is = omega arith;
           within = me .in-list;
           book-is = made-suc E ms s0 b0 k (r .book) (v .book-is) ∙ cc (w .applied, nx, me .body-is);
-          slots = λ i h. put-at S (r .shelf) (r .next % 64) emptySlot (v .ok-shelf) (slot-lt (r .next)) empty-fits (Shelved ms (r .next + 1) i) i h (λ e. free refl) (λ n. on i n (v .slots i h));
+          slots = λ i h. put-at S (L .store) (r .shelf) (r .next % 64) emptySlot (v .ok-shelf) (slot-lt (r .next)) empty-fits (Shelved ms (r .next + 1) i) i h (λ e. free refl) (λ n. on i n (v .slots i h));
         }
       where
         on : (i : ℕ) → i ≢ r .next % 64 → {s : Slot} → Shelved ms (r .next) i s → Shelved ms (r .next + 1) i s
@@ -99,11 +99,11 @@ module _ (S : Store) (E : Engine) (ms : List (List ℕ)) (wf : WellFormed (E .go
         let f = shows (r .next) (slotOf S E r (c .number)) c taken e in
         let fit : Fits (slotFor (c .number) (c .body)) = copy-fits c cp in
         record {
-          ok-shelf = S .ok-put _ _ _ (v .ok-shelf) (slot-lt (c .number)) fit;
+          ok-shelf = L .store .ok-put _ _ _ (v .ok-shelf) (slot-lt (c .number)) fit;
           next-is = v .next-is;
           within = v .within;
           book-is = v .book-is;
-          slots = λ i h. put-at S (r .shelf) (c .number % 64) (slotFor (c .number) (c .body)) (v .ok-shelf) (slot-lt (c .number)) fit (Shelved ms (r .next) i) i h
+          slots = λ i h. put-at S (L .store) (r .shelf) (c .number % 64) (slotFor (c .number) (c .body)) (v .ok-shelf) (slot-lt (c .number)) fit (Shelved ms (r .next) i) i h
               (λ q. held (c .number) (f .0) (f .1) (sym q) (cp .1 .in-list) (ap (slotFor (c .number)) (cp .1 .same)))
               (λ n. v .slots i h);
         }

@@ -8,6 +8,7 @@ pub mod Settled
 pub mod Halves
 pub mod Packets
 pub mod Range
+pub mod Carried
 pub mod RefreshLaws
 pub mod SameLaws
 pub mod StreamLaws

@@ -7,9 +7,9 @@ use mathlib.Core.Logic.{_≢_, _⊎_, inl, inr}
 use native.Mathlib.Omega.{arith}
 use Rattle.wire.specs.Records.{Rec}
 use Rattle.arbitration.specs.Slots.{Slot, emptySlot, slotFor, Fits}
-use Rattle.arbitration.specs.Engine.{Engine, Store}
+use Rattle.arbitration.specs.Engine.{Engine, Store, Laws}
 use Rattle.arbitration.specs.Receive.{Answer, taken, old, repeated, Try, nothing, stuck, goes, State, slotOf, try, turned, drain, shelved, judged, acted, after}
-use Rattle.arbitration.specs.Demand3.{Arrived, by-taken, by-old, by-repeated}
+use Rattle.arbitration.specs.Lists.{Arrived, by-taken, by-old, by-repeated}
 use Rattle.arbitration.proofs.Window.{slot-lt, slot-wrap}
 use Rattle.arbitration.proofs.SlotLaws.{empty-fits, same-number, put-at}
 use Rattle.arbitration.proofs.Turns.{nothing≢goes, stuck≢goes, Went, try-goes, drain-keeps}
@@ -25,32 +25,6 @@ module _ (S : Store) (E : Engine) where
     pub ok-shelf : S .Ok (r .shelf)
     pub rest-free : (m : ℕ) → r .next + f ≤ m → m < r .next + 64 → slotOf S E r m .number ≡ 0
 
-  turn-enough : (f : ℕ) (r : State S E) (b : E .Book) → Enough (suc f) r → Enough f (turned S E r b)
-  turn-enough f r b n =
-      record {
-        ok-shelf = S .ok-put _ _ emptySlot (n .ok-shelf) (slot-lt (r .next)) empty-fits;
-        rest-free = λ m h l.
-            put-at S (r .shelf) (r .next % 64) emptySlot (n .ok-shelf) (slot-lt (r .next)) empty-fits (λ s. s .number ≡ 0) (m % 64) (slot-lt m)
-            (λ e. refl)
-            (λ d. n .rest-free m (omega arith) (omega (arith, slot-wrap (r .next))));
-      }
-
-  drain-settles : (f : ℕ) (r : State S E) → Enough f r → Settled (drain S E f r)
-  unfolding drain Settled
-  drain-settles zero r n = λ b e. try-goes S E r b e .number-not-0 (n .rest-free (r .next) (omega arith) (omega arith))
-  drain-settles (suc f) r n = go (try S E r) refl (λ r′ n′. drain-settles f r′ n′)
-    where
-      go : (t : Try (E .Book)) → try S E r ≡ t → ((r′ : State S E) → Enough f r′ → Settled (drain S E f r′)) → Settled (elim t [ nothing ↦ r | stuck q ↦ r | goes b ↦ drain S E f (turned S E r b) ])
-      go nothing e ih = λ b q. nothing≢goes (sym e ∙ q)
-      go (stuck s) e ih = λ b q. stuck≢goes (sym e ∙ q)
-      go (goes x) e ih = ih (turned S E r x) (turn-enough f r x n)
-
-  pub drained : (r : State S E) → S .Ok (r .shelf) → Settled (drain S E 64 r)
-  drained r o = drain-settles 64 r (record { ok-shelf = o; rest-free = λ m h l. absurd (omega arith) })
-
-  pub after-settled : (c : Rec) (r : State S E) → Fits (slotFor (c .number) (c .body)) → S .Ok (r .shelf) → Settled r → Settled (after S E c r)
-  after-settled c r fit o s = after-cases S E Settled c r s (λ e. drained (shelved S E c r) (S .ok-put _ _ _ o (slot-lt (c .number)) fit))
-
   -- ---- a number that came is behind next or on the shelf
   unfoldable pub Held : ℕ → State S E → Type 0
   Held n r = (n < r .next) ⊎ (slotOf S E r n .number ≡ n)
@@ -58,11 +32,39 @@ module _ (S : Store) (E : Engine) where
   unfoldable pub Kept : ℕ → State S E → Type 0
   Kept n r = S .Ok (r .shelf) × Held n r
 
-  turn-kept : (n : ℕ) (r : State S E) (b : E .Book) → Went S E r b → Kept n r → Kept n (turned S E r b)
+module _ (S : Store) (E : Engine) (L : Laws S E) where
+  turn-enough : (f : ℕ) (r : State S E) (b : E .Book) → Enough S E (suc f) r → Enough S E f (turned S E r b)
+  turn-enough f r b n =
+      record {
+        ok-shelf = L .store .ok-put _ _ emptySlot (n .ok-shelf) (slot-lt (r .next)) empty-fits;
+        rest-free = λ m h l.
+            put-at S (L .store) (r .shelf) (r .next % 64) emptySlot (n .ok-shelf) (slot-lt (r .next)) empty-fits (λ s. s .number ≡ 0) (m % 64) (slot-lt m)
+            (λ e. refl)
+            (λ d. n .rest-free m (omega arith) (omega (arith, slot-wrap (r .next))));
+      }
+
+  drain-settles : (f : ℕ) (r : State S E) → Enough S E f r → Settled S E (drain S E f r)
+  unfolding drain Settled
+  drain-settles zero r n = λ b e. try-goes S E r b e .number-not-0 (n .rest-free (r .next) (omega arith) (omega arith))
+  drain-settles (suc f) r n = go (try S E r) refl (λ r′ n′. drain-settles f r′ n′)
+    where
+      go : (t : Try (E .Book)) → try S E r ≡ t → ((r′ : State S E) → Enough S E f r′ → Settled S E (drain S E f r′)) → Settled S E (elim t [ nothing ↦ r | stuck q ↦ r | goes b ↦ drain S E f (turned S E r b) ])
+      go nothing e ih = λ b q. nothing≢goes (sym e ∙ q)
+      go (stuck s) e ih = λ b q. stuck≢goes (sym e ∙ q)
+      go (goes x) e ih = ih (turned S E r x) (turn-enough f r x n)
+
+  pub drained : (r : State S E) → S .Ok (r .shelf) → Settled S E (drain S E 64 r)
+  drained r o = drain-settles 64 r (record { ok-shelf = o; rest-free = λ m h l. absurd (omega arith) })
+
+  pub after-settled : (c : Rec) (r : State S E) → Fits (slotFor (c .number) (c .body)) → S .Ok (r .shelf) → Settled S E r → Settled S E (after S E c r)
+  after-settled c r fit o s = after-cases S E (Settled S E) c r s (λ e. drained (shelved S E c r) (L .store .ok-put _ _ _ o (slot-lt (c .number)) fit))
+
+  -- ---- a number that came is kept
+  turn-kept : (n : ℕ) (r : State S E) (b : E .Book) → Went S E r b → Kept S E n r → Kept S E n (turned S E r b)
   unfolding Kept Held
   turn-kept n r b w (o, h) = (
-    S .ok-put _ _ emptySlot o (slot-lt (r .next)) empty-fits,
-    put-at S (r .shelf) (r .next % 64) emptySlot o (slot-lt (r .next)) empty-fits (λ s. (n < r .next + 1) ⊎ (s .number ≡ n)) (n % 64) (slot-lt n) (gone h) (λ d. still h),
+    L .store .ok-put _ _ emptySlot o (slot-lt (r .next)) empty-fits,
+    put-at S (L .store) (r .shelf) (r .next % 64) emptySlot o (slot-lt (r .next)) empty-fits (λ s. (n < r .next + 1) ⊎ (s .number ≡ n)) (n % 64) (slot-lt n) (gone h) (λ d. still h),
   )
     where
       gone : (n < r .next) ⊎ (slotOf S E r n .number ≡ n) → n % 64 ≡ r .next % 64 → (n < r .next + 1) ⊎ (0 ≡ n)
@@ -75,14 +77,14 @@ module _ (S : Store) (E : Engine) where
       still (inl l) = inl (omega arith)
       still (inr s) = inr s
 
-  pub drain-kept : (n f : ℕ) (r : State S E) → Kept n r → Kept n (drain S E f r)
-  drain-kept n f r v = drain-keeps S E (Kept n) (turn-kept n) f r v
+  pub drain-kept : (n f : ℕ) (r : State S E) → Kept S E n r → Kept S E n (drain S E f r)
+  drain-kept n f r v = drain-keeps S E (Kept S E n) (turn-kept n) f r v
 
-  shelve-kept : (n : ℕ) (c : Rec) (r : State S E) → 1 ≤ n → Fits (slotFor (c .number) (c .body)) → judged S E c r ≡ taken → Kept n r → Kept n (shelved S E c r)
+  shelve-kept : (n : ℕ) (c : Rec) (r : State S E) → 1 ≤ n → Fits (slotFor (c .number) (c .body)) → judged S E c r ≡ taken → Kept S E n r → Kept S E n (shelved S E c r)
   unfolding Kept Held
   shelve-kept n c r p fit e (o, h) = (
-    S .ok-put _ _ _ o (slot-lt (c .number)) fit,
-    put-at S (r .shelf) (c .number % 64) (slotFor (c .number) (c .body)) o (slot-lt (c .number)) fit (λ s. (n < r .next) ⊎ (s .number ≡ n)) (n % 64) (slot-lt n) (gone h) (λ d. h),
+    L .store .ok-put _ _ _ o (slot-lt (c .number)) fit,
+    put-at S (L .store) (r .shelf) (c .number % 64) (slotFor (c .number) (c .body)) o (slot-lt (c .number)) fit (λ s. (n < r .next) ⊎ (s .number ≡ n)) (n % 64) (slot-lt n) (gone h) (λ d. h),
   )
     where
       gone : (n < r .next) ⊎ (slotOf S E r n .number ≡ n) → n % 64 ≡ c .number % 64 → (n < r .next) ⊎ (c .number ≡ n)
@@ -91,19 +93,19 @@ module _ (S : Store) (E : Engine) where
           let z : n ≡ 0 = sym s ∙ ap (λ (i : ℕ). S .get (r .shelf) i .number) q ∙ shows (r .next) (slotOf S E r (c .number)) c taken e .2 in
           absurd (omega arith)
 
-  pub after-kept : (n : ℕ) (c : Rec) (r : State S E) → 1 ≤ n → Fits (slotFor (c .number) (c .body)) → Kept n r → Kept n (after S E c r)
-  after-kept n c r p fit v = after-cases S E (Kept n) c r v (λ e. drain-kept n 64 (shelved S E c r) (shelve-kept n c r p fit e v))
+  pub after-kept : (n : ℕ) (c : Rec) (r : State S E) → 1 ≤ n → Fits (slotFor (c .number) (c .body)) → Kept S E n r → Kept S E n (after S E c r)
+  after-kept n c r p fit v = after-cases S E (Kept S E n) c r v (λ e. drain-kept n 64 (shelved S E c r) (shelve-kept n c r p fit e v))
 
   -- what is answered so is kept from there on
-  pub here-kept : (c : Rec) (r : State S E) → S .Ok (r .shelf) → Fits (slotFor (c .number) (c .body)) → Arrived (judged S E c r) → Kept (c .number) (after S E c r)
+  pub here-kept : (c : Rec) (r : State S E) → S .Ok (r .shelf) → Fits (slotFor (c .number) (c .body)) → Arrived (judged S E c r) → Kept S E (c .number) (after S E c r)
   unfolding after Kept Held
   here-kept c r o fit w = go (judged S E c r) refl w
     where
-      go : (a : Answer) → judged S E c r ≡ a → Arrived a → Kept (c .number) (acted S E a c r)
+      go : (a : Answer) → judged S E c r ≡ a → Arrived a → Kept S E (c .number) (acted S E a c r)
       go taken e by-taken =
           drain-kept (c .number) 64 (shelved S E c r) (
-            S .ok-put _ _ _ o (slot-lt (c .number)) fit,
-            inr (ap (λ (x : Slot). x .number) (S .get-same (r .shelf) (c .number % 64) _ o (slot-lt (c .number)) fit)),
+            L .store .ok-put _ _ _ o (slot-lt (c .number)) fit,
+            inr (ap (λ (x : Slot). x .number) (L .store .get-same (r .shelf) (c .number % 64) _ o (slot-lt (c .number)) fit)),
           )
       go old e by-old = (o, inl (shows (r .next) (slotOf S E r (c .number)) c old e))
       go repeated e by-repeated = (o, inr (same-number _ _ (shows (r .next) (slotOf S E r (c .number)) c repeated e .2)))

@@ -17,7 +17,7 @@ use Rattle.facts.proofs.Picks.{both-true}
 use Rattle.wire.specs.Le.{padded}
 use Rattle.wire.proofs.Laws.{length-padded}
 use Rattle.arbitration.specs.Slots.{Slot, emptySlot, slotFor, slotBody, sameBytes, sameSlot, Fits}
-use Rattle.arbitration.specs.Engine.{Store}
+use Rattle.arbitration.specs.Engine.{Store, StoreLaws}
 
 pub empty-fits : Fits emptySlot
 empty-fits = record { number-fits = omega arith; len-fits = omega arith; bytes-64 = refl }
@@ -58,11 +58,11 @@ unfolding sameSlot both
 same-refl s = rw (eq-eqb (s .number) (s .number) refl, eq-eqb (s .len) (s .len) refl) (same-bytes-refl (s .bytes))
 
 -- ---- slot j after a put into slot i: the new slot, or the old one
-module _ (S : Store) where
+module _ (S : Store) (L : StoreLaws S) where
   pub put-at : (s : S .Shelf) (i : ℕ) (x : Slot) → S .Ok s → i < 64 → Fits x
       → (P : Slot → Type 0) (j : ℕ) → j < 64 → (j ≡ i → P x) → (j ≢ i → P (S .get s j)) → P (S .get (S .put s i x) j)
   put-at s i x o h f P j l same other = go (ℕ-discrete j i)
     where
       go : Dec (j ≡ i) → P (S .get (S .put s i x) j)
-      go (yes e) = subst P (sym (ap (S .get (S .put s i x)) e ∙ S .get-same s i x o h f)) (same e)
-      go (no n) = subst P (sym (S .get-other s i j x o h l n f)) (other n)
+      go (yes e) = subst P (sym (ap (S .get (S .put s i x)) e ∙ L .get-same s i x o h f)) (same e)
+      go (no n) = subst P (sym (L .get-other s i j x o h l n f)) (other n)

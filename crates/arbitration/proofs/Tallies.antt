@@ -9,28 +9,16 @@ use Rattle.facts.specs.Pick.{pick}
 use Rattle.facts.specs.Sums.{sumBy, onlyIf, countBy}
 use Rattle.wire.specs.Records.{Rec}
 use Rattle.arbitration.specs.Engine.{Engine, Store}
-use Rattle.arbitration.specs.Receive.{Answer, taken, old, tooFar, repeated, differing, Said, count, Counts, countsOf, State, judged, acted, after, run, said, told}
+use Rattle.arbitration.specs.Receive.{Answer, taken, old, tooFar, repeated, differing, Said, count, countsOf, State, judged, acted, after, run, said, told}
+use Rattle.arbitration.specs.Loops.{noCounts, counted, total, Working, working, work}
+use Rattle.arbitration.specs.declared.Counts.{Counts}
 use Rattle.arbitration.proofs.Answers.{after-of}
 
--- the five counts with one answer more
-abbrev pub counted : Answer → Counts → Counts
-counted taken t = record { c10 = t .c10 + 1; c11 = t .c11; c12 = t .c12; c13 = t .c13; c14 = t .c14 }
-counted old t = record { c10 = t .c10; c11 = t .c11 + 1; c12 = t .c12; c13 = t .c13; c14 = t .c14 }
-counted tooFar t = record { c10 = t .c10; c11 = t .c11; c12 = t .c12 + 1; c13 = t .c13; c14 = t .c14 }
-counted repeated t = record { c10 = t .c10; c11 = t .c11; c12 = t .c12; c13 = t .c13 + 1; c14 = t .c14 }
-counted differing t = record { c10 = t .c10; c11 = t .c11; c12 = t .c12; c13 = t .c13; c14 = t .c14 + 1 }
-
-abbrev pub noCounts : Counts
-noCounts = record { c10 = 0; c11 = 0; c12 = 0; c13 = 0; c14 = 0 }
-
 abbrev plus : Counts → Counts → Counts
-plus a b = record { c10 = a .c10 + b .c10; c11 = a .c11 + b .c11; c12 = a .c12 + b .c12; c13 = a .c13 + b .c13; c14 = a .c14 + b .c14 }
+plus a b = record { taken = a .taken + b .taken; old = a .old + b .old; far = a .far + b .far; repeated = a .repeated + b .repeated; differing = a .differing + b .differing }
 
-abbrev pub total : Counts → ℕ
-total t = t .c10 + t .c11 + t .c12 + t .c13 + t .c14
-
-counts-eq : (a b : Counts) → a .c10 ≡ b .c10 → a .c11 ≡ b .c11 → a .c12 ≡ b .c12 → a .c13 ≡ b .c13 → a .c14 ≡ b .c14 → a ≡ b
-counts-eq a b p q r s u = λ i. record { c10 = p i; c11 = q i; c12 = r i; c13 = s i; c14 = u i }
+counts-eq : (a b : Counts) → a .taken ≡ b .taken → a .old ≡ b .old → a .far ≡ b .far → a .repeated ≡ b .repeated → a .differing ≡ b .differing → a ≡ b
+counts-eq a b p q r s u = λ i. record { taken = p i; old = q i; far = r i; repeated = s i; differing = u i }
 
 -- one answer more
 counts-more : (a : Answer) (n : ℕ) (t : Counts) (l : List Said) → plus (counted a t) (countsOf l) ≡ plus t (countsOf (record { number = n; answer = a } ∷ l))
@@ -57,42 +45,30 @@ unfolding countsOf count countBy sumBy
 plus-none t = counts-eq _ _ (omega arith) (omega arith) (omega arith) (omega arith) (omega arith)
 
 module _ (S : Store) (E : Engine) where
-  -- the state and the counts in one value, so that a loop over records has one equation: `work (what is left) now ≡ end`
-  pub record Working : Type 0 where
-    pub rx : State S E
-    pub counts : Counts
-
-  abbrev pub working : Rec → Working → Working
-  working c w = record { rx = after S E c (w .rx); counts = counted (judged S E c (w .rx)) (w .counts) }
-
-  unfoldable pub work : List Rec → Working → Working
-  work [] w = w
-  work (c ∷ cs) w = work cs (working c w)
-
   -- the loop's laws: one record more, by its answer, and none left
-  pub working-of : (c : Rec) (w : Working) (a : Answer) → judged S E c (w .rx) ≡ a → working c w ≡ record { rx = acted S E a c (w .rx); counts = counted a (w .counts) }
+  pub working-of : (c : Rec) (w : Working S E) (a : Answer) → judged S E c (w .rx) ≡ a → working S E c w ≡ record { rx = acted S E a c (w .rx); counts = counted a (w .counts) }
   working-of c w a e = λ i. record { rx = after-of S E c (w .rx) a e i; counts = counted (e i) (w .counts) }
 
-  pub work-step : (c : Rec) (cs : List Rec) (w w′ end : Working) → work (c ∷ cs) w ≡ end → w′ ≡ working c w → work cs w′ ≡ end
+  pub work-step : (c : Rec) (cs : List Rec) (w w′ end : Working S E) → work S E (c ∷ cs) w ≡ end → w′ ≡ working S E c w → work S E cs w′ ≡ end
   unfolding work
-  work-step c cs w w′ end v e = ap (work cs) e ∙ v
+  work-step c cs w w′ end v e = ap (work S E cs) e ∙ v
 
-  pub work-end : (w end : Working) → work [] w ≡ end → w ≡ end
+  pub work-end : (w end : Working S E) → work S E [] w ≡ end → w ≡ end
   unfolding work
   work-end w end v = v
 
-  abbrev done : List Rec → Working → Working
+  abbrev done : List Rec → Working S E → Working S E
   done cs w = record { rx = run S E cs (w .rx); counts = plus (w .counts) (countsOf (said S E cs (w .rx))) }
 
-  work-done : (cs : List Rec) (w : Working) → work cs w ≡ done cs w
+  work-done : (cs : List Rec) (w : Working S E) → work S E cs w ≡ done cs w
   unfolding work run said
   work-done [] w = λ i. record { rx = w .rx; counts = plus-none (w .counts) i }
   work-done (c ∷ cs) w =
-      work-done cs (working c w)
+      work-done cs (working S E c w)
       ∙ (λ i. record { rx = run S E cs (after S E c (w .rx)); counts = counts-more (judged S E c (w .rx)) (c .number) (w .counts) (said S E cs (after S E c (w .rx))) i })
 
   -- from no counts: the run and the counts that the packet's answer tells
-  pub work-told : (cs : List Rec) (r : State S E) → work cs (record { rx = r; counts = noCounts }) ≡ record { rx = run S E cs r; counts = told S E cs r .counts }
+  pub work-told : (cs : List Rec) (r : State S E) → work S E cs (record { rx = r; counts = noCounts }) ≡ record { rx = run S E cs r; counts = told S E cs r .counts }
   unfolding told
   work-told cs r = work-done cs (record { rx = r; counts = noCounts }) ∙ (λ i. record { rx = run S E cs r; counts = none-plus (countsOf (said S E cs r)) i })
 

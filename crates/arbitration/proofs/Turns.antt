@@ -7,10 +7,11 @@ use mathlib.Core.Bool.{Bool, true, false, false≢true}
 use native.Mathlib.Omega.{arith}
 use borrow.Author.Tests.{le-leb, lt-leb, eq-eqb, ne-eqb, eqb-true, eqb-false}
 use Rattle.facts.specs.Pick.{pick, both}
-use Rattle.facts.proofs.Picks.{pick-cases}
+use Rattle.facts.proofs.Picks.{pick-cases, both-true}
 use Rattle.arbitration.specs.Slots.{Slot, slotBody}
 use Rattle.arbitration.specs.Engine.{Applied, ok, broke, Engine, Store}
 use Rattle.arbitration.specs.Receive.{Try, nothing, stuck, goes, ofApplied, goodSlot, State, slotOf, try, stop, turned, drain}
+use Rattle.arbitration.specs.Loops.{turnTo, goesOn}
 
 pub nothing≢goes : {B : Type 0} {b : B} → _≡_ {A = Try B} nothing (goes b) → ⊥
 nothing≢goes e = let z : _≡_ {A = ℕ} 0 1 = cc in omega arith
@@ -31,14 +32,11 @@ pub short-good : (E : Engine) (s : Slot) → s .len ≤ 64 → goodSlot E s ≡ 
 unfolding goodSlot both
 short-good E s h = rw (le-leb _ _ h)
 
+pub slot-good : (E : Engine) (s : Slot) → goodSlot E s ≡ true → E .good (slotBody s) ≡ true
+unfolding goodSlot
+slot-good E s e = both-true e .1
+
 module _ (S : Store) (E : Engine) where
-  -- where one turn leads, and whether it applied a message: what code that makes one turn answers
-  unfoldable pub turnTo : State S E → State S E
-  turnTo r = elim (try S E r) [ nothing ↦ r | stuck q ↦ r | goes b ↦ turned S E r b ]
-
-  unfoldable pub goesOn : State S E → Bool
-  goesOn r = elim (try S E r) [ nothing ↦ false | stuck q ↦ false | goes b ↦ true ]
-
   -- ---- the tests, in their order
   module _ (r : State S E) where
     abbrev here : Slot
@@ -63,12 +61,12 @@ module _ (S : Store) (E : Engine) where
 
     -- ---- what a turn answers, from what it tried
     pub record Stays : Type 0 where
-      pub same : turnTo r ≡ r
-      pub off : goesOn r ≡ false
+      pub same : turnTo S E r ≡ r
+      pub off : goesOn S E r ≡ false
 
     pub record Moves (b : E .Book) : Type 0 where
-      pub moved : turnTo r ≡ turned S E r b
-      pub on : goesOn r ≡ true
+      pub moved : turnTo S E r ≡ turned S E r b
+      pub on : goesOn S E r ≡ true
 
     pub stays-nothing : try S E r ≡ nothing → Stays
     unfolding turnTo goesOn
@@ -99,6 +97,7 @@ module _ (S : Store) (E : Engine) where
     pub record Went (b : E .Book) : Type 0 where
       pub number-is : here .number ≡ r .next
       pub number-not-0 : here .number ≢ 0
+      pub is-good : E .good (slotBody here) ≡ true
       pub applied : E .apply (r .next) (slotBody here) (r .book) ≡ ok b
 
     pub try-goes : (b : E .Book) → try S E r ≡ goes b → Went b
@@ -110,26 +109,26 @@ module _ (S : Store) (E : Engine) where
             | inr g ↦ absurd (stuck≢goes (g .1))
             | inl g ↦ elim (pick-cases (g .1)) [
               | inr f ↦ absurd (stuck≢goes (f .1))
-              | inl f ↦ record { number-is = eqb-true _ _ (g .0); number-not-0 = eqb-false _ _ (h .0); applied = applied-goes _ (f .1) }
+              | inl f ↦ record { number-is = eqb-true _ _ (g .0); number-not-0 = eqb-false _ _ (h .0); is-good = slot-good E _ (f .0); applied = applied-goes _ (f .1) }
             ]
           ]
         ]
 
   -- ---- the drain
-  drain-turn : (f : ℕ) (r : State S E) → goesOn r ≡ true → drain S E (suc f) r ≡ drain S E f (turnTo r)
+  drain-turn : (f : ℕ) (r : State S E) → goesOn S E r ≡ true → drain S E (suc f) r ≡ drain S E f (turnTo S E r)
   unfolding drain turnTo goesOn
   drain-turn f r e = go (try S E r) refl
     where
-      go : (t : Try (E .Book)) → try S E r ≡ t → drain S E (suc f) r ≡ drain S E f (turnTo r)
+      go : (t : Try (E .Book)) → try S E r ≡ t → drain S E (suc f) r ≡ drain S E f (turnTo S E r)
       go nothing q = absurd (false≢true (sym (rw (q, goesOn)) ∙ e))
       go (stuck s) q = absurd (false≢true (sym (rw (q, goesOn)) ∙ e))
       go (goes b) q = rw (q, drain, turnTo)
 
-  pub drain-rest : (f : ℕ) (r : State S E) → goesOn r ≡ false → (drain S E f r ≡ r) × (turnTo r ≡ r)
+  pub drain-rest : (f : ℕ) (r : State S E) → goesOn S E r ≡ false → (drain S E f r ≡ r) × (turnTo S E r ≡ r)
   unfolding drain turnTo goesOn
   drain-rest f r e = go f (try S E r) refl
     where
-      go : (f : ℕ) (t : Try (E .Book)) → try S E r ≡ t → (drain S E f r ≡ r) × (turnTo r ≡ r)
+      go : (f : ℕ) (t : Try (E .Book)) → try S E r ≡ t → (drain S E f r ≡ r) × (turnTo S E r ≡ r)
       go zero nothing q = (refl, rw (q, turnTo))
       go zero (stuck s) q = (refl, rw (q, turnTo))
       go (suc f) nothing q = (rw (q, drain), rw (q, turnTo))
@@ -137,12 +136,12 @@ module _ (S : Store) (E : Engine) where
       go f (goes b) q = absurd (false≢true (sym e ∙ rw (q, goesOn)))
 
   -- a loop of at most n turns that keeps `drain (n - i) r ≡ end`: a turn that applied keeps it, one that did not has come to the end
-  pub loop-step : (n i : ℕ) (r r′ end : State S E) → i < n → drain S E (n - i) r ≡ end → r′ ≡ turnTo r → goesOn r ≡ true → drain S E (n - (i + 1)) r′ ≡ end
+  pub loop-step : (n i : ℕ) (r r′ end : State S E) → i < n → drain S E (n - i) r ≡ end → r′ ≡ turnTo S E r → goesOn S E r ≡ true → drain S E (n - (i + 1)) r′ ≡ end
   loop-step n i r r′ end h v m g =
       let e : n - i ≡ suc (n - (i + 1)) = omega arith in
       ap (drain S E (n - (i + 1))) m ∙ sym (drain-turn (n - (i + 1)) r g) ∙ ap (λ (f : ℕ). drain S E f r) (sym e) ∙ v
 
-  pub loop-rest : (n i : ℕ) (r r′ end : State S E) → drain S E (n - i) r ≡ end → r′ ≡ turnTo r → goesOn r ≡ false → r′ ≡ end
+  pub loop-rest : (n i : ℕ) (r r′ end : State S E) → drain S E (n - i) r ≡ end → r′ ≡ turnTo S E r → goesOn S E r ≡ false → r′ ≡ end
   loop-rest n i r r′ end v m g = let z = drain-rest (n - i) r g in m ∙ z .1 ∙ sym (z .0) ∙ v
 
   pub loop-end : (n i : ℕ) (r end : State S E) → n ≤ i → drain S E (n - i) r ≡ end → r ≡ end
@@ -161,7 +160,7 @@ module _ (S : Store) (E : Engine) where
       go (goes b) e ih = ih (turned S E r b) (step r b (try-goes r b e) p)
 
   -- how far next can go
-  pub turn-next : (r : State S E) → (r .next ≤ turnTo r .next) × (turnTo r .next ≤ r .next + 1)
+  pub turn-next : (r : State S E) → (r .next ≤ turnTo S E r .next) × (turnTo S E r .next ≤ r .next + 1)
   unfolding turnTo
   turn-next r = go (try S E r)
     where

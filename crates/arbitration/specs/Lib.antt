@@ -1,7 +1,8 @@
 pub mod Slots
 pub mod Engine
 pub mod Receive
-pub mod Demand3
+pub mod Loops
+pub mod Lists
 pub mod Refresh
 pub mod Same
 pub mod Stream

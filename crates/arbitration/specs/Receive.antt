@@ -5,12 +5,10 @@ use mathlib.Core.List.{List, [], _∷_, _++_}
 use lib.Dec.{ltb, leb, eqb}
 use Rattle.facts.specs.Pick.{pick, both}
 use Rattle.facts.specs.Sums.{countBy}
-use Rattle.fields.specs.declared.Refusal.{Refusal}
-use Rattle.wire.specs.Records.{Rec}
-use Rattle.wire.specs.Records.{bad, records}
-use Rattle.packet.specs.Packet.{Framing}
+use Rattle.wire.specs.Records.{Rec, Frames, bad, records}
 use Rattle.arbitration.specs.Slots.{Slot, emptySlot, slotFor, slotBody, sameSlot}
 use Rattle.arbitration.specs.Engine.{Applied, ok, broke, Engine, Store}
+use Rattle.arbitration.specs.declared.Counts.{Counts}
 
 -- how a record is answered
 pub data Answer : Type 0 where
@@ -67,15 +65,8 @@ pub record Said : Type 0 where
 unfoldable pub count : ℕ → List Said → ℕ
 count q l = countBy (λ x. eqb (codeOf (x .answer)) q) l
 
-pub record Counts : Type 0 where
-  pub c10 : ℕ
-  pub c11 : ℕ
-  pub c12 : ℕ
-  pub c13 : ℕ
-  pub c14 : ℕ
-
 unfoldable pub countsOf : List Said → Counts
-countsOf l = record { c10 = count 10 l; c11 = count 11 l; c12 = count 12 l; c13 = count 13 l; c14 = count 14 l }
+countsOf l = record { taken = count 10 l; old = count 11 l; far = count 12 l; repeated = count 13 l; differing = count 14 l }
 
 -- "The packet's answer tells how many records got each of 10 to 14, the next number, how many messages were applied (the growth of next),
 -- the highest number on the shelf (0 if none), and the stop"
@@ -86,18 +77,13 @@ pub record Told : Type 0 where
   pub top : ℕ
   pub stopped : ℕ
 
--- "Each refusal returns its number alone"
-pub data Reply : Type 0 where
-  refused : Refusal → Reply
-  answered : Told → Reply
-
 -- the records of a packet, none of a refused one
-abbrev pub recordsOf : Framing → List Rec
+abbrev pub recordsOf : {Q : Type 0} → Frames Q → List Rec
 recordsOf (bad q) = []
 recordsOf (records cs) = cs
 
 -- the accepted records of packets, in their order
-unfoldable pub accepted : (List ℕ → Framing) → List (List ℕ) → List Rec
+unfoldable pub accepted : {Q : Type 0} → (List ℕ → Frames Q) → List (List ℕ) → List Rec
 accepted frame [] = []
 accepted frame (p ∷ ps) = recordsOf (frame p) ++ accepted frame ps
 
@@ -173,15 +159,11 @@ module _ (S : Store) (E : Engine) where
       }
 
   -- a packet: "Each refusal returns its number alone; tables, output and state keep every byte"
-  unfoldable pub reply : Framing → State → Reply
-  reply (bad q) r = refused q
-  reply (records cs) r = answered (told cs r)
-
-  unfoldable pub worked : Framing → State → State
+  unfoldable pub worked : {Q : Type 0} → Frames Q → State → State
   worked (bad q) r = r
   worked (records cs) r = run cs r
 
   -- packets, one after another
-  unfoldable pub receives : (List ℕ → Framing) → List (List ℕ) → State → State
+  unfoldable pub receives : {Q : Type 0} → (List ℕ → Frames Q) → List (List ℕ) → State → State
   receives frame [] r = r
   receives frame (p ∷ ps) r = receives frame ps (worked (frame p) r)

@@ -2,15 +2,17 @@
 -- then a list of events: a record came, or a refresh was taken.
 use Prim.Native.Nat.{ℕ, zero, suc, _+_, _≤_}
 use mathlib.Core.Path.{_≡_}
+use mathlib.Core.Bool.{true}
 use mathlib.Core.List.{List, [], _∷_}
 use lib.ListN.{length}
 use lib.Dec.{leb}
 use Rattle.facts.specs.Pick.{pick}
+use Rattle.wire.specs.Le.{Bytes}
 use Rattle.wire.specs.Records.{Rec}
 use Rattle.arbitration.specs.Slots.{emptySlot}
 use Rattle.arbitration.specs.Engine.{Applied, ok, broke, Engine, Store}
 use Rattle.arbitration.specs.Receive.{State, drain, judged, after}
-use Rattle.arbitration.specs.Demand3.{Copy, Arrived, msg}
+use Rattle.arbitration.specs.Lists.{Copy, Arrived, msg}
 
 -- the first n slots, with those "numbered s or lower" emptied
 unfoldable pub cleared : (S : Store) → ℕ → ℕ → S .Shelf → S .Shelf
@@ -57,14 +59,15 @@ module _ (S : Store) (E : Engine) where
     by-refresh : {s : ℕ} {b : E .Book} {es : List Event} {r : State S E} → n ≤ s → AnsweredE n (took s b ∷ es) r
     later : {e : Event} {es : List Event} {r : State S E} → AnsweredE n es (afterE e r) → AnsweredE n (e ∷ es) r
 
--- "said of symbols, statuses and orders without rank or place in a table": a view of the book, and what a message does to the view "with room for all of it"
+-- "said of symbols, statuses and orders without rank or place in a table": a view of the book, and what a message does to the view "with room for all of it".
+-- Its laws are asked for messages that a run applies: numbered from 1, of bytes, and good
 pub record Ideal (E : Engine) : Type 1 where
   pub View : Type 0
   pub view : E .Book → View
   pub step : ℕ → List ℕ → View → Applied View
   pub Sound : E .Book → Type 0
-  pub keeps : (n : ℕ) (b : List ℕ) (x y : E .Book) → Sound x → E .apply n b x ≡ ok y → Sound y
-  pub law : (n : ℕ) (b : List ℕ) (x y : E .Book) → Sound x → E .apply n b x ≡ ok y → step n b (view x) ≡ ok (view y)
+  pub keeps : (n : ℕ) (b : List ℕ) (x y : E .Book) → 1 ≤ n → Bytes b → E .good b ≡ true → Sound x → E .apply n b x ≡ ok y → Sound y
+  pub law : (n : ℕ) (b : List ℕ) (x y : E .Book) → 1 ≤ n → Bytes b → E .good b ≡ true → Sound x → E .apply n b x ≡ ok y → step n b (view x) ≡ ok (view y)
 
 -- "the list's state .., worked from message 1 as if never refreshed"
 unfoldable pub ideal : (E : Engine) (I : Ideal E) → List (List ℕ) → I .View → ℕ → Applied (I .View)

@@ -4,14 +4,14 @@ use mathlib.Core.Path.{_≡_, refl}
 use mathlib.Core.List.{List, [], _∷_, map}
 use mathlib.Core.Bool.{Bool, true, false}
 use mathlib.Core.Logic.{⊎-elim}
-use Prim.Native.Nat.{ℕ, suc, _≤_, _<_}
+use Prim.Native.Nat.{ℕ, suc, _+_, _≤_, _<_}
 use native.Mathlib.Omega.{arith}
 use lib.Dec.{eqb}
 use borrow.Author.Tests.{eq-eqb}
 use Rattle.facts.specs.Pick.{either}
 use Rattle.facts.specs.Sums.{sumBy, onlyIf}
 use Rattle.facts.proofs.Picks.{either-true}
-use Rattle.facts.proofs.SumLaws.{only-yes}
+use Rattle.facts.proofs.SumLaws.{only-yes, only-no}
 use Rattle.ascend.specs.Ascend.{has, anyBy}
 use Rattle.ascend.proofs.Laws.{Rising}
 use Rattle.ascend.proofs.Places.{All}
@@ -48,3 +48,13 @@ pub any-sum : {A : Type 0} (q : A → Bool) (f : A → ℕ) → ((x : A) → q x
 unfolding anyBy sumBy
 any-sum q f h [] e = let z : _≡_ {A = ℕ} 0 1 = cc in absurd (omega arith)
 any-sum q f h (x ∷ xs) e = ⊎-elim (λ w. omega (arith, only-yes q f x w, h x w)) (λ w. omega (arith, any-sum q f h xs w)) (either-true e)
+
+-- and none that passes an empty one
+pub none-sum : {A : Type 0} (q : A → Bool) (f : A → ℕ) (xs : List A) → anyBy q xs ≡ false → sumBy (onlyIf q f) xs ≡ 0
+unfolding anyBy sumBy either
+none-sum q f [] e = refl
+none-sum q f (x ∷ xs) e = go (none-sum q f xs) (q x) refl e
+  where
+    go : (anyBy q xs ≡ false → sumBy (onlyIf q f) xs ≡ 0) → (b : Bool) → q x ≡ b → either b (anyBy q xs) ≡ false → onlyIf q f x + sumBy (onlyIf q f) xs ≡ 0
+    go rec true w n = let z : _≡_ {A = ℕ} 0 1 = cc in absurd (omega arith)
+    go rec false w n = omega (arith, only-no q f x w, rec n)

@@ -19,7 +19,7 @@ use Rattle.rows.specs.declared.Held.{Held}
 use Rattle.rows.specs.declared.Held.the-variants.{Live, Nowhere}
 use Rattle.rows.specs.Rows.{rows, live}
 use Rattle.rows.specs.Find.{findOrder, heldAt}
-use Rattle.orders.specs.Shares.{liveShares, under}
+use Rattle.rows.specs.Shares.{liveShares, under}
 use Rattle.orders.proofs.Applied.{row}
 use Rattle.orders.proofs.Shares.{add-shares, modify-shares, delete-shares, execute-shares, clear-shares}
 use Rattle.book.specs.Plan.{moves, rowFor}

@@ -54,10 +54,10 @@ same-stop : {m n : ℕ} → Stop m ≡ Stop n → m ≡ n
 same-stop e = cc
 
 module _ (P : ℕ → Type 0) (q : ℕ) where
-  known-stop : (entry : Found) (p : Plan) → P 20 → (p ≡ Stop q → P q) → ofKnown entry p ≡ Stop q → P q
+  known-stop : (entry : Found) (f : ℕ → Plan) → P 20 → ((e : ℕ) → f e ≡ Stop q → P q) → ofKnown entry f ≡ Stop q → P q
   unfolding ofKnown
-  known-stop (At e) p a f h = f h
-  known-stop Nothing p a f h = subst P (same-stop h) a
+  known-stop (At e) f a g h = g e h
+  known-stop Nothing f a g h = subst P (same-stop h) a
 
   room-stop : (c : Clock) (new : Row) (order : Held) (free : Found) → P 21 → P 25 → roomFor c new order free ≡ Stop q → P q
   unfolding roomFor
@@ -86,19 +86,19 @@ module _ (P : ℕ → Type 0) (q : ℕ) where
 module _ (n : ℕ) (b : List ℕ) (c : Clock) (f : Finds) (q : ℕ) where
   names-breaks : {m : Body} {s : ℕ} → Names m s → planBy m n b c f ≡ Stop q → Breaks m q
   unfolding planBy addPlan modifyPlan deletePlan executionPlan clearPlan
-  names-breaks (clear m) = known-stop (Breaks (Body.SymbolClear m)) q (f .entry (m .symbol)) _ (unknown (clear m)) never-stops
+  names-breaks (clear m) = known-stop (Breaks (Body.SymbolClear m)) q (f .entry (m .symbol)) _ (unknown (clear m)) (λ e. never-stops)
   names-breaks (add m) =
-      known-stop (Breaks (Body.Add m)) q (f .entry (m .symbol)) (roomFor c (rowFor m n) (f .order (m .order)) (f .free)) (unknown (add m))
-      (room-stop (Breaks (Body.Add m)) q c (rowFor m n) (f .order (m .order)) (f .free) (already-live m) (no-row m))
+      known-stop (Breaks (Body.Add m)) q (f .entry (m .symbol)) (λ e. roomFor c (rowFor m n) (f .order (m .order)) (f .free)) (unknown (add m))
+      (λ e. room-stop (Breaks (Body.Add m)) q c (rowFor m n) (f .order (m .order)) (f .free) (already-live m) (no-row m))
   names-breaks (modify m) =
-      known-stop (Breaks (Body.Modify m)) q (f .entry (m .symbol)) (upon (target (f .order (m .order)) (m .symbol)) (modified c m n)) (unknown (modify m))
-      (owned-stop (Breaks (Body.Modify m)) q (f .order (m .order)) (m .symbol) (modified c m n) (not-live (by-modify m)) (elsewhere (by-modify m)) (λ i r. never-stops))
+      known-stop (Breaks (Body.Modify m)) q (f .entry (m .symbol)) (λ e. upon (target (f .order (m .order)) (m .symbol)) (modified c m n)) (unknown (modify m))
+      (λ e. owned-stop (Breaks (Body.Modify m)) q (f .order (m .order)) (m .symbol) (modified c m n) (not-live (by-modify m)) (elsewhere (by-modify m)) (λ i r. never-stops))
   names-breaks (delete m) =
-      known-stop (Breaks (Body.Delete m)) q (f .entry (m .symbol)) (upon (target (f .order (m .order)) (m .symbol)) (deleted c)) (unknown (delete m))
-      (owned-stop (Breaks (Body.Delete m)) q (f .order (m .order)) (m .symbol) (deleted c) (not-live (by-delete m)) (elsewhere (by-delete m)) (λ i r. never-stops))
+      known-stop (Breaks (Body.Delete m)) q (f .entry (m .symbol)) (λ e. upon (target (f .order (m .order)) (m .symbol)) (deleted c)) (unknown (delete m))
+      (λ e. owned-stop (Breaks (Body.Delete m)) q (f .order (m .order)) (m .symbol) (deleted c) (not-live (by-delete m)) (elsewhere (by-delete m)) (λ i r. never-stops))
   names-breaks (execution m) =
-      known-stop (Breaks (Body.Execution m)) q (f .entry (m .symbol)) (upon (target (f .order (m .order)) (m .symbol)) (executed c m)) (unknown (execution m))
-      (owned-stop (Breaks (Body.Execution m)) q (f .order (m .order)) (m .symbol) (executed c m) (not-live (by-execution m)) (elsewhere (by-execution m))
+      known-stop (Breaks (Body.Execution m)) q (f .entry (m .symbol)) (λ e. upon (target (f .order (m .order)) (m .symbol)) (executed c m)) (unknown (execution m))
+      (λ e. owned-stop (Breaks (Body.Execution m)) q (f .order (m .order)) (m .symbol) (executed c m) (not-live (by-execution m)) (elsewhere (by-execution m))
       (λ i r. executed-stop (Breaks (Body.Execution m)) q c m i r (above m)))
 
   kind-breaks : {m : Body} → Kind m → planBy m n b c f ≡ Stop q → Breaks m q

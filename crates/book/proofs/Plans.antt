@@ -33,10 +33,10 @@ pub never-goes : {B : Type 0} {n : ℕ} {w : Works} → Stop n ≡ Go w → B
 never-goes e = let z : _≡_ {A = ℕ} 0 1 = cc in absurd (omega arith)
 
 -- ---- 20
-pub goes-known : (entry : Found) (p : Plan) (w : Works) → ofKnown entry p ≡ Go w → ((e : ℕ) × (entry ≡ At e)) × (p ≡ Go w)
+pub goes-known : (entry : Found) (f : ℕ → Plan) (w : Works) → ofKnown entry f ≡ Go w → (e : ℕ) × (entry ≡ At e) × (f e ≡ Go w)
 unfolding ofKnown
-goes-known (At e) p w h = ((e, refl), h)
-goes-known Nothing p w h = never-goes h
+goes-known (At e) f w h = (e, refl, h)
+goes-known Nothing f w h = never-goes h
 
 -- ---- 22, 23
 pub record Owned (order : Held) (symbol : ℕ) (p : Plan) (f : ℕ → Row → Plan) : Type 0 where
@@ -102,10 +102,10 @@ ruled (stops-orders n a b) = stops n a b
 ruled {c} (goes-orders w) = goes (works c w EntryWork.Keep)
 
 module _ (c : Clock) where
-  pub known-orders : (entry : Found) (p : Plan) → OnOrders c p → OnOrders c (ofKnown entry p)
+  pub known-orders : (entry : Found) (f : ℕ → Plan) → ((e : ℕ) → OnOrders c (f e)) → OnOrders c (ofKnown entry f)
   unfolding ofKnown
-  known-orders (At e) p h = h
-  known-orders Nothing p h = stops-orders 20 (omega arith) (omega arith)
+  known-orders (At e) f h = h e
+  known-orders Nothing f h = stops-orders 20 (omega arith) (omega arith)
 
   pub room-orders : (new : Row) (order : Held) (free : Found) → OnOrders c (roomFor c new order free)
   unfolding roomFor

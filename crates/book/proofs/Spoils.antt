@@ -1,7 +1,6 @@
 -- No message spoils a row: what it puts is an Add's or a Modify's row, in range by the reading of its body, or one with fewer shares, or all zero.
 -- Assumes nothing.
 use mathlib.Core.Path.{_≡_, refl, sym, ap, subst, _∙_}
-use mathlib.Core.Bool.{true}
 use mathlib.Core.List.{List}
 use mathlib.Core.Logic.{inl, inr, ⊎-elim}
 use Prim.Native.Nat.{ℕ, _≤_}
@@ -10,14 +9,15 @@ use Rattle.wire.specs.Le.{Bytes}
 use Rattle.fields.specs.declared.Body.{Body}
 use Rattle.body.specs.Read.{readBody}
 use Rattle.body.proofs.Laws.{read-sound}
-use Rattle.rows.specs.Rows.{zeroRow, live, spoiled}
+use Rattle.rows.specs.Rows.{rows, zeroRow, live}
+use Rattle.rows.specs.Tidy.{Unspoiled}
 use Rattle.rows.proofs.Judged.{zero-free}
 use Rattle.orders.specs.Work.{remade, reduced}
 use Rattle.orders.proofs.Applied.{row}
-use Rattle.orders.proofs.Spoils.{Sane, sane-not-spoiled, not-spoiled-sane, add-sane, named-sane, clear-sane, reduced-sane}
+use Rattle.orders.proofs.Spoils.{Sane, sane-unspoiled, unspoiled-sane, add-sane, named-sane, clear-sane, reduced-sane}
 use Rattle.book.specs.Plan.{moves, rowFor}
 use Rattle.book.specs.Book.{Book, applied}
-use Rattle.book.proofs.Steps.{broken-keeps, Names, orders-kept}
+use Rattle.book.proofs.Steps.{broken-keeps, Names, orders-named}
 use Rattle.book.proofs.Theorems.{row-live, add-entered, modify-done, modify-live, delete-done, execution-done, clear-done}
 
 module _ (n : ℕ) (b : List ℕ) (k : Book) (ranked : 1 ≤ n) (bytes : Bytes b) where
@@ -38,9 +38,9 @@ module _ (n : ℕ) (b : List ℕ) (k : Book) (ranked : 1 ≤ n) (bytes : Bytes b
   stays-sane j h = go (ℕ-discrete (applied n b k .rule) 0)
     where
       go : Dec (applied n b k .rule ≡ 0) → Sane (row (applied n b k .after .orders) j)
-      go (yes z) = ⊎-elim (λ x. sane-by (readBody b) (x .0) (x .1) refl z j h) (λ e. subst (λ t. Sane (row t j)) (sym e) h) (orders-kept n b k)
+      go (yes z) = ⊎-elim (λ x. sane-by (readBody b) (x .0) (x .1) refl z j h) (λ e. subst (λ t. Sane (row t j)) (sym e) h) (orders-named n b k)
       go (no x) = subst (λ (u : Book). Sane (row (u .orders) j)) (sym (broken-keeps n b k x)) h
 
-  -- so a row that is spoiled afterwards was spoiled before
-  pub none-spoiled : (j : ℕ) → (spoiled (row (k .orders) j) ≡ true → ⊥) → spoiled (row (applied n b k .after .orders) j) ≡ true → ⊥
-  none-spoiled j h = sane-not-spoiled (row (applied n b k .after .orders) j) (stays-sane j (not-spoiled-sane (row (k .orders) j) h))
+  -- so a row that is not spoiled never becomes so
+  pub unspoiled-kept : Unspoiled (rows (k .orders)) → Unspoiled (rows (applied n b k .after .orders))
+  unspoiled-kept h j = sane-unspoiled (row (applied n b k .after .orders) j) (stays-sane j (unspoiled-sane (row (k .orders) j) (h j)))

@@ -39,7 +39,8 @@ use Rattle.book.specs.declared.Works.{Works}
 use Rattle.book.specs.declared.Plan.{Plan}
 use Rattle.book.specs.declared.Plan.the-variants.{Stop, Go}
 use Rattle.book.specs.Plan.{clock, works, onRows, idle, ofKnown, target, upon, moves, rowFor, roomFor, addPlan, modified, modifyPlan, deleted, deletePlan, executed, executionPlan, clearPlan, updatePlan, Finds, planBy}
-use Rattle.book.specs.Book.{Book, book, outcome, scans, planned, carried, applied}
+use Rattle.book.specs.Parts.{the-second, the-symbols, the-orders, no-part, partOf}
+use Rattle.book.specs.Book.{Book, book, effect, scans, planned, carried, applied}
 use Rattle.book.proofs.Laws.{planned-by, carried-by}
 use Rattle.book.proofs.Plans.{Ruled, stops, goes, OnOrders, stops-orders, goes-orders, ruled, known-orders, room-orders, named-orders, executed-orders}
 
@@ -118,27 +119,51 @@ names-good (modify m) = refl
 names-good (delete m) = refl
 names-good (execution m) = refl
 
+names-part : {m : Body} {s : ℕ} → Names m s → partOf m ≡ the-orders
+unfolding partOf
+names-part (clear m) = refl
+names-part (add m) = refl
+names-part (modify m) = refl
+names-part (delete m) = refl
+names-part (execution m) = refl
+
 other-good : {m : Body} → Other m → bodyNumber m ≡ 0
 other-good state = refl
 other-good (status m) = refl
 other-good (trade m) = refl
 other-good (cancel m) = refl
 
+other-part : {m : Body} → Other m → partOf m ≡ no-part
+unfolding partOf
+other-part state = refl
+other-part (status m) = refl
+other-part (trade m) = refl
+other-part (cancel m) = refl
+
+-- a Symbol Update alone may change the symbol table
+pub part-update : {m : Body} → Kind m → partOf m ≡ the-symbols → m ≡ Body.SymbolUpdate
+unfolding partOf
+part-update update q = refl
+part-update (time s) q = let z : _≡_ {A = ℕ} 0 1 = cc in absurd (omega arith)
+part-update (names x) q = let y : the-orders ≡ the-symbols = sym (names-part x) ∙ q in let z : _≡_ {A = ℕ} 0 1 = cc in absurd (omega arith)
+part-update (other x) q = let y : no-part ≡ the-symbols = sym (other-part x) ∙ q in let z : _≡_ {A = ℕ} 0 1 = cc in absurd (omega arith)
+part-update (refused r) q = let z : _≡_ {A = ℕ} 0 1 = cc in absurd (omega arith)
+
 -- ---- the plan of each
 module _ (n : ℕ) (b : List ℕ) (c : Clock) (f : Finds) where
   names-orders : {m : Body} {s : ℕ} → Names m s → OnOrders c (planBy m n b c f)
   unfolding planBy addPlan modifyPlan deletePlan executionPlan clearPlan
-  names-orders (clear m) = known-orders c (f .entry (m .symbol)) (onRows c (RowWork.Clear (m .symbol))) (goes-orders (RowWork.Clear (m .symbol)))
-  names-orders (add m) = known-orders c (f .entry (m .symbol)) (roomFor c (rowFor m n) (f .order (m .order)) (f .free)) (room-orders c (rowFor m n) (f .order (m .order)) (f .free))
+  names-orders (clear m) = known-orders c (f .entry (m .symbol)) (λ e. onRows c (RowWork.Clear (m .symbol))) (λ e. goes-orders (RowWork.Clear (m .symbol)))
+  names-orders (add m) = known-orders c (f .entry (m .symbol)) (λ e. roomFor c (rowFor m n) (f .order (m .order)) (f .free)) (λ e. room-orders c (rowFor m n) (f .order (m .order)) (f .free))
   names-orders (modify m) =
-      known-orders c (f .entry (m .symbol)) (upon (target (f .order (m .order)) (m .symbol)) (modified c m n))
-      (named-orders c (f .order (m .order)) (m .symbol) (modified c m n) (λ i r. goes-orders (RowWork.Put i (remade (m .price) (m .size) (moves (m .flags)) n r))))
+      known-orders c (f .entry (m .symbol)) (λ e. upon (target (f .order (m .order)) (m .symbol)) (modified c m n))
+      (λ e. named-orders c (f .order (m .order)) (m .symbol) (modified c m n) (λ i r. goes-orders (RowWork.Put i (remade (m .price) (m .size) (moves (m .flags)) n r))))
   names-orders (delete m) =
-      known-orders c (f .entry (m .symbol)) (upon (target (f .order (m .order)) (m .symbol)) (deleted c))
-      (named-orders c (f .order (m .order)) (m .symbol) (deleted c) (λ i r. goes-orders (RowWork.Put i zeroRow)))
+      known-orders c (f .entry (m .symbol)) (λ e. upon (target (f .order (m .order)) (m .symbol)) (deleted c))
+      (λ e. named-orders c (f .order (m .order)) (m .symbol) (deleted c) (λ i r. goes-orders (RowWork.Put i zeroRow)))
   names-orders (execution m) =
-      known-orders c (f .entry (m .symbol)) (upon (target (f .order (m .order)) (m .symbol)) (executed c m))
-      (named-orders c (f .order (m .order)) (m .symbol) (executed c m) (executed-orders c m))
+      known-orders c (f .entry (m .symbol)) (λ e. upon (target (f .order (m .order)) (m .symbol)) (executed c m))
+      (λ e. named-orders c (f .order (m .order)) (m .symbol) (executed c m) (executed-orders c m))
 
   names-unknown : {m : Body} {s : ℕ} → Names m s → f .entry s ≡ Nothing → planBy m n b c f ≡ Stop 20
   unfolding planBy addPlan modifyPlan deletePlan executionPlan clearPlan ofKnown
@@ -267,36 +292,47 @@ module _ (n : ℕ) (b : List ℕ) (k : Book) where
   unfolding applied
   applied-all = carried-all (planned n b k) b k
 
-  -- the order table is changed by a message that names a symbol, and by no other
-  pub orders-kept : ((s : ℕ) × Names (readBody b) s) ⊎ (applied n b k .after .orders ≡ k .orders)
+  -- it names a symbol, or the order table is as it was
+  pub orders-named : ((s : ℕ) × Names (readBody b) s) ⊎ (applied n b k .after .orders ≡ k .orders)
   unfolding committed planned
-  orders-kept =
+  orders-named =
       ⊎-elim inl (λ e. inr (ap (λ x. x .orders) applied-all ∙ ap (λ w. committed w (k .orders)) e))
       (kind-rows n b (k .clock) (scans k) (kind-of (readBody b)))
 
-  -- the symbol table by a Symbol Update, and by no other
-  pub symbols-kept : (readBody b ≡ Body.SymbolUpdate) ⊎ (applied n b k .after .symbols ≡ k .symbols)
+  -- it is a Symbol Update, or the symbol table is as it was
+  pub symbols-updated : (readBody b ≡ Body.SymbolUpdate) ⊎ (applied n b k .after .symbols ≡ k .symbols)
   unfolding entered planned
-  symbols-kept =
+  symbols-updated =
       ⊎-elim inl (λ e. inr (ap (λ x. x .symbols) applied-all ∙ ap (λ w. entered w b (k .symbols)) e))
       (kind-entries n b (k .clock) (scans k) (kind-of (readBody b)))
 
-  -- the second by a System Time, and by no other
-  pub clock-kept : ((s : ℕ) × (readBody b ≡ Body.SystemTime s)) ⊎ (applied n b k .after .clock ≡ k .clock)
+  clock-timed : ((s : ℕ) × (readBody b ≡ Body.SystemTime s)) ⊎ (applied n b k .after .clock ≡ k .clock)
   unfolding planned
-  clock-kept = ⊎-elim inl (λ e. inr (ap (λ x. x .clock) applied-all ∙ e)) (kind-clock n b (k .clock) (scans k) (kind-of (readBody b)))
+  clock-timed = ⊎-elim inl (λ e. inr (ap (λ x. x .clock) applied-all ∙ e)) (kind-clock n b (k .clock) (scans k) (kind-of (readBody b)))
 
-  pub second-set : (c : ℕ) → readBody b ≡ Body.SystemTime c → applied n b k ≡ outcome 0 (book (k .orders) (k .symbols) (clock c))
+  -- each part of the book is left by every message but those of that part
+  pub orders-kept : (partOf (readBody b) ≡ the-orders → ⊥) → applied n b k .after .orders ≡ k .orders
+  orders-kept h = ⊎-elim (λ x. absurd (h (names-part (x .1)))) (λ e. e) orders-named
+
+  pub symbols-kept : (partOf (readBody b) ≡ the-symbols → ⊥) → applied n b k .after .symbols ≡ k .symbols
+  unfolding partOf
+  symbols-kept h = ⊎-elim (λ e. absurd (h (ap partOf e))) (λ e. e) symbols-updated
+
+  pub clock-kept : (partOf (readBody b) ≡ the-second → ⊥) → applied n b k .after .clock ≡ k .clock
+  unfolding partOf
+  clock-kept h = ⊎-elim (λ x. absurd (h (ap partOf (x .1)))) (λ e. e) clock-timed
+
+  pub second-set : (c : ℕ) → readBody b ≡ Body.SystemTime c → applied n b k ≡ effect 0 (book (k .orders) (k .symbols) (clock c))
   unfolding planBy carried committed entered
   second-set c e = sym (carried-by (idle (clock c)) n b k (sym (planned-by (Body.SystemTime c) n b k e)))
 
   -- "The other four apply without changing a table"
-  pub other-four : Other (readBody b) → applied n b k ≡ outcome 0 k
+  pub other-four : Other (readBody b) → applied n b k ≡ effect 0 k
   unfolding carried committed entered
   other-four h = sym (carried-by (idle (k .clock)) n b k (sym (planned-by (readBody b) n b k refl) ∙ other-idle n b (k .clock) (scans k) h))
 
   -- an unknown symbol breaks 20, whatever the order table holds
-  pub unknown-symbol : (s : ℕ) → Names (readBody b) s → knownSymbol s (entries (k .symbols)) ≡ false → applied n b k ≡ outcome 20 k
+  pub unknown-symbol : (s : ℕ) → Names (readBody b) s → knownSymbol s (entries (k .symbols)) ≡ false → applied n b k ≡ effect 20 k
   unfolding carried
   unknown-symbol s h u =
       sym (carried-by (Stop 20) n b k (sym (planned-by (readBody b) n b k refl) ∙ names-unknown n b (k .clock) (scans k) h (unknown-nowhere s (entries (k .symbols)) u)))

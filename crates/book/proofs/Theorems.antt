@@ -8,7 +8,7 @@ use mathlib.Core.Logic.{⊎-elim}
 use Prim.Native.Nat.{ℕ, _%_, _≤_, _<_}
 use native.Mathlib.Omega.{arith}
 use native.Mathlib.Decide.{ℕ-discrete}
-use lib.ListN.{getD, replicate}
+use lib.ListN.{getD, set}
 use borrow.Author.Tests.{eq-eqb, ne-eqb}
 use Rattle.facts.specs.declared.Found.the-variants.{At, Nothing}
 use Rattle.wire.specs.Le.{Bytes}
@@ -24,20 +24,20 @@ use Rattle.body.proofs.Laws.{Sound, read-sound}
 use Rattle.rows.specs.declared.Row.{Row}
 use Rattle.rows.specs.Rows.{rows, zeroRow, symbolOf, free, live}
 use Rattle.rows.specs.Find.{findOrder, findFree, heldAt, ofSymbol}
+use Rattle.rows.specs.Tidy.{Unique}
 use Rattle.rows.proofs.Judged.{ranges-live}
 use Rattle.symbols.specs.declared.EntryWork.{EntryWork}
-use Rattle.symbols.specs.Entries.{entries, putEntry, used, idOf}
+use Rattle.symbols.specs.Entries.{entries, entryOf, putEntry, used, idOf}
 use Rattle.symbols.specs.Find.{findSymbol, knownSymbol, placeFor}
 use Rattle.symbols.specs.Work.{entered}
 use Rattle.symbols.proofs.EntryLaws.{entries-put}
 use Rattle.symbols.proofs.FindLaws.{known-found}
 use Rattle.symbols.proofs.UpdateLaws.{known-after, known-stays}
-use Rattle.symbols.proofs.StartLaws.{Distinct, wiped-distinct, distinct-kept}
 use Rattle.orders.specs.declared.RowWork.{RowWork}
 use Rattle.orders.specs.Work.{remade, less, reduced, cleared, committed}
 use Rattle.orders.proofs.Applied.{row, Added, Named, Remade, put-added, put-named, modify-row}
 use Rattle.orders.proofs.Clears.{clear-gone, clear-kept}
-use Rattle.orders.proofs.Unique.{Unique, add-unique, modify-unique, delete-unique, execute-unique, clear-unique, zero-unique}
+use Rattle.orders.proofs.Unique.{add-unique, modify-unique, delete-unique, execute-unique, clear-unique}
 use Rattle.orders.proofs.Shares.{remade-live}
 use Rattle.orders.proofs.Again.{all-executed, part-executed, gone-free, gone-nowhere, room-again}
 use Rattle.book.specs.declared.Clock.{Clock}
@@ -48,7 +48,7 @@ use Rattle.book.specs.Plan.{works, onRows, ofKnown, target, upon, moves,
 use Rattle.book.specs.Book.{Book, book, orderIn, scans, planned, carried, applied}
 use Rattle.book.proofs.Laws.{side-small, planned-by, carried-by}
 use Rattle.book.proofs.Plans.{goes-known, Owned, goes-owned, held-live, held-nowhere, goes-room, goes-executed, goes-update}
-use Rattle.book.proofs.Steps.{went, broken-keeps, Names, orders-kept, symbols-kept}
+use Rattle.book.proofs.Steps.{went, broken-keeps, Names, orders-named, symbols-updated}
 
 -- ---- a message that applied, by the case of its body: its plan, and the tables after it
 record Done (m : Body) (n : ℕ) (b : List ℕ) (k : Book) : Type 0 where
@@ -112,8 +112,8 @@ module _ (m : AddOrder) (n : ℕ) where
       add-entered =
           let d = done (Body.Add m) n b k e z in
           let t = k .orders in
-          let g = goes-known (findSymbol (m .symbol) (entries (k .symbols))) (roomFor (k .clock) (rowFor m n) (orderIn (m .order) t) (findFree (rows t))) (d .does) (d .plan-is) in
-          let r = goes-room (k .clock) (rowFor m n) (orderIn (m .order) t) (findFree (rows t)) (d .does) (g .1) in
+          let g = goes-known (findSymbol (m .symbol) (entries (k .symbols))) (λ e. roomFor (k .clock) (rowFor m n) (orderIn (m .order) t) (findFree (rows t))) (d .does) (d .plan-is) in
+          let r = goes-room (k .clock) (rowFor m n) (orderIn (m .order) t) (findFree (rows t)) (d .does) (g .2) in
           let j = r .1 .0 in
           subst (Added (rowFor m n) t) (sym (d .orders-are ∙ ap (λ (x : Works). committed (x .orders) t) (sym (r .1 .2))))
           (put-added (rowFor m n) t j (held-nowhere (findOrder (m .order) (rows t)) (rows t) (r .0)) (r .1 .1))
@@ -132,8 +132,8 @@ module _ (m : ModifyOrder) (n : ℕ) (b : List ℕ) (k : Book) (e : readBody b �
   modify-done =
       let d = done (Body.Modify m) n b k e z in
       let t = k .orders in
-      let g = goes-known (findSymbol (m .symbol) (entries (k .symbols))) (upon (target (orderIn (m .order) t) (m .symbol)) (modified (k .clock) m n)) (d .does) (d .plan-is) in
-      let x = goes-owned (orderIn (m .order) t) (m .symbol) (modified (k .clock) m n) (d .does) (g .1) in
+      let g = goes-known (findSymbol (m .symbol) (entries (k .symbols))) (λ e. upon (target (orderIn (m .order) t) (m .symbol)) (modified (k .clock) m n)) (d .does) (d .plan-is) in
+      let x = goes-owned (orderIn (m .order) t) (m .symbol) (modified (k .clock) m n) (d .does) (g .2) in
       let q = owner (m .order) (m .symbol) k (Go (d .does)) (modified (k .clock) m n) x in
       let y : works (k .clock) (RowWork.Put (x .place) (remade (m .price) (m .size) (moves (m .flags)) n (x .held))) EntryWork.Keep ≡ d .does = cc (x .goes) in
       named-by (m .order) (m .symbol) (remade (m .price) (m .size) (moves (m .flags)) n) t (applied n b k .after .orders) (d .does .orders) (x .place) (x .held) (q .0) (q .1) (x .under) (ap (λ (o : Works). o .orders) y) (d .orders-are)
@@ -168,8 +168,8 @@ module _ (m : DeleteOrder) (n : ℕ) (b : List ℕ) (k : Book) (e : readBody b �
   delete-done =
       let d = done (Body.Delete m) n b k e z in
       let t = k .orders in
-      let g = goes-known (findSymbol (m .symbol) (entries (k .symbols))) (upon (target (orderIn (m .order) t) (m .symbol)) (deleted (k .clock))) (d .does) (d .plan-is) in
-      let x = goes-owned (orderIn (m .order) t) (m .symbol) (deleted (k .clock)) (d .does) (g .1) in
+      let g = goes-known (findSymbol (m .symbol) (entries (k .symbols))) (λ e. upon (target (orderIn (m .order) t) (m .symbol)) (deleted (k .clock))) (d .does) (d .plan-is) in
+      let x = goes-owned (orderIn (m .order) t) (m .symbol) (deleted (k .clock)) (d .does) (g .2) in
       let q = owner (m .order) (m .symbol) k (Go (d .does)) (deleted (k .clock)) x in
       let y : works (k .clock) (RowWork.Put (x .place) zeroRow) EntryWork.Keep ≡ d .does = cc (x .goes) in
       named-by (m .order) (m .symbol) (λ r. zeroRow) t (applied n b k .after .orders) (d .does .orders) (x .place) (x .held) (q .0) (q .1) (x .under) (ap (λ (o : Works). o .orders) y) (d .orders-are)
@@ -184,8 +184,8 @@ module _ (m : OrderExecution) (n : ℕ) (b : List ℕ) (k : Book) (e : readBody 
   execution-both =
       let d = done (Body.Execution m) n b k e z in
       let t = k .orders in
-      let g = goes-known (findSymbol (m .symbol) (entries (k .symbols))) (upon (target (orderIn (m .order) t) (m .symbol)) (executed (k .clock) m)) (d .does) (d .plan-is) in
-      let x = goes-owned (orderIn (m .order) t) (m .symbol) (executed (k .clock) m) (d .does) (g .1) in
+      let g = goes-known (findSymbol (m .symbol) (entries (k .symbols))) (λ e. upon (target (orderIn (m .order) t) (m .symbol)) (executed (k .clock) m)) (d .does) (d .plan-is) in
+      let x = goes-owned (orderIn (m .order) t) (m .symbol) (executed (k .clock) m) (d .does) (g .2) in
       let q = owner (m .order) (m .symbol) k (Go (d .does)) (executed (k .clock) m) x in
       let y = goes-executed (k .clock) m (x .place) (x .held) (d .does) (x .goes) in
       let v = named-by (m .order) (m .symbol) (reduced (m .size)) t (applied n b k .after .orders) (d .does .orders) (x .place) (x .held) (q .0) (q .1) (x .under) (ap (λ (o : Works). o .orders) (y .1)) (d .orders-are) in
@@ -218,8 +218,8 @@ module _ (m : SymbolClear) (n : ℕ) (b : List ℕ) (k : Book) (e : readBody b �
   unfolding planBy clearPlan committed
   clear-done =
       let d = done (Body.SymbolClear m) n b k e z in
-      let g = goes-known (findSymbol (m .symbol) (entries (k .symbols))) (onRows (k .clock) (RowWork.Clear (m .symbol))) (d .does) (d .plan-is) in
-      let y : works (k .clock) (RowWork.Clear (m .symbol)) EntryWork.Keep ≡ d .does = cc (g .1) in
+      let g = goes-known (findSymbol (m .symbol) (entries (k .symbols))) (λ e. onRows (k .clock) (RowWork.Clear (m .symbol))) (d .does) (d .plan-is) in
+      let y : works (k .clock) (RowWork.Clear (m .symbol)) EntryWork.Keep ≡ d .does = cc (g .2) in
       d .orders-are ∙ ap (λ (o : Works). committed (o .orders) (k .orders)) (sym y)
 
   pub clear-none : (j : ℕ) → ofSymbol (m .symbol) (row (applied n b k .after .orders) j) ≡ false
@@ -228,9 +228,9 @@ module _ (m : SymbolClear) (n : ℕ) (b : List ℕ) (k : Book) (e : readBody b �
   pub clear-rest : (j : ℕ) → ofSymbol (m .symbol) (row (k .orders) j) ≡ false → row (applied n b k .after .orders) j ≡ row (k .orders) j
   clear-rest j h = rw clear-done (clear-kept (m .symbol) (k .orders) j h)
 
--- ---- Symbol Update: its symbol is known afterwards, and so is each that was
+-- ---- Symbol Update: its symbol is known afterwards
 -- its type byte marks an entry in use
-update-used : (b : List ℕ) → readBody b ≡ Body.SymbolUpdate → used b ≡ true
+pub update-used : (b : List ℕ) → readBody b ≡ Body.SymbolUpdate → used b ≡ true
 unfolding used
 update-used b e = let w = rw e at (read-sound b) in eq-eqb (getD b 0 0) 1 (w .0 .type-is)
 
@@ -253,22 +253,27 @@ module _ (n : ℕ) (b : List ℕ) (k : Book) (e : readBody b ≡ Body.SymbolUpda
   pub update-known : knownSymbol (idOf b) (entries (applied n b k .after .symbols)) ≡ true
   update-known = rw (w .table-is, entries-put (k .symbols) (w .place) b) (known-after b (entries (k .symbols)) (w .place) (w .found) (update-used b e))
 
-  pub update-stays : (s : ℕ) → knownSymbol s (entries (k .symbols)) ≡ true → knownSymbol s (entries (applied n b k .after .symbols)) ≡ true
-  update-stays s h = rw (w .table-is, entries-put (k .symbols) (w .place) b) (known-stays b (entries (k .symbols)) (w .place) (w .found) (update-used b e) s h)
-
-  update-distinct : Distinct (entries (k .symbols)) → Distinct (entries (applied n b k .after .symbols))
-  update-distinct d = rw (w .table-is, entries-put (k .symbols) (w .place) b) (distinct-kept b (entries (k .symbols)) (w .place) (w .found) (update-used b e) d)
-
--- ---- live order IDs and used symbols stay unique
-pub record Single (k : Book) : Type 0 where
-  pub orders : Unique (rows (k .orders))
-  pub symbols : Distinct (entries (k .symbols))
-
--- a start zeroes both tables
-pub zero-single : (n m : ℕ) (c : Clock) → Single (book (replicate n 0) (replicate m 0) c)
-zero-single n m c = record { orders = zero-unique n; symbols = wiped-distinct m }
-
+-- ---- what an update at its place keeps of the entries, every message keeps
 module _ (n : ℕ) (b : List ℕ) (k : Book) where
+  pub entries-kept : (P : List (List ℕ) → Type 0) → ((i : ℕ) → placeFor (idOf b) (entries (k .symbols)) ≡ At i → used b ≡ true → P (entries (k .symbols)) → P (set (entries (k .symbols)) i (entryOf b)))
+      → P (entries (k .symbols)) → P (entries (applied n b k .after .symbols))
+  entries-kept P f p = go (ℕ-discrete (applied n b k .rule) 0)
+    where
+      go : Dec (applied n b k .rule ≡ 0) → P (entries (applied n b k .after .symbols))
+      go (yes z) =
+          ⊎-elim
+          (λ e.
+          let w = update-done n b k e z in
+          subst P (sym (ap entries (w .table-is) ∙ entries-put (k .symbols) (w .place) b)) (f (w .place) (w .found) (update-used b e) p))
+          (λ e. subst (λ t. P (entries t)) (sym e) p)
+          (symbols-updated n b k)
+      go (no x) = subst (λ (u : Book). P (entries (u .symbols))) (sym (broken-keeps n b k x)) p
+
+  -- a known symbol stays known
+  pub symbol-stays : (s : ℕ) → knownSymbol s (entries (k .symbols)) ≡ true → knownSymbol s (entries (applied n b k .after .symbols)) ≡ true
+  symbol-stays s = entries-kept (λ es. knownSymbol s es ≡ true) (λ i e u h. known-stays b (entries (k .symbols)) i e u s h)
+
+  -- ---- live order IDs stay unique
   unique-by : (m : Body) (s : ℕ) → Names m s → readBody b ≡ m → applied n b k .rule ≡ 0 → Unique (rows (k .orders)) → Unique (rows (applied n b k .after .orders))
   unique-by (Body.SymbolClear m) s h e z v = rw (clear-done m n b k e z) (clear-unique (k .orders) v (m .symbol))
   unique-by (Body.Add m) s h e z v = add-unique (k .orders) v (rowFor m n) (applied n b k .after .orders) (add-entered m n b k e z)
@@ -276,34 +281,22 @@ module _ (n : ℕ) (b : List ℕ) (k : Book) where
   unique-by (Body.Delete m) s h e z v = delete-unique (k .orders) v (m .order) (m .symbol) (applied n b k .after .orders) (delete-done m n b k e z)
   unique-by (Body.Execution m) s h e z v = execute-unique (k .orders) v (m .order) (m .symbol) (m .size) (applied n b k .after .orders) (execution-done m n b k e z)
 
-  -- every message keeps both, whatever its bytes
-  pub single-kept : Single k → Single (applied n b k .after)
-  single-kept h = go (ℕ-discrete (applied n b k .rule) 0)
+  -- whatever the message and its bytes
+  pub unique-kept : Unique (rows (k .orders)) → Unique (rows (applied n b k .after .orders))
+  unique-kept v = go (ℕ-discrete (applied n b k .rule) 0)
     where
-      go : Dec (applied n b k .rule ≡ 0) → Single (applied n b k .after)
-      go (yes z) =
-          record {
-            orders = ⊎-elim (λ x. unique-by (readBody b) (x .0) (x .1) refl z (h .orders)) (λ e. rw e (h .orders)) (orders-kept n b k);
-            symbols = ⊎-elim (λ e. update-distinct n b k e z (h .symbols)) (λ e. rw e (h .symbols)) (symbols-kept n b k);
-          }
-      go (no x) = rw (broken-keeps n b k x) h
-
-  -- a known symbol stays known, whatever the message
-  pub symbol-stays : (s : ℕ) → knownSymbol s (entries (k .symbols)) ≡ true → knownSymbol s (entries (applied n b k .after .symbols)) ≡ true
-  symbol-stays s h = go (ℕ-discrete (applied n b k .rule) 0)
-    where
-      go : Dec (applied n b k .rule ≡ 0) → knownSymbol s (entries (applied n b k .after .symbols)) ≡ true
-      go (yes z) = ⊎-elim (λ e. update-stays n b k e z s h) (λ e. rw e h) (symbols-kept n b k)
-      go (no x) = rw (broken-keeps n b k x) h
+      go : Dec (applied n b k .rule ≡ 0) → Unique (rows (applied n b k .after .orders))
+      go (yes z) = ⊎-elim (λ x. unique-by (readBody b) (x .0) (x .1) refl z v) (λ e. rw e v) (orders-named n b k)
+      go (no x) = rw (broken-keeps n b k x) v
 
 -- ---- a returning order ID is no repeat: after a Delete, or an execution of all shares, an Add of that ID applies
-module _ (k : Book) (v : Single k) (a : AddOrder) (n : ℕ) (b : List ℕ) (e : readBody b ≡ Body.Add a) where
+module _ (k : Book) (v : Unique (rows (k .orders))) (a : AddOrder) (n : ℕ) (b : List ℕ) (e : readBody b ≡ Body.Add a) where
   again : (order symbol : ℕ) (f : Row → Row) (u : Book) (d : Named order symbol f (k .orders) (u .orders)) → f (row (k .orders) (d .place)) ≡ zeroRow
       → a .order ≡ order → knownSymbol (a .symbol) (entries (u .symbols)) ≡ true → applied n b u .rule ≡ 0
   again order symbol f u d g o s =
       let w = known-found (a .symbol) (entries (u .symbols)) s in
       let r = room-again order symbol f (k .orders) (u .orders) d g in
-      add-applies a n b u e (w .place) (r .0) (w .found) (rw o (gone-nowhere order symbol f (k .orders) (u .orders) d g (v .orders))) (r .1)
+      add-applies a n b u e (w .place) (r .0) (w .found) (rw o (gone-nowhere order symbol f (k .orders) (u .orders) d g v)) (r .1)
 
   module _ (n′ : ℕ) (b′ : List ℕ) (z : applied n′ b′ k .rule ≡ 0) where
     pub add-after-delete : (m : DeleteOrder) → readBody b′ ≡ Body.Delete m → a .order ≡ m .order → knownSymbol (a .symbol) (entries (applied n′ b′ k .after .symbols)) ≡ true

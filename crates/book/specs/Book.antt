@@ -23,12 +23,12 @@ abbrev pub book : List ℕ → List ℕ → Clock → Book
 book o s c = record { orders = o; symbols = s; clock = c }
 
 -- the rule that a message breaks, 0 for none, and the book after it
-pub record Outcome : Type 0 where
+pub record Effect : Type 0 where
   pub rule : ℕ
   pub after : Book
 
-abbrev pub outcome : ℕ → Book → Outcome
-outcome n k = record { rule = n; after = k }
+abbrev pub effect : ℕ → Book → Effect
+effect n k = record { rule = n; after = k }
 
 -- "a search for an ID taking the lowest live row or used entry"
 abbrev pub orderIn : ℕ → List ℕ → Held
@@ -48,9 +48,9 @@ unfoldable pub planned : ℕ → List ℕ → Book → Plan
 planned n b k = planBy (readBody b) n b (k .clock) (scans k)
 
 -- a broken rule changes nothing; else each table is left by its own work
-unfoldable pub carried : Plan → List ℕ → Book → Outcome
-carried (Plan.Stop n) b k = outcome n k
-carried (Plan.Go w) b k = outcome 0 (book (committed (w .orders) (k .orders)) (entered (w .symbols) b (k .symbols)) (w .clock))
+unfoldable pub carried : Plan → List ℕ → Book → Effect
+carried (Plan.Stop n) b k = effect n k
+carried (Plan.Go w) b k = effect 0 (book (committed (w .orders) (k .orders)) (entered (w .symbols) b (k .symbols)) (w .clock))
 
-unfoldable pub applied : ℕ → List ℕ → Book → Outcome
+unfoldable pub applied : ℕ → List ℕ → Book → Effect
 applied n b k = carried (planned n b k) b k

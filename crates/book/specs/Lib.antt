@@ -1,2 +1,4 @@
 pub mod Plan
 pub mod Book
+pub mod Parts
+pub mod Tidy

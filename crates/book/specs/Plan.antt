@@ -1,6 +1,6 @@
 -- The book rules, message by message: from what the searches found to what is to be done (document 01: "Each rule is tried in the order given, and
 -- the first broken one counts"). A rule's number is the paper's. Nothing here looks into a table, so whoever searches, the plan is the same.
-use Prim.Native.Nat.{ℕ, _+_, _*_, _%_}
+use Prim.Native.Nat.{ℕ, _%_}
 use mathlib.Core.List.{List}
 use mathlib.Core.Bool.{Bool}
 use lib.Dec.{eqb, ltb}
@@ -16,6 +16,7 @@ use Rattle.fields.specs.declared.SymbolClear.{SymbolClear}
 use Rattle.rows.specs.declared.Row.{Row}
 use Rattle.rows.specs.declared.Held.{Held}
 use Rattle.rows.specs.declared.Held.the-variants.{Live, Nowhere}
+use Rattle.rows.specs.Keys.{keyFor}
 use Rattle.rows.specs.Rows.{zeroRow, symbolOf}
 use Rattle.symbols.specs.declared.EntryWork.{EntryWork}
 use Rattle.symbols.specs.Entries.{idOf}
@@ -42,16 +43,17 @@ abbrev pub idle : Clock → Plan
 idle c = onRows c RowWork.Keep
 
 -- ---- what several messages share
--- "unknown symbol 20", tried first
-unfoldable pub ofKnown : Found → Plan → Plan
-ofKnown (At e) p = p
-ofKnown Nothing p = Stop 20
+-- "unknown symbol 20", tried first; of a known one the place of its entry is handed on
+unfoldable pub ofKnown : Found → (ℕ → Plan) → Plan
+ofKnown (At e) f = f e
+ofKnown Nothing f = Stop 20
 
 -- "order not live 22; live under another symbol 23"
 unfoldable pub target : Held → ℕ → Target
 target Nowhere symbol = Rule 22
 target (Live i r) symbol = pick (eqb (symbolOf r) symbol) (Order i r) (Rule 23)
 
+-- and what is done with the order that is left
 unfoldable pub upon : Target → (ℕ → Row → Plan) → Plan
 upon (Rule n) f = Stop n
 upon (Order i r) f = f i r
@@ -66,7 +68,7 @@ moves flags = eqb (flags % 2) 1
 
 -- "order ID, symbol ID times 2 plus side (buy 0, sell 1), price, size, rank", "rank = sequence number"
 unfoldable pub rowFor : AddOrder → ℕ → Row
-rowFor m n = record { order = m .order; key = m .symbol * 2 + sideOf (m .side); price = m .price; size = m .size; rank = n }
+rowFor m n = record { order = m .order; key = keyFor (m .symbol) (sideOf (m .side)); price = m .price; size = m .size; rank = n }
 
 -- ---- the messages
 -- "Symbol Update replaces that symbol's entry, or takes the lowest free one. None free: 26."
@@ -81,7 +83,7 @@ roomFor c new Nowhere Nothing = Stop 25
 roomFor c new Nowhere (At j) = onRows c (RowWork.Put j new)
 
 unfoldable pub addPlan : Clock → AddOrder → ℕ → Found → Held → Found → Plan
-addPlan c m n entry order free = ofKnown entry (roomFor c (rowFor m n) order free)
+addPlan c m n entry order free = ofKnown entry (λ e. roomFor c (rowFor m n) order free)
 
 -- "Modify: 20; order not live 22; live under another symbol 23. Price and size are replaced. Flag bit 0 set: rank becomes this sequence number.
 -- Clear: the rank stays, whatever changed."
@@ -89,25 +91,25 @@ abbrev pub modified : Clock → ModifyOrder → ℕ → ℕ → Row → Plan
 modified c m n i r = onRows c (RowWork.Put i (remade (m .price) (m .size) (moves (m .flags)) n r))
 
 unfoldable pub modifyPlan : Clock → ModifyOrder → ℕ → Found → Held → Plan
-modifyPlan c m n entry order = ofKnown entry (upon (target order (m .symbol)) (modified c m n))
+modifyPlan c m n entry order = ofKnown entry (λ e. upon (target order (m .symbol)) (modified c m n))
 
 -- "Delete: 20, 22, 23. The row becomes all zero and may be used again."
 abbrev pub deleted : Clock → ℕ → Row → Plan
 deleted c i r = onRows c (RowWork.Put i zeroRow)
 
 unfoldable pub deletePlan : Clock → DeleteOrder → Found → Held → Plan
-deletePlan c m entry order = ofKnown entry (upon (target order (m .symbol)) (deleted c))
+deletePlan c m entry order = ofKnown entry (λ e. upon (target order (m .symbol)) (deleted c))
 
 -- "Order Execution: 20, 22, 23; executed size above the order's 24. The size falls; at zero the order leaves, because no Delete follows a trade (4.6)."
 abbrev pub executed : Clock → OrderExecution → ℕ → Row → Plan
 executed c m i r = pick (ltb (r .size) (m .size)) (Stop 24) (onRows c (RowWork.Put i (reduced (m .size) r)))
 
 unfoldable pub executionPlan : Clock → OrderExecution → Found → Held → Plan
-executionPlan c m entry order = ofKnown entry (upon (target order (m .symbol)) (executed c m))
+executionPlan c m entry order = ofKnown entry (λ e. upon (target order (m .symbol)) (executed c m))
 
 -- "Symbol Clear (4.5): 20. Every live row of that symbol becomes all zero."
 unfoldable pub clearPlan : Clock → SymbolClear → Found → Plan
-clearPlan c m entry = ofKnown entry (onRows c (RowWork.Clear (m .symbol)))
+clearPlan c m entry = ofKnown entry (λ e. onRows c (RowWork.Clear (m .symbol)))
 
 -- ---- any message
 -- what the searches for it would find: the order of an ID, a free row, the entry of a symbol, and the entry that its update takes

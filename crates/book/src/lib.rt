@@ -18,7 +18,7 @@ ghost use Rattle.rows.specs.Find.{findFree};
 ghost use Rattle.symbols.specs.Entries.{entries, idOf};
 ghost use Rattle.symbols.specs.Find.{findSymbol, placeFor};
 ghost use Rattle.book.specs.Plan.{sideOf, moves, rowFor, onRows, idle, ofKnown, target, roomFor, addPlan, modifyPlan, deletePlan, executionPlan, clearPlan, updatePlan};
-ghost use Rattle.book.specs.Book.{orderIn, book, outcome, planned, applied};
+ghost use Rattle.book.specs.Book.{orderIn, book, effect, planned, applied};
 
 // What a book has by value: the current second.
 pub struct Clock {
@@ -50,7 +50,7 @@ pub struct Applied {
     pub clock: Clock,
 }
 
-fn side_of(x: u8) -> u64
+fn side_of(x: u8) -> u8
     ensures { λ r. ⌜ r ≡ sideOf x ⌝ }
 {
     if x == b'B' { 0 } else { 1 }
@@ -66,10 +66,10 @@ fn loses_place(flags: u8) -> bool
 pub fn row_for(m: AddOrder, number: u64) -> Row
     ensures { λ r. ⌜ r ≡ rowFor m number ⌝ }
 {
-    let side = side_of(m.side);
+    let key = rows::key_for(m.symbol, side_of(m.side));
     Row {
         order: m.order,
-        key: (m.symbol as u64) * 2 + side,
+        key,
         price: m.price,
         size: m.size as u64,
         rank: number,
@@ -96,7 +96,7 @@ fn at_rest(clock: Clock) -> Plan
 
 // 20, before whatever else a message breaks or does.
 fn of_known(entry: Found, p: Plan) -> Plan
-    ensures { λ r. ⌜ r ≡ ofKnown entry p ⌝ }
+    ensures { λ r. ⌜ r ≡ ofKnown entry (λ e. p) ⌝ }
 {
     match entry {
         Found::At(_) => p,
@@ -111,7 +111,7 @@ fn target_of(order: Held, symbol: u32) -> Target
     let Held::Live(i, r) = order else {
         return Target::Rule(22);
     };
-    if r.key / 2 != symbol as u64 {
+    if rows::symbol_in(r.key) != symbol as u64 {
         return Target::Rule(23);
     }
     Target::Order(i, r)
@@ -276,7 +276,7 @@ pub fn apply(
     number: u64,
     body: &[u8],
 ) -> Applied
-    ensures { λ r. ⌜ outcome (r .rule) (book (now (orders .exit)) (now (symbols .exit)) (r .clock)) ≡ applied number (now (body .entry)) (book (now (orders .entry)) (now (symbols .entry)) clock) ⌝ }
+    ensures { λ r. ⌜ effect (r .rule) (book (now (orders .exit)) (now (symbols .exit)) (r .clock)) ≡ applied number (now (body .entry)) (book (now (orders .entry)) (now (symbols .entry)) clock) ⌝ }
 {
     match plan_of(orders, symbols, clock, number, body) {
         Plan::Stop(n) => Applied { rule: n, clock },

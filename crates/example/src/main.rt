@@ -68,7 +68,7 @@ fn print(orders: &[u64], symbols: &[u8], t: Stream, text: &mut [u8]) {
     let state = t.receiver;
     match answer_sheet::sheet(text, orders, symbols, state, t.bad, word) {
         SheetAnswer::Refused(_) => refused(),
-        SheetAnswer::Written(n) => {
+        SheetAnswer::Length(n) => {
             io::write_all(STDOUT_FILENO, text::front(text, n));
         }
     }

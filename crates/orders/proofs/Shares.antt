@@ -9,15 +9,16 @@ use native.Mathlib.Omega.{arith}
 use lib.Dec.{eqb}
 use borrow.Author.Tests.{eqb-true, eqb-false}
 use Rattle.facts.specs.Pick.{pick}
-use Rattle.facts.specs.Sums.{sumBy, onlyIf}
+use Rattle.facts.specs.Sums.{sumBy}
 use Rattle.facts.proofs.Picks.{pick-ind}
 use Rattle.facts.proofs.SumLaws.{sum-set, sum-map-as, sum-zero, only-no}
 use Rattle.rows.specs.declared.Row.{Row}
 use Rattle.rows.specs.Rows.{rows, zeroRow, symbolOf, live}
 use Rattle.rows.specs.Find.{ofSymbol}
-use Rattle.rows.proofs.Judged.{free-not-live, zero-not-live, dead-symbol, live-symbol, symbol-is, other-symbol, live-ranges, ranges-live}
+use Rattle.rows.proofs.Judged.{free-not-live, symbol-is, other-symbol, live-ranges, ranges-live}
 use Rattle.orders.specs.Work.{remade, less, reduced, wiped, cleared}
-use Rattle.orders.specs.Shares.{shareOf, liveShares, under}
+use Rattle.rows.specs.Shares.{shareOf, liveShares, under}
+use Rattle.rows.proofs.Shares.{share-dead, share-live, zero-share}
 use Rattle.orders.proofs.Applied.{row, Became, Added, Named}
 use Rattle.orders.proofs.Clears.{wiped-gone, clear-rows}
 
@@ -25,19 +26,7 @@ use Rattle.orders.proofs.Clears.{wiped-gone, clear-rows}
 pub became-sum : (f : Row → ℕ) (t u : List ℕ) (i : ℕ) (r : Row) → Became t u i r → sumBy f (rows u) + f (row t i) ≡ sumBy f (rows t) + f r
 became-sum f t u i r b = rw (b .all) (sum-set f (rows t) i r zeroRow (b .there))
 
--- ---- the shares of one row
-module _ (s : ℕ) (r : Row) where
-  pub share-dead : live r ≡ false → shareOf s r ≡ 0
-  unfolding shareOf
-  share-dead l = only-no (ofSymbol s) (λ x. x .size) r (dead-symbol s r l)
-
-  pub share-live : live r ≡ true → shareOf s r ≡ under s (symbolOf r) (r .size)
-  unfolding shareOf onlyIf under
-  share-live l = rw (live-symbol s r l)
-
-zero-share : (s : ℕ) → shareOf s zeroRow ≡ 0
-zero-share s = share-dead s zeroRow zero-not-live
-
+-- ---- shares of a message's symbol
 under-none : (s own : ℕ) → under s own 0 ≡ 0
 unfolding under
 under-none s own = pick-ind (λ k. k ≡ 0) (eqb own s) 0 0 (λ e. refl) (λ e. refl)

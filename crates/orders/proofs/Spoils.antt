@@ -2,7 +2,7 @@
 -- Assumes nothing.
 use mathlib.Core.Path.{_≡_, sym, ap, subst, _∙_}
 use mathlib.Core.List.{List}
-use mathlib.Core.Bool.{true, true≢false}
+use mathlib.Core.Bool.{true, false, true≢false}
 use mathlib.Core.Logic.{_⊎_, inl, inr}
 use Prim.Native.Nat.{ℕ, _-_}
 use native.Mathlib.Decide.{ℕ-discrete}
@@ -22,22 +22,22 @@ use Rattle.orders.proofs.Shares.{less-live}
 abbrev pub Sane : Row → Type 0
 Sane r = (live r ≡ true) ⊎ (free r ≡ true)
 
-pub sane-not-spoiled : (r : Row) → Sane r → spoiled r ≡ true → ⊥
-sane-not-spoiled r s e = go (one-kind r) s
+pub sane-unspoiled : (r : Row) → Sane r → spoiled r ≡ false
+sane-unspoiled r s = go (one-kind r) s
   where
-    go : Kind r → Sane r → ⊥
-    go (is-free p q x) s = true≢false (sym e ∙ x)
-    go (is-live p q x) s = true≢false (sym e ∙ x)
-    go (is-spoiled p q x) (inl l) = true≢false (sym l ∙ q)
-    go (is-spoiled p q x) (inr f) = true≢false (sym f ∙ p)
+    go : Kind r → Sane r → spoiled r ≡ false
+    go (is-free p q x) s = x
+    go (is-live p q x) s = x
+    go (is-spoiled p q x) (inl l) = absurd (true≢false (sym l ∙ q))
+    go (is-spoiled p q x) (inr f) = absurd (true≢false (sym f ∙ p))
 
-pub not-spoiled-sane : (r : Row) → (spoiled r ≡ true → ⊥) → Sane r
-not-spoiled-sane r h = go (one-kind r)
+pub unspoiled-sane : (r : Row) → spoiled r ≡ false → Sane r
+unspoiled-sane r h = go (one-kind r)
   where
     go : Kind r → Sane r
     go (is-free p q x) = inr p
     go (is-live p q x) = inl q
-    go (is-spoiled p q x) = absurd (h x)
+    go (is-spoiled p q x) = absurd (true≢false (sym x ∙ h))
 
 -- ---- one row put
 pub became-sane : (t u : List ℕ) (i : ℕ) (r : Row) → Became t u i r → Sane r → (j : ℕ) → Sane (row t j) → Sane (row u j)

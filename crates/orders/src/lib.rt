@@ -62,7 +62,7 @@ fn wipe(t: &mut [u64], i: usize, symbol: u64)
 fn clear(t: &mut [u64], symbol: u64)
     ensures { λ _. ⌜ now (t .exit) ≡ cleared symbol (now (t .entry)) ⌝ }
 {
-    let n = t.len() / 5;
+    let n = rows::row_count(t);
     let mut i = 0;
     while i < n {
         wipe(t, i, symbol);

@@ -1,107 +1,118 @@
--- The answer to a packet, from the work that its records made: the theory's run and counts are the code's state and tally.
+-- The answer to a packet, from the work that its records made: the theory's run and counts are the code's state and counts. And a packet by the tests of `receive`.
 -- Assumes nothing.
-use Prim.Native.Nat.{ℕ, _-_, _≤_}
+use Prim.Native.Nat.{ℕ, _+_, _-_, _≤_}
 use mathlib.Core.Path.{_≡_, refl, sym, ap, _∙_}
 use mathlib.Core.Bool.{Bool, true, false}
 use mathlib.Core.List.{List}
 use native.Mathlib.Omega.{arith}
-use lib.ListN.{length}
 use Rattle.facts.specs.Pick.{pick, both}
+use Rattle.facts.specs.Limits.{lastNumber}
 use Rattle.facts.proofs.Picks.{both-true, pick-ind}
-use Rattle.wire.specs.Records.{bad, records}
+use Rattle.wire.specs.Records.{Rec, Frames, bad, records}
 use borrow.Author.Tests.{leb-true}
 use lib.Dec.{leb}
 use Rattle.fields.specs.Fields.{refusal}
 use Rattle.fields.specs.declared.Refusal.{Refusal}
-use Rattle.packet.specs.Packet.{Framing, framing, readPacket}
-use Rattle.packet.specs.declared.Packet.{Packet}
-use Rattle.packet.proofs.Good.{bad-framing}
-use Rattle.arbitration.specs.Receive.{Counts, recordsOf, run, told, stop, highest}
+use Rattle.arbitration.specs.Engine.{Engine, Store}
+use Rattle.arbitration.specs.Receive.{run, told, stop, highest}
+use Rattle.arbitration.specs.Loops.{noCounts, Working, work}
+use Rattle.arbitration.specs.declared.Counts.{Counts}
 use Rattle.arbitration.proofs.Answers.{run-next}
-use Rattle.arbitration.proofs.Tallies.{Working, work, work-told}
-use Rattle.shelf.specs.Store.{shelfStore}
-use Rattle.receiver.specs.Rules.{bookEngine}
-use Rattle.receiver.specs.Lent.{Rx, rx, tallyOf, countsIn, noTally, workingOf, GoodPacket, sizesOk, nextOk, Lent, lent, rxOf, lentOf, Outcome, outcome, framed, received, numberOf, startNumber, fresh, begun, ready, started}
-use Rattle.receiver.specs.declared.Place.{Place}
-use Rattle.receiver.specs.declared.Tally.{Tally}
+use Rattle.arbitration.proofs.Tallies.{work-told}
+use Rattle.receiver.specs.Parts.{Parts, engineOf}
+use Rattle.receiver.specs.Receiver.{nextOk, receivedNumber, Rx, Receiver, receiver, Handled, handled, handledBy, fit, receives}
+use Rattle.receiver.specs.declared.Account.{Account}
 use Rattle.receiver.specs.declared.Received.{Received}
-use Rattle.receiver.specs.declared.Started.{Started}
 
-module _ (p : List ℕ) (g : GoodPacket p) (k : Lent) (at : Place) (t : Tally) (o s h : List ℕ)
-    (worked : workingOf at t o s h ≡ work shelfStore bookEngine (recordsOf (framing p)) (workingOf (record { next = k .state .next; second = k .state .second }) noTally (k .orders) (k .symbols) (k .shelf))) where
-  abbrev r : Rx
-  r = rxOf k
+pub next-most : (n : ℕ) → nextOk n ≡ true → n ≤ lastNumber + 1
+unfolding nextOk
+next-most n h = leb-true n (lastNumber + 1) (both-true {a = leb 1 n} {b = leb n (lastNumber + 1)} h .1)
 
-  abbrev now : Rx
-  now = rx (at .next) (at .second) o s h
+module _ (P : Parts) where
+  abbrev S : Store
+  S = P .store
 
-  abbrev W : Type 0
-  W = Working shelfStore bookEngine
+  abbrev E : Engine
+  E = engineOf (P .rules)
 
-  -- the state and the counts of the packet's records
-  ran : workingOf at t o s h ≡ record { rx = run shelfStore bookEngine (g .cs) r; counts = told shelfStore bookEngine (g .cs) r .counts }
-  ran =
-      worked
-      ∙ ap (λ (x : Framing). work shelfStore bookEngine (recordsOf x) (record { rx = r; counts = countsIn noTally })) (g .framing-is)
-      ∙ work-told shelfStore bookEngine (g .cs) r
+  module _ (cs : List Rec) (k : Receiver P) (now : Rx P) (t : Counts)
+      (worked : _≡_ {A = Working S E} (record { rx = now; counts = t }) (work S E cs (record { rx = k .rx; counts = noCounts }))) where
+    -- the state and the counts of the packet's records
+    ran : _≡_ {A = Working S E} (record { rx = now; counts = t }) (record { rx = run S E cs (k .rx); counts = told S E cs (k .rx) .counts })
+    ran = worked ∙ work-told S E cs (k .rx)
 
-  pub next-grows : k .state .next ≤ at .next
-  next-grows = omega (arith, ap (λ (x : W). x .rx .next) ran, run-next shelfStore bookEngine (g .cs) r)
+    pub next-grows : k .rx .next ≤ now .next
+    next-grows = omega (arith, ap (λ (x : Working S E). x .rx .next) ran, run-next S E cs (k .rx))
 
-  -- the answer that a state and counts make
-  abbrev told-of : Rx → Counts → Outcome
-  told-of x c =
-      outcome (Received.Accepted (record { tally = tallyOf c; next = x .next; applied = x .next - r .next; highest = highest shelfStore 64 (x .shelf); stop = stop shelfStore bookEngine x }))
-      (lentOf x (stop shelfStore bookEngine x))
+    -- the answer that a state and counts make
+    abbrev told-of : Rx P → Counts → Handled P
+    told-of x c =
+        handled P (Received.Accepted (record { counts = c; next = x .next; applied = x .next - k .rx .next; highest = highest S 64 (x .shelf); stop = stop S E x }))
+        (receiver P x (stop S E x))
 
-  pub accepted : (q top : ℕ) → q ≡ stop shelfStore bookEngine now → top ≡ highest shelfStore 64 h
-      → outcome (Received.Accepted (record { tally = t; next = at .next; applied = at .next - k .state .next; highest = top; stop = q })) (lent o s h (record { next = at .next; second = at .second; stop = q })) ≡ framed (framing p) k
-  unfolding framed told
-  accepted q top e f =
-      (λ i. outcome (Received.Accepted (record { tally = t; next = at .next; applied = at .next - k .state .next; highest = f i; stop = e i })) (lent o s h (record { next = at .next; second = at .second; stop = e i })))
-      ∙ (λ i. told-of (ran i .rx) (ran i .counts))
-      ∙ ap (λ (x : Framing). framed x k) (sym (g .framing-is))
+    pub accepted : (q top : ℕ) → q ≡ stop S E now → top ≡ highest S 64 (now .shelf) → (x : Frames Refusal) → x ≡ records cs
+        → handled P (Received.Accepted (record { counts = t; next = now .next; applied = now .next - k .rx .next; highest = top; stop = q })) (receiver P now q) ≡ handledBy P x k
+    unfolding handledBy told
+    accepted q top e f x g =
+        (λ i. handled P (Received.Accepted (record { counts = t; next = now .next; applied = now .next - k .rx .next; highest = f i; stop = e i })) (receiver P now (e i)))
+        ∙ (λ i. told-of (ran i .rx) (ran i .counts))
+        ∙ ap (λ (y : Frames Refusal). handledBy P y k) (sym g)
 
--- ---- a packet by the tests of `receive`
-module _ (k : Lent) (p : List ℕ) where
-  abbrev sizes : Bool
-  sizes = sizesOk (length (k .orders)) (length (k .symbols)) (length (k .shelf))
+  -- ---- a packet by the tests of `receive`
+  module _ (k : Receiver P) (p : List ℕ) where
+    abbrev sizes : Bool
+    sizes = P .sized (k .rx .book) (k .rx .shelf)
 
-  pub refused-sizes : sizes ≡ false → outcome (Received.Refused (refusal 6)) k ≡ received k p
-  unfolding received both pick
-  refused-sizes e = simp e
+    pub refused-sizes : sizes ≡ false → handled P (Received.Refused (refusal 6)) k ≡ receives P k p
+    unfolding receives fit both pick
+    refused-sizes e = simp e
 
-  module _ (fit : sizes ≡ true) where
-    pub refused-next : nextOk (k .state .next) ≡ false → outcome (Received.Refused (refusal 6)) k ≡ received k p
-    unfolding received both pick
-    refused-next e = simp (fit, e)
+    module _ (good : sizes ≡ true) where
+      pub refused-next : nextOk (k .rx .next) ≡ false → handled P (Received.Refused (refusal 6)) k ≡ receives P k p
+      unfolding receives fit both pick
+      refused-next e = simp (good, e)
 
-    module _ (next-fits : nextOk (k .state .next) ≡ true) where
-      pub judged-packet : framed (framing p) k ≡ received k p
-      unfolding received both pick
-      judged-packet = simp (fit, next-fits)
+      pub by-frame : nextOk (k .rx .next) ≡ true → handledBy P (P .frame p) k ≡ receives P k p
+      unfolding receives fit both pick
+      by-frame e = simp (good, e)
 
       -- a refused packet, and what refused it
-      pub refused-packet : (q : Refusal) → readPacket p ≡ Packet.Refused q → outcome (Received.Refused q) k ≡ received k p
-      unfolding framed
-      refused-packet q e = ap (λ (x : Framing). framed x k) (sym (bad-framing p q e)) ∙ judged-packet
+      pub refused-packet : nextOk (k .rx .next) ≡ true → (q : Refusal) → P .frame p ≡ bad q → handled P (Received.Refused q) k ≡ receives P k p
+      unfolding handledBy
+      refused-packet e q f = ap (λ (x : Frames Refusal). handledBy P x k) (sym f) ∙ by-frame e
 
-pub next-most : (n : ℕ) → nextOk n ≡ true → n ≤ 1000000000001
-unfolding nextOk
-next-most n h = leb-true n 1000000000001 (both-true {a = leb 1 n} {b = leb n 1000000000001} h .1)
+  -- ---- demand 1: "a refusal changes no byte and no state"
+  pub refusal-keeps : (k : Receiver P) (p : List ℕ) → (receivedNumber (receives P k p .answer) ≡ 0 → ⊥) → receives P k p .after ≡ k
+  unfolding receives handledBy
+  refusal-keeps k p = pick-ind Keeps (fit P k) (handledBy P (P .frame p) k) (handled P (Received.Refused (refusal 6)) k) (λ _. by-framing (P .frame p)) (λ _ _. refl)
+    where
+      Keeps : Handled P → Type 0
+      Keeps x = (receivedNumber (x .answer) ≡ 0 → ⊥) → x .after ≡ k
 
--- ---- demand 1: "a refusal changes no byte and no state"
-pub refusal-keeps : (k : Lent) (p : List ℕ) → (numberOf (received k p .answer) ≡ 0 → ⊥) → received k p .after ≡ k
-unfolding received framed
-refusal-keeps k p = pick-ind Keeps (both (sizesOk (length (k .orders)) (length (k .symbols)) (length (k .shelf))) (nextOk (k .state .next))) (framed (framing p) k) (outcome (Received.Refused (refusal 6)) k) (λ _. by-framing (framing p)) (λ _ _. refl)
-  where
-    Keeps : Outcome → Type 0
-    Keeps x = (numberOf (x .answer) ≡ 0 → ⊥) → x .after ≡ k
+      by-framing : (x : Frames Refusal) → Keeps (handledBy P x k)
+      by-framing (bad r) n = refl
+      by-framing (records cs) n = absurd (n refl)
 
-    by-framing : (x : Framing) → Keeps (framed x k)
-    by-framing (bad r) n = refl
-    by-framing (records cs) n = absurd (n refl)
+  -- an accepted packet's account tells the next number and the stop that the receiver then has
+  pub account-reports : (k k′ : Receiver P) (p : List ℕ) (a : Account) → receives P k p ≡ handled P (Received.Accepted a) k′ → (a .next ≡ k′ .rx .next) × (a .stop ≡ k′ .stop)
+  unfolding receives handledBy told
+  account-reports k k′ p a = pick-ind Reports (fit P k) (handledBy P (P .frame p) k) (handled P (Received.Refused (refusal 6)) k) (λ _. by-framing (P .frame p)) (λ _. no-account (refusal 6) k)
+    where
+      Reports : Handled P → Type 0
+      Reports x = x ≡ handled P (Received.Accepted a) k′ → (a .next ≡ k′ .rx .next) × (a .stop ≡ k′ .stop)
 
-pub start-keeps : (o s h : List ℕ) → (startNumber (started o s h .answer) ≡ 0 → ⊥) → started o s h ≡ begun (Started.Refused (refusal 6)) o s h
-unfolding started
-start-keeps o s h = pick-ind (λ x. (startNumber (x .answer) ≡ 0 → ⊥) → x ≡ begun (Started.Refused (refusal 6)) o s h) (sizesOk (length o) (length s) (length h)) (ready (fresh (length o) (length s) (length h))) (begun (Started.Refused (refusal 6)) o s h) (λ _ n. absurd (n refl)) (λ _ _. refl)
+      no-account : (r : Refusal) (j : Receiver P) → Reports (handled P (Received.Refused r) j)
+      no-account r j e =
+          let q : Received.Refused r ≡ Received.Accepted a = ap (λ (x : Handled P). x .answer) e in
+          let z : _≡_ {A = ℕ} 0 1 = cc in absurd (omega arith)
+
+      told-both : (b : Account) (j : Receiver P) → b .next ≡ j .rx .next → b .stop ≡ j .stop → Reports (handled P (Received.Accepted b) j)
+      told-both b j m n e =
+          let q : Received.Accepted b ≡ Received.Accepted a = ap (λ (x : Handled P). x .answer) e in
+          let same : b ≡ a = cc in
+          let there : j ≡ k′ = ap (λ (x : Handled P). x .after) e in
+          (sym (ap (λ (x : Account). x .next) same) ∙ m ∙ ap (λ (x : Receiver P). x .rx .next) there, sym (ap (λ (x : Account). x .stop) same) ∙ n ∙ ap (λ (x : Receiver P). x .stop) there)
+
+      by-framing : (x : Frames Refusal) → Reports (handledBy P x k)
+      by-framing (bad r) = no-account r k
+      by-framing (records cs) = told-both _ _ refl refl

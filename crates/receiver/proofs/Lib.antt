@@ -1,6 +1,7 @@
+pub mod PartsLaws
 pub mod Exits
 pub mod Records
 pub mod Accounts
 pub mod Fits
-pub mod Recordings
-pub mod Plays
+pub mod Demand
+pub mod Real

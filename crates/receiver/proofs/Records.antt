@@ -5,29 +5,21 @@ use mathlib.Core.Path.{_≡_, sym, ap, _∙_}
 use mathlib.Core.List.{List}
 use native.Mathlib.Omega.{arith}
 use lib.ListN.{length, drop}
+use Rattle.facts.specs.Limits.{packetMost}
 use Rattle.packet.specs.Record.{headOf, bodyOf, recOf}
 use Rattle.packet.specs.declared.Head.{Head}
 use Rattle.packet.specs.Packet.{framesFrom, framing}
 use Rattle.packet.proofs.Good.{Step, step, step-end, framing-size}
-use Rattle.arbitration.specs.Receive.{Counts, recordsOf, judged, acted}
+use Rattle.arbitration.specs.Engine.{Engine, Store}
+use Rattle.arbitration.specs.Receive.{State, recordsOf, judged, acted}
 use Rattle.arbitration.specs.Receive as theory
+use Rattle.arbitration.specs.Loops.{counted, total, Working, working, work}
+use Rattle.arbitration.specs.declared.Counts.{Counts}
 use Rattle.arbitration.proofs.Answers.{after-next}
-use Rattle.arbitration.proofs.Tallies.{Working, working, work, counted, total, working-of, work-step, work-end}
-use Rattle.shelf.specs.Store.{shelfStore}
-use Rattle.receiver.specs.Rules.{bookEngine}
-use Rattle.receiver.specs.Lent.{Rx, rec, answerOf, GoodPacket}
+use Rattle.arbitration.proofs.Tallies.{working-of, work-step, work-end}
+use Rattle.receiver.specs.Lent.{rec, answerOf, GoodPacket}
 use Rattle.receiver.specs.declared.Answer.{Answer}
 use Rattle.wire.specs.Records.{Rec, records}
-
-abbrev W : Type 0
-W = Working shelfStore bookEngine
-
--- a record answered d: the state after it, and the counts with one more
-pub offered : (c : Rec) (w : W) (a d : Answer) → a ≡ d → (r : Rx) (t : Counts) → answerOf a ≡ judged shelfStore bookEngine c (w .rx) → t ≡ counted (answerOf a) (w .counts) → r ≡ acted shelfStore bookEngine (answerOf d) c (w .rx)
-    → _≡_ {A = W} (record { rx = r; counts = t }) (working shelfStore bookEngine c w)
-offered c w a d q r t e f g =
-    let n : t ≡ counted (answerOf d) (w .counts) = f ∙ ap (λ (x : Answer). counted (answerOf x) (w .counts)) q in
-    (λ i. record { rx = g i; counts = n i }) ∙ sym (working-of shelfStore bookEngine c w (answerOf d) (sym e ∙ ap answerOf q))
 
 counted-total : (a : theory.Answer) (t : Counts) → total (counted a t) ≡ total t + 1
 counted-total theory.taken t = omega arith
@@ -36,12 +28,23 @@ counted-total theory.tooFar t = omega arith
 counted-total theory.repeated t = omega arith
 counted-total theory.differing t = omega arith
 
--- a record raises next by at most 64 and the counts by one
-pub worked-bounds : (c : Rec) (w w′ : W) → w′ ≡ working shelfStore bookEngine c w → (w′ .rx .next ≤ w .rx .next + 64) × (total (w′ .counts) ≤ total (w .counts) + 1)
-worked-bounds c w w′ e =
-    let n : w′ .rx .next ≡ working shelfStore bookEngine c w .rx .next = ap (λ (x : W). x .rx .next) e in
-    let t : total (w′ .counts) ≡ total (counted (judged shelfStore bookEngine c (w .rx)) (w .counts)) = ap (λ (x : W). total (x .counts)) e in
-    (omega (arith, after-next shelfStore bookEngine c (w .rx) .1), omega (arith, counted-total (judged shelfStore bookEngine c (w .rx)) (w .counts)))
+module _ (S : Store) (E : Engine) where
+  abbrev W : Type 0
+  W = Working S E
+
+  -- a record answered d: the state after it, and the counts with one more
+  pub offered : (c : Rec) (w : W) (a d : Answer) → a ≡ d → (r : State S E) (t : Counts) → answerOf a ≡ judged S E c (w .rx) → t ≡ counted (answerOf a) (w .counts) → r ≡ acted S E (answerOf d) c (w .rx)
+      → _≡_ {A = W} (record { rx = r; counts = t }) (working S E c w)
+  offered c w a d q r t e f g =
+      let n : t ≡ counted (answerOf d) (w .counts) = f ∙ ap (λ (x : Answer). counted (answerOf x) (w .counts)) q in
+      (λ i. record { rx = g i; counts = n i }) ∙ sym (working-of S E c w (answerOf d) (sym e ∙ ap answerOf q))
+
+  -- a record raises next by at most 64 and the counts by one
+  pub worked-bounds : (c : Rec) (w w′ : W) → w′ ≡ working S E c w → (w′ .rx .next ≤ w .rx .next + 64) × (total (w′ .counts) ≤ total (w .counts) + 1)
+  worked-bounds c w w′ e =
+      let n : w′ .rx .next ≡ working S E c w .rx .next = ap (λ (x : W). x .rx .next) e in
+      let t : total (w′ .counts) ≡ total (counted (judged S E c (w .rx)) (w .counts)) = ap (λ (x : W). total (x .counts)) e in
+      (omega (arith, after-next S E c (w .rx) .1), omega (arith, counted-total (judged S E c (w .rx)) (w .counts)))
 
 -- the records that are left from a place on
 unfoldable pub leftFrom : List ℕ → ℕ → List Rec
@@ -68,21 +71,22 @@ module _ (p : List ℕ) (at n : ℕ) (inside-p : at < length p) (n-is : n ≡ he
   pub next-frames : framesFrom (length p) (drop (at + (10 + n)) p) ≡ records (leftFrom p (at + (10 + n)))
   next-frames = behind-is ∙ ap records (sym left-is)
 
-  pub next-works : (w w′ end : W) → work shelfStore bookEngine (leftFrom p at) w ≡ end → w′ ≡ working shelfStore bookEngine (recOf (drop at p)) w → work shelfStore bookEngine (leftFrom p (at + (10 + n))) w′ ≡ end
-  next-works w w′ end v u =
-      ap (λ cs. work shelfStore bookEngine cs w′) left-is
-      ∙ work-step shelfStore bookEngine (recOf (drop at p)) (walk .others) w w′ end (ap (λ cs. work shelfStore bookEngine cs w) (sym (walk .first-is)) ∙ v) u
+  module _ (S : Store) (E : Engine) where
+    pub next-works : (w w′ end : Working S E) → work S E (leftFrom p at) w ≡ end → w′ ≡ working S E (recOf (drop at p)) w → work S E (leftFrom p (at + (10 + n))) w′ ≡ end
+    next-works w w′ end v u =
+        ap (λ cs. work S E cs w′) left-is
+        ∙ work-step S E (recOf (drop at p)) (walk .others) w w′ end (ap (λ cs. work S E cs w) (sym (walk .first-is)) ∙ v) u
 
 -- the start of the loop: all of a good packet's records are left
-pub first-frames : (p : List ℕ) → GoodPacket p → (length p ≤ 1500) × (framesFrom (length p) p ≡ records (leftFrom p 0)) × (leftFrom p 0 ≡ recordsOf (framing p))
+pub first-frames : (p : List ℕ) → GoodPacket p → (length p ≤ packetMost) × (framesFrom (length p) p ≡ records (leftFrom p 0)) × (leftFrom p 0 ≡ recordsOf (framing p))
 unfolding leftFrom
 first-frames p g =
     let s = framing-size p (g .cs) (g .framing-is) in
     (s .1, s .2 ∙ ap records (sym (ap recordsOf (s .2))), ap recordsOf (s .2) ∙ sym (ap recordsOf (g .framing-is)))
 
 -- its end
-pub last-works : (p : List ℕ) (at : ℕ) → length p ≤ at → framesFrom (length p) (drop at p) ≡ records (leftFrom p at) → (w end : W) → work shelfStore bookEngine (leftFrom p at) w ≡ end → w ≡ end
-last-works p at h f w end v = work-end shelfStore bookEngine w end (ap (λ cs. work shelfStore bookEngine cs w) (sym (step-end p at (leftFrom p at) h f)) ∙ v)
+pub last-works : (S : Store) (E : Engine) (p : List ℕ) (at : ℕ) → length p ≤ at → framesFrom (length p) (drop at p) ≡ records (leftFrom p at) → (w end : Working S E) → work S E (leftFrom p at) w ≡ end → w ≡ end
+last-works S E p at h f w end v = work-end S E w end (ap (λ cs. work S E cs w) (sym (step-end p at (leftFrom p at) h f)) ∙ v)
 
 -- the record that the code read at a place
 pub same-record : (p : List ℕ) (at : ℕ) (h : Head) (b : List ℕ) → h ≡ headOf (drop at p) → b ≡ bodyOf (drop at p) → rec (h .number) b ≡ recOf (drop at p)

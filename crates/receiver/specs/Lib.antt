@@ -1,3 +1,4 @@
-pub mod Rules
+pub mod Parts
+pub mod Receiver
+pub mod Demand3
 pub mod Lent
-pub mod Play

@@ -1,24 +1,27 @@
 // The receiver: starts, takes packets of lines A, B and the gap fills in any order, and applies the messages by their numbers.
+use arbitration::Counts;
 use book::Clock;
+use facts::LAST_NUMBER;
 use fields::Refusal;
 use packet::Packet;
 ghost use mathlib.Core.Path.{_≡_};
-ghost use Prim.Native.Nat.{_≤_, _%_};
+ghost use Prim.Native.Nat.{_+_, _≤_, _%_};
+ghost use Rattle.facts.specs.Limits.{lastNumber, packetMost};
 ghost use Rattle.packet.specs.Packet.{framing};
 ghost use Rattle.arbitration.specs.Receive.{drain as drained, shelved, judge, stop, recordsOf};
-ghost use Rattle.arbitration.proofs.Turns.{turnTo, goesOn};
-ghost use Rattle.arbitration.proofs.Tallies.{working, work as workAll, counted as tallied, total};
+ghost use Rattle.arbitration.specs.Loops.{turnTo, goesOn, working, work as workAll, counted as tallied, noCounts, total};
 ghost use Rattle.shelf.specs.Shelf.{slotAt};
 ghost use Rattle.shelf.specs.Store.{shelfStore};
-ghost use Rattle.receiver.specs.Rules.{bookEngine};
-ghost use lib.ListN.{length};
-ghost use Rattle.receiver.specs.Play.{packetsOf, plays, played, Demanded};
-ghost use Rattle.receiver.specs.Lent.{rx, rec, answerOf, countsIn, noTally, sizesOk, nextOk, workingOf, GoodPacket, lent, outcome, framed, received, begun, started};
+ghost use Rattle.receiver.specs.Receiver.{nextOk, handledBy};
+ghost use Rattle.receiver.specs.Lent.{bookEngine, real, rx, rec, answerOf, sizesOk, workingOf, GoodPacket, lent, handled, received, begun, started};
 
-// What a receiver keeps between packets: the next number, the second, and the stop of the last accepted packet.
+// The largest next number: one above the last sequence number.
+const MOST_NEXT: u64 = LAST_NUMBER + 1;
+
+// What a receiver keeps between packets: the next number, what the book has by value, and the stop of the last accepted packet.
 pub struct State {
     pub next: u64,
-    pub second: u32,
+    pub clock: Clock,
     pub stop: u8,
 }
 
@@ -31,18 +34,9 @@ pub enum Answer {
     Differing,
 }
 
-// How many records got each answer.
-pub struct Tally {
-    pub taken: usize,
-    pub old: usize,
-    pub far: usize,
-    pub repeated: usize,
-    pub differing: usize,
-}
-
 // The answer to an accepted packet.
 pub struct Account {
-    pub tally: Tally,
+    pub counts: Counts,
     pub next: u64,
     pub applied: u64,
     pub highest: u64,
@@ -69,24 +63,24 @@ pub struct Turned {
     pub at: Place,
 }
 
-// Where the work stands: the next number and the second.
+// Where the work stands: the next number, and what the book has by value.
 pub struct Place {
     pub next: u64,
-    pub second: u32,
+    pub clock: Clock,
 }
 
 pub struct Worked {
     pub at: Place,
-    pub tally: Tally,
+    pub counts: Counts,
 }
 
 // One turn of the drain: the slot for next is tried once.
 fn turn(orders: &mut [u64], symbols: &mut [u8], shelf: &mut [u8], at: Place) -> Turned
-    requires { ⌜ at .next ≤ 1000000300000 ⌝ }
-    ensures { λ r. ⌜ (rx (r .at .next) (r .at .second) (now (orders .exit)) (now (symbols .exit)) (now (shelf .exit)) ≡ turnTo shelfStore bookEngine (rx (at .next) (at .second) (now (orders .entry)) (now (symbols .entry)) (now (shelf .entry)))) × (r .on ≡ goesOn shelfStore bookEngine (rx (at .next) (at .second) (now (orders .entry)) (now (symbols .entry)) (now (shelf .entry)))) ⌝ }
+    requires { ⌜ at .next ≤ lastNumber + 300000 ⌝ }
+    ensures { λ r. ⌜ (rx (r .at .next) (r .at .clock) (now (orders .exit)) (now (symbols .exit)) (now (shelf .exit)) ≡ turnTo shelfStore bookEngine (rx (at .next) (at .clock) (now (orders .entry)) (now (symbols .entry)) (now (shelf .entry)))) × (r .on ≡ goesOn shelfStore bookEngine (rx (at .next) (at .clock) (now (orders .entry)) (now (symbols .entry)) (now (shelf .entry)))) ⌝ }
 {
     let next = at.next;
-    let second = at.second;
+    let clock = at.clock;
     let i = (next % 64) as usize;
     let n = shelf::slot_number(shelf, i);
     if n == 0 {
@@ -98,31 +92,28 @@ fn turn(orders: &mut [u64], symbols: &mut [u8], shelf: &mut [u8], at: Place) -> 
     if 64 < shelf::slot_len(shelf, i) {
         return Turned { on: false, at };
     }
-    let a = book::apply(
-        orders,
-        symbols,
-        Clock { second },
-        next,
-        shelf::slot_body(shelf, i),
-    );
+    let a = book::apply(orders, symbols, clock, next, shelf::slot_body(shelf, i));
+    let after = a.clock;
     if a.rule != 0 {
-        return Turned { on: false, at };
+        return Turned {
+            on: false,
+            at: Place { next, clock: after },
+        };
     }
     shelf::empty(shelf, i);
-    let after = a.clock;
     Turned {
         on: true,
         at: Place {
             next: next + 1,
-            second: after.second,
+            clock: after,
         },
     }
 }
 
 // "while the slot for next holds next and its message applies": 64 turns are enough.
 fn drain(orders: &mut [u64], symbols: &mut [u8], shelf: &mut [u8], start: Place) -> Place
-    requires { ⌜ start .next ≤ 1000000200000 ⌝ }
-    ensures { λ r. ⌜ rx (r .next) (r .second) (now (orders .exit)) (now (symbols .exit)) (now (shelf .exit)) ≡ drained shelfStore bookEngine 64 (rx (start .next) (start .second) (now (orders .entry)) (now (symbols .entry)) (now (shelf .entry))) ⌝ }
+    requires { ⌜ start .next ≤ lastNumber + 200000 ⌝ }
+    ensures { λ r. ⌜ rx (r .next) (r .clock) (now (orders .exit)) (now (symbols .exit)) (now (shelf .exit)) ≡ drained shelfStore bookEngine 64 (rx (start .next) (start .clock) (now (orders .entry)) (now (symbols .entry)) (now (shelf .entry))) ⌝ }
 {
     let mut at = start;
     let mut i: usize = 0;
@@ -139,7 +130,7 @@ fn drain(orders: &mut [u64], symbols: &mut [u8], shelf: &mut [u8], start: Place)
 
 // How a record is answered, by the number it has and the slot it would go to.
 fn answer_to(shelf: &[u8], next: u64, number: u64, body: &[u8]) -> Answer
-    requires { ⌜ next ≤ 1000000200000 ⌝ }
+    requires { ⌜ next ≤ lastNumber + 200000 ⌝ }
     ensures { λ r. ⌜ answerOf r ≡ judge next (slotAt (now (shelf .entry)) (number % 64)) (rec number (now (body .entry))) ⌝ }
 {
     if number < next {
@@ -158,10 +149,10 @@ fn answer_to(shelf: &[u8], next: u64, number: u64, body: &[u8]) -> Answer
     Answer::Differing
 }
 
-// The tally with one answer more.
-fn counted(t: Tally, a: Answer) -> Tally
-    requires { ⌜ total (countsIn t) ≤ 1500 ⌝ }
-    ensures { λ r. ⌜ countsIn r ≡ tallied (answerOf a) (countsIn t) ⌝ }
+// The counts with one answer more.
+fn counted(t: Counts, a: Answer) -> Counts
+    requires { ⌜ total t ≤ packetMost ⌝ }
+    ensures { λ r. ⌜ r ≡ tallied (answerOf a) t ⌝ }
 {
     let mut r = t;
     match a {
@@ -183,8 +174,8 @@ fn take(
     number: u64,
     body: &[u8],
 ) -> Place
-    requires { ⌜ at .next ≤ 1000000200000 ⌝ }
-    ensures { λ r. ⌜ rx (r .next) (r .second) (now (orders .exit)) (now (symbols .exit)) (now (shelf .exit)) ≡ drained shelfStore bookEngine 64 (shelved shelfStore bookEngine (rec number (now (body .entry))) (rx (at .next) (at .second) (now (orders .entry)) (now (symbols .entry)) (now (shelf .entry)))) ⌝ }
+    requires { ⌜ at .next ≤ lastNumber + 200000 ⌝ }
+    ensures { λ r. ⌜ rx (r .next) (r .clock) (now (orders .exit)) (now (symbols .exit)) (now (shelf .exit)) ≡ drained shelfStore bookEngine 64 (shelved shelfStore bookEngine (rec number (now (body .entry))) (rx (at .next) (at .clock) (now (orders .entry)) (now (symbols .entry)) (now (shelf .entry)))) ⌝ }
 {
     let i = (number % 64) as usize;
     shelf::put(shelf, i, number, body);
@@ -200,30 +191,31 @@ fn offer(
     number: u64,
     body: &[u8],
 ) -> Worked
-    requires { ⌜ (w .at .next ≤ 1000000200000) × (total (countsIn (w .tally)) ≤ 1500) ⌝ }
-    ensures { λ r. ⌜ workingOf (r .at) (r .tally) (now (orders .exit)) (now (symbols .exit)) (now (shelf .exit)) ≡ working shelfStore bookEngine (rec number (now (body .entry))) (workingOf (w .at) (w .tally) (now (orders .entry)) (now (symbols .entry)) (now (shelf .entry))) ⌝ }
+    requires { ⌜ (w .at .next ≤ lastNumber + 200000) × (total (w .counts) ≤ packetMost) ⌝ }
+    ensures { λ r. ⌜ workingOf (r .at) (r .counts) (now (orders .exit)) (now (symbols .exit)) (now (shelf .exit)) ≡ working shelfStore bookEngine (rec number (now (body .entry))) (workingOf (w .at) (w .counts) (now (orders .entry)) (now (symbols .entry)) (now (shelf .entry))) ⌝ }
 {
     let at = w.at;
     let a = answer_to(shelf, at.next, number, body);
-    let tally = counted(w.tally, a);
+    let so_far = w.counts;
+    let counts = counted(so_far, a);
     match a {
         Answer::Taken => {
             let next = take(orders, symbols, shelf, at, number, body);
-            Worked { at: next, tally }
+            Worked { at: next, counts }
         }
-        Answer::Old => Worked { at, tally },
-        Answer::TooFar => Worked { at, tally },
-        Answer::Repeated => Worked { at, tally },
-        Answer::Differing => Worked { at, tally },
+        Answer::Old => Worked { at, counts },
+        Answer::TooFar => Worked { at, counts },
+        Answer::Repeated => Worked { at, counts },
+        Answer::Differing => Worked { at, counts },
     }
 }
 
 // "A good packet is worked record by record."
 fn work(orders: &mut [u64], symbols: &mut [u8], shelf: &mut [u8], start: Place, p: &[u8]) -> Worked
-    requires { ⌜ (start .next ≤ 1000000000001) × GoodPacket (now p) ⌝ }
-    ensures { λ r. ⌜ workingOf (r .at) (r .tally) (now (orders .exit)) (now (symbols .exit)) (now (shelf .exit)) ≡ workAll shelfStore bookEngine (recordsOf (framing (now (p .entry)))) (workingOf start noTally (now (orders .entry)) (now (symbols .entry)) (now (shelf .entry))) ⌝ }
+    requires { ⌜ (start .next ≤ lastNumber + 1) × GoodPacket (now p) ⌝ }
+    ensures { λ r. ⌜ workingOf (r .at) (r .counts) (now (orders .exit)) (now (symbols .exit)) (now (shelf .exit)) ≡ workAll shelfStore bookEngine (recordsOf (framing (now (p .entry)))) (workingOf start noCounts (now (orders .entry)) (now (symbols .entry)) (now (shelf .entry))) ⌝ }
 {
-    let none = Tally {
+    let none = Counts {
         taken: 0,
         old: 0,
         far: 0,
@@ -232,7 +224,7 @@ fn work(orders: &mut [u64], symbols: &mut [u8], shelf: &mut [u8], start: Place, 
     };
     let mut w = Worked {
         at: start,
-        tally: none,
+        counts: none,
     };
     let mut at: usize = 0;
     while at < p.len() {
@@ -246,7 +238,7 @@ fn work(orders: &mut [u64], symbols: &mut [u8], shelf: &mut [u8], start: Place, 
 
 // "the stop: 0 if next's slot is empty or its message breaks no rule, else the rule that its message breaks"; nothing is changed.
 fn stop_at(orders: &[u64], symbols: &[u8], shelf: &[u8], at: Place) -> u8
-    ensures { λ r. ⌜ r ≡ stop shelfStore bookEngine (rx (at .next) (at .second) (now (orders .entry)) (now (symbols .entry)) (now (shelf .entry))) ⌝ }
+    ensures { λ r. ⌜ r ≡ stop shelfStore bookEngine (rx (at .next) (at .clock) (now (orders .entry)) (now (symbols .entry)) (now (shelf .entry))) ⌝ }
 {
     let next = at.next;
     let i = (next % 64) as usize;
@@ -260,38 +252,34 @@ fn stop_at(orders: &[u64], symbols: &[u8], shelf: &[u8], at: Place) -> u8
     if 64 < shelf::slot_len(shelf, i) {
         return 27;
     }
-    let second = at.second;
-    book::rule_of(
-        orders,
-        symbols,
-        Clock { second },
-        next,
-        shelf::slot_body(shelf, i),
-    )
+    let clock = at.clock;
+    book::rule_of(orders, symbols, clock, next, shelf::slot_body(shelf, i))
 }
 
 // An accepted packet.
 fn accept(orders: &mut [u64], symbols: &mut [u8], shelf: &mut [u8], state: State, p: &[u8]) -> Reply
-    requires { ⌜ (state .next ≤ 1000000000001) × GoodPacket (now p) ⌝ }
-    ensures { λ r. ⌜ outcome (r .answer) (lent (now (orders .exit)) (now (symbols .exit)) (now (shelf .exit)) (r .state)) ≡ framed (framing (now (p .entry))) (lent (now (orders .entry)) (now (symbols .entry)) (now (shelf .entry)) state) ⌝ }
+    requires { ⌜ (state .next ≤ lastNumber + 1) × GoodPacket (now p) ⌝ }
+    ensures { λ r. ⌜ handled (r .answer) (lent (now (orders .exit)) (now (symbols .exit)) (now (shelf .exit)) (r .state)) ≡ handledBy real (framing (now (p .entry))) (lent (now (orders .entry)) (now (symbols .entry)) (now (shelf .entry)) state) ⌝ }
 {
+    let clock = state.clock;
     let w = work(
         orders,
         symbols,
         shelf,
         Place {
             next: state.next,
-            second: state.second,
+            clock,
         },
         p,
     );
     let at = w.at;
-    let tally = w.tally;
+    let counts = w.counts;
     let stop = stop_at(orders, symbols, shelf, at);
     let highest = shelf::highest(shelf);
+    let after = at.clock;
     Reply {
         answer: Received::Accepted(Account {
-            tally,
+            counts,
             next: at.next,
             applied: at.next - state.next,
             highest,
@@ -299,7 +287,7 @@ fn accept(orders: &mut [u64], symbols: &mut [u8], shelf: &mut [u8], state: State
         }),
         state: State {
             next: at.next,
-            second: at.second,
+            clock: after,
             stop,
         },
     }
@@ -322,7 +310,7 @@ pub fn sizes_ok(orders: usize, symbols: usize, shelf: usize) -> bool
 pub fn next_ok(next: u64) -> bool
     ensures { λ r. ⌜ r ≡ nextOk next ⌝ }
 {
-    1 <= next && next <= 1000000000001
+    1 <= next && next <= MOST_NEXT
 }
 
 // A packet of any bytes, to a receiver of any state with any tables.
@@ -333,7 +321,7 @@ pub fn receive(
     state: State,
     p: &[u8],
 ) -> Reply
-    ensures { λ r. ⌜ outcome (r .answer) (lent (now (orders .exit)) (now (symbols .exit)) (now (shelf .exit)) (r .state)) ≡ received (lent (now (orders .entry)) (now (symbols .entry)) (now (shelf .entry)) state) (now (p .entry)) ⌝ }
+    ensures { λ r. ⌜ handled (r .answer) (lent (now (orders .exit)) (now (symbols .exit)) (now (shelf .exit)) (r .state)) ≡ received (lent (now (orders .entry)) (now (symbols .entry)) (now (shelf .entry)) state) (now (p .entry)) ⌝ }
 {
     if !sizes_ok(orders.len(), symbols.len(), shelf.len()) {
         return Reply {
@@ -368,44 +356,7 @@ pub fn start(orders: &mut [u64], symbols: &mut [u8], shelf: &mut [u8]) -> Starte
     wire::wipe(shelf);
     Started::Ready(State {
         next: 1,
-        second: 0,
+        clock: Clock { second: 0 },
         stop: 0,
     })
-}
-
-// The packets of a recording, one after another; what is left of a cut one at its end is dropped.
-pub fn play_on(
-    orders: &mut [u64],
-    symbols: &mut [u8],
-    shelf: &mut [u8],
-    state: State,
-    t: &[u8],
-) -> State
-    ensures { λ r. ⌜ lent (now (orders .exit)) (now (symbols .exit)) (now (shelf .exit)) r ≡ plays (packetsOf (now (t .entry))) (lent (now (orders .entry)) (now (symbols .entry)) (now (shelf .entry)) state) ⌝ }
-{
-    let mut s = state;
-    let mut at: usize = 0;
-    while 2 <= t.len() - at {
-        let n = wire::u16_at(t, at) as usize;
-        let from = at + 2;
-        if t.len() - from < n {
-            return s;
-        }
-        let to = from + n;
-        let r = receive(orders, symbols, shelf, s, &t[from..to]);
-        s = r.state;
-        at = to;
-    }
-    s
-}
-
-// A receiver started and given a recording: demand 3 is what it ensures of the tables that it leaves.
-pub fn play(orders: &mut [u64], symbols: &mut [u8], shelf: &mut [u8], t: &[u8]) -> Started
-    ensures outcome { λ r. ⌜ begun r (now (orders .exit)) (now (symbols .exit)) (now (shelf .exit)) ≡ played (now (orders .entry)) (now (symbols .entry)) (now (shelf .entry)) (now (t .entry)) ⌝ }
-    ensures demand { λ r. ⌜ Demanded (length (now (orders .entry))) (length (now (symbols .entry))) (length (now (shelf .entry))) (now (t .entry)) (begun r (now (orders .exit)) (now (symbols .exit)) (now (shelf .exit))) ⌝ }
-{
-    match start(orders, symbols, shelf) {
-        Started::Refused(r) => Started::Refused(r),
-        Started::Ready(s) => Started::Ready(play_on(orders, symbols, shelf, s, t)),
-    }
 }

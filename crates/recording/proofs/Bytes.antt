@@ -12,6 +12,7 @@ use lib.Seq.{drop-cons, take-suc, take-suc-set, take-take, take-add, take-all, t
 use lib.Dec.{eqb, eqb·suc-suc}
 use borrow.Author.Tests.{ne-eqb, lt-ltb, le-ltb}
 use Rattle.facts.specs.Pick.{pick}
+use Rattle.facts.specs.Limits.{packetMost}
 use Rattle.wire.specs.Le.{le, field}
 use Rattle.arbitration.specs.Stream.{feed as each}
 use Rattle.recording.specs.Stream.{more, Kept, kept, heard, Hearing, hearing, passed, grown, byte}
@@ -70,17 +71,17 @@ unfolding grown pick
 keeps-one u k h = simp (lt-ltb (length u) 2 h)
 
 module _ (u : List ℕ) (k : Kept) (two : 2 ≤ length u) where
-  pub over-long : 1500 < field u 0 2 → grown u k ≡ hearing [] (field u 0 2) k
+  pub over-long : packetMost < field u 0 2 → grown u k ≡ hearing [] (field u 0 2) k
   unfolding grown pick
-  over-long h = simp (le-ltb (length u) 2 two, lt-ltb 1500 (field u 0 2) h)
+  over-long h = simp (le-ltb (length u) 2 two, lt-ltb packetMost (field u 0 2) h)
 
-  pub keeps : field u 0 2 ≤ 1500 → length u < 2 + field u 0 2 → grown u k ≡ hearing u 0 k
+  pub keeps : field u 0 2 ≤ packetMost → length u < 2 + field u 0 2 → grown u k ≡ hearing u 0 k
   unfolding grown pick
-  keeps s h = simp (le-ltb (length u) 2 two, le-ltb 1500 (field u 0 2) s, lt-ltb (length u) (2 + field u 0 2) h)
+  keeps s h = simp (le-ltb (length u) 2 two, le-ltb packetMost (field u 0 2) s, lt-ltb (length u) (2 + field u 0 2) h)
 
-  pub gives : field u 0 2 ≤ 1500 → 2 + field u 0 2 ≤ length u → grown u k ≡ hearing [] 0 (heard (take (field u 0 2) (drop 2 u)) k)
+  pub gives : field u 0 2 ≤ packetMost → 2 + field u 0 2 ≤ length u → grown u k ≡ hearing [] 0 (heard (take (field u 0 2) (drop 2 u)) k)
   unfolding grown pick
-  gives s h = simp (le-ltb (length u) 2 two, le-ltb 1500 (field u 0 2) s, le-ltb (length u) (2 + field u 0 2) h)
+  gives s h = simp (le-ltb (length u) 2 two, le-ltb packetMost (field u 0 2) s, le-ltb (length u) (2 + field u 0 2) h)
 
 -- l begins with a length, and a good one as soon as it is there
 module _ (l : List ℕ) (k : Kept) where
@@ -91,17 +92,17 @@ module _ (l : List ℕ) (k : Kept) where
       ap (λ d. each byte d (hearing (take j l) 0 k)) (drop-cons l j 0 h)
       ∙ ap (each byte (drop (suc j) l)) (byte-grows (getD l j 0) (take j l) k ∙ ap (λ u. grown u k) (sym (take-suc l j 0 h)))
 
-  kept-so-far : (j : ℕ) → j ≤ length l → j < 2 + field l 0 2 → (2 ≤ j → field l 0 2 ≤ 1500) → grown (take j l) k ≡ hearing (take j l) 0 k
+  kept-so-far : (j : ℕ) → j ≤ length l → j < 2 + field l 0 2 → (2 ≤ j → field l 0 2 ≤ packetMost) → grown (take j l) k ≡ hearing (take j l) 0 k
   kept-so-far j m h small = go (decLt j 2) (length-take-le j l m)
     where
       go : Dec (j < 2) → length (take j l) ≡ j → grown (take j l) k ≡ hearing (take j l) 0 k
       go (yes a) e = keeps-one (take j l) k (omega arith)
       go (no a) e =
           let f : field (take j l) 0 2 ≡ field l 0 2 = front-length l j (omega arith) in
-          let s : field l 0 2 ≤ 1500 = small (omega arith) in
+          let s : field l 0 2 ≤ packetMost = small (omega arith) in
           keeps (take j l) k (omega arith) (omega arith) (omega arith)
 
-  pub so-far : (j : ℕ) → j ≤ length l → j < 2 + field l 0 2 → (2 ≤ j → field l 0 2 ≤ 1500) → each byte (drop j l) (hearing (take j l) 0 k) ≡ each byte l (hearing [] 0 k)
+  pub so-far : (j : ℕ) → j ≤ length l → j < 2 + field l 0 2 → (2 ≤ j → field l 0 2 ≤ packetMost) → each byte (drop j l) (hearing (take j l) 0 k) ≡ each byte l (hearing [] 0 k)
   so-far zero m h small = refl
   so-far (suc j) m h small =
       ap (each byte (drop (suc j) l)) (sym (kept-so-far (suc j) m h small))
@@ -109,7 +110,7 @@ module _ (l : List ℕ) (k : Kept) where
       ∙ so-far j (omega arith) (omega arith) (λ a. small (omega arith))
 
   -- the packet as it lies there
-  pub at-once : field l 0 2 ≤ 1500 → 2 + field l 0 2 ≤ length l → each byte (drop (2 + field l 0 2) l) (hearing [] 0 (heard (take (field l 0 2) (drop 2 l)) k)) ≡ each byte l (hearing [] 0 k)
+  pub at-once : field l 0 2 ≤ packetMost → 2 + field l 0 2 ≤ length l → each byte (drop (2 + field l 0 2) l) (hearing [] 0 (heard (take (field l 0 2) (drop 2 l)) k)) ≡ each byte l (hearing [] 0 k)
   at-once small there =
       let n = field l 0 2 in
       let m : suc (1 + n) ≡ 2 + n = omega arith in
@@ -125,7 +126,7 @@ module _ (l : List ℕ) (k : Kept) where
       ∙ so-far (1 + n) (omega arith) (omega arith) (λ _. small)
 
   -- an over-long packet, from its length on
-  pub length-seen : 2 ≤ length l → 1500 < field l 0 2 → each byte (drop 2 l) (hearing [] (field l 0 2) k) ≡ each byte l (hearing [] 0 k)
+  pub length-seen : 2 ≤ length l → packetMost < field l 0 2 → each byte (drop 2 l) (hearing [] (field l 0 2) k) ≡ each byte l (hearing [] 0 k)
   length-seen two long =
       let u : List ℕ = take 2 l in
       let len : length u ≡ 2 = length-take-le 2 l two in

@@ -11,6 +11,7 @@ use lib.Seq.{take-append-seam, length-take-le}
 use lib.Dec.{ltb, eqb}
 use borrow.Author.Tests.{ltb-true, ltb-false}
 use Rattle.facts.specs.Pick.{pick}
+use Rattle.facts.specs.Limits.{packetMost, holdLeast}
 use Rattle.facts.proofs.Picks.{pick-cases, pick-ind}
 use Rattle.wire.specs.Le.{field}
 use Rattle.fields.specs.Fields.{refusal}
@@ -25,7 +26,7 @@ use Rattle.recording.proofs.Exits.{buffer-fits}
 use Rattle.recording.proofs.Packets.{cut-rest}
 
 -- ---- a buffer of w bytes, 1,502 or more, is never outgrown
-module _ (w : ℕ) (big : 1502 ≤ w) where
+module _ (w : ℕ) (big : holdLeast ≤ w) where
   abbrev Fits : Hearing → Type 0
   Fits x = length (x .unfinished) ≤ w
 
@@ -33,8 +34,8 @@ module _ (w : ℕ) (big : 1502 ≤ w) where
   unfolding grown
   grown-fits u k =
       pick-ind Fits (ltb (length u) 2) (hearing u 0 k) _ (λ t. omega (arith, ltb-true (length u) 2 t))
-      (λ _. pick-ind Fits (ltb 1500 (field u 0 2)) (hearing [] (field u 0 2) k) _ (λ _. omega arith)
-      (λ s. pick-ind Fits (ltb (length u) (2 + field u 0 2)) (hearing u 0 k) (hearing [] 0 (heard (take (field u 0 2) (drop 2 u)) k)) (λ t. omega (arith, ltb-true (length u) (2 + field u 0 2) t, ltb-false 1500 (field u 0 2) s)) (λ _. omega arith)))
+      (λ _. pick-ind Fits (ltb packetMost (field u 0 2)) (hearing [] (field u 0 2) k) _ (λ _. omega arith)
+      (λ s. pick-ind Fits (ltb (length u) (2 + field u 0 2)) (hearing u 0 k) (hearing [] 0 (heard (take (field u 0 2) (drop 2 u)) k)) (λ t. omega (arith, ltb-true (length u) (2 + field u 0 2) t, ltb-false packetMost (field u 0 2) s)) (λ _. omega arith)))
 
   byte-fits : (b : ℕ) (x : Hearing) → Fits x → Fits (byte b x)
   unfolding byte passed

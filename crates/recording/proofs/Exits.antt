@@ -13,29 +13,31 @@ use borrow.Rule.Slice.PartMut.{putMid}
 use lib.Dec.{leb, eqb}
 use borrow.Author.Tests.{leb-true, eq-eqb, ne-eqb}
 use Rattle.facts.specs.Pick.{pick, both}
+use Rattle.facts.specs.Limits.{packetMost, holdLeast}
 use Rattle.facts.proofs.Picks.{both-true}
 use Rattle.wire.specs.Le.{field}
 use Rattle.arbitration.specs.Stream.{feed as each}
 use Rattle.fields.specs.Fields.{refusal}
 use Rattle.fields.specs.declared.Refusal.{Refusal}
-use Rattle.receiver.specs.Lent.{Outcome, received, sizesOk, nextOk}
+use Rattle.receiver.specs.Receiver.{nextOk}
+use Rattle.receiver.specs.Lent.{Handled, received, sizesOk}
 use Rattle.receiver.specs.declared.Account.{Account}
 use Rattle.receiver.specs.declared.Received.{Received}
 use Rattle.recording.specs.Stream.{more, added, Kept, kept, counted, heard, Hearing, hearing, passed, grown, byte, keptOf, hearingOf, feedable, outcome, took, fed}
 use Rattle.recording.specs.Steps.{Whole, Passed, Pushed, Stepped, Ran}
-use Rattle.recording.specs.declared.Totals.{Totals}
+use Rattle.arbitration.specs.declared.Counts.{Counts}
 use Rattle.recording.specs.declared.Stream.{Stream}
 use Rattle.recording.specs.declared.Fed.{Fed}
 use Rattle.recording.specs.declared.Moved.{Moved}
 use Rattle.recording.proofs.Bytes.{byte-grows, at-byte, passes, keeps-one, over-long, keeps, gives, at-once, length-grew, same-length-field, same-bytes}
 
 -- ---- `hear`: a packet, by its answer
-module _ (k : Kept) (p : List ℕ) (x : Outcome) (x-is : x ≡ received (k .lent) p) where
+module _ (k : Kept) (p : List ℕ) (x : Handled) (x-is : x ≡ received (k .lent) p) where
   heard-as : (a : Received) → x .answer ≡ a → counted a (x .after) k ≡ heard p k
   unfolding heard
-  heard-as a e = ap (λ (b : Received). counted b (x .after) k) (sym e) ∙ ap (λ (y : Outcome). counted (y .answer) (y .after) k) x-is
+  heard-as a e = ap (λ (b : Received). counted b (x .after) k) (sym e) ∙ ap (λ (y : Handled). counted (y .answer) (y .after) k) x-is
 
-  pub heard-accepted : (a : Account) → x .answer ≡ Received.Accepted a → (n : Totals) → n ≡ added (a .tally) (k .totals) → kept (k .bad) n (x .after) ≡ heard p k
+  pub heard-accepted : (a : Account) → x .answer ≡ Received.Accepted a → (n : Counts) → n ≡ added (a .counts) (k .totals) → kept (k .bad) n (x .after) ≡ heard p k
   unfolding counted
   heard-accepted a e n q = ap (λ m. kept (k .bad) m (x .after)) q ∙ heard-as (Received.Accepted a) e
 
@@ -67,7 +69,7 @@ cleared w h z l e =
     ap (λ v. take h w ++ (z ++ v)) behind ∙ ap (λ v. take h w ++ v) (append-nil z ∙ e ∙ ap (λ m. replicate m 0) n)
 
 -- ---- `push`: w′ is the buffer w with the byte stored
-module _ (k : Stream) (o s h w : List ℕ) (b : ℕ) (no-skip : k .skip ≡ 0) (fits : k .held ≤ length w) (big : 1502 ≤ length w) (w′ : List ℕ) (stored : w′ ≡ set w (k .held) b) where
+module _ (k : Stream) (o s h w : List ℕ) (b : ℕ) (no-skip : k .skip ≡ 0) (fits : k .held ≤ length w) (big : holdLeast ≤ length w) (w′ : List ℕ) (stored : w′ ≡ set w (k .held) b) where
   abbrev u : List ℕ
   u = take (k .held) w ++ (b ∷ [])
 
@@ -101,15 +103,15 @@ module _ (k : Stream) (o s h w : List ℕ) (b : ℕ) (no-skip : k .skip ≡ 0) (
     u-two : 2 ≤ length u
     u-two = omega (arith, u-size)
 
-    pub push-over : 1500 < n → Pushed b x (record { receiver = k .receiver; held = 0; skip = n; bad = k .bad; totals = k .totals }) o s h w′
+    pub push-over : packetMost < n → Pushed b x (record { receiver = k .receiver; held = 0; skip = n; bad = k .bad; totals = k .totals }) o s h w′
     push-over l =
         let g = over-long u K u-two (omega (arith, u-field)) in
         record { fits = omega arith; is = (λ i. hearing [] (u-field i) K) ∙ sym g ∙ sym is-grown }
 
-    pub push-keeps : n ≤ 1500 → k .held ≤ n → Pushed b x (record { receiver = k .receiver; held = k .held + 1; skip = k .skip; bad = k .bad; totals = k .totals }) o s h w′
+    pub push-keeps : n ≤ packetMost → k .held ≤ n → Pushed b x (record { receiver = k .receiver; held = k .held + 1; skip = k .skip; bad = k .bad; totals = k .totals }) o s h w′
     push-keeps a c = one-kept (keeps u K u-two (omega (arith, u-field)) (omega (arith, u-field, u-size))) (omega arith) (k .held + 1) refl
 
-    pub push-gives : n ≤ 1500 → n < k .held → (r : Stream) (o′ s′ h′ : List ℕ) → keptOf r o′ s′ h′ ≡ heard (take (2 + n - 2) (drop 2 w′)) K → r .held ≡ 0 → r .skip ≡ 0 → Pushed b x r o′ s′ h′ w′
+    pub push-gives : n ≤ packetMost → n < k .held → (r : Stream) (o′ s′ h′ : List ℕ) → keptOf r o′ s′ h′ ≡ heard (take (2 + n - 2) (drop 2 w′)) K → r .held ≡ 0 → r .skip ≡ 0 → Pushed b x r o′ s′ h′ w′
     push-gives a c r o′ s′ h′ e z y =
         let g = gives u K u-two (omega (arith, u-field)) (omega (arith, u-field, u-size)) in
         let p : take (2 + n - 2) (drop 2 w′) ≡ take (field u 0 2) (drop 2 u) = rw (add-sub-cancel-left 2 n, stored, ← u-field) (same-bytes w (k .held) b fits n (omega arith) (omega arith)) in
@@ -183,9 +185,9 @@ module _ (k : Stream) (o s h w chunk : List ℕ) where
       ∙ simp e
 
 -- the buffer of a stream that is not refused
-pub buffer-fits : (k : Stream) (o s h w : ℕ) → feedable k o s h w ≡ true → (k .held ≤ w) × (1502 ≤ w)
+pub buffer-fits : (k : Stream) (o s h w : ℕ) → feedable k o s h w ≡ true → (k .held ≤ w) × (holdLeast ≤ w)
 unfolding feedable
 buffer-fits k o s h w e =
-    let b = both-true {a = both (sizesOk o s h) (nextOk (k .receiver .next))} {b = both (leb 1502 w) (leb (k .held) w)} e .1 in
-    let p = both-true {a = leb 1502 w} {b = leb (k .held) w} b in
-    (leb-true (k .held) w (p .1), leb-true 1502 w (p .0))
+    let b = both-true {a = both (sizesOk o s h) (nextOk (k .receiver .next))} {b = both (leb holdLeast w) (leb (k .held) w)} e .1 in
+    let p = both-true {a = leb holdLeast w} {b = leb (k .held) w} b in
+    (leb-true (k .held) w (p .1), leb-true holdLeast w (p .0))

@@ -1,46 +1,51 @@
--- From a start, chunk after chunk: what a chunk leaves is never refused, so all chunks give what they give as one, and that is the play of the recording's packets.
+-- From a start, chunk after chunk: what a chunk leaves is never refused, so all chunks give what they give as one: what calls of `receive` give, one for each of the recording's packets.
 -- Assumes nothing.
-use Prim.Native.Nat.{ℕ, _≤_}
+use Prim.Native.Nat.{ℕ, _-_, _≤_}
 use mathlib.Core.Path.{_≡_, refl, sym, ap, subst, _∙_}
 use mathlib.Core.Bool.{true}
+use mathlib.Core.Logic.{_⊎_}
 use mathlib.Core.List.{List, [], _∷_, _++_, append-assoc, append-nil}
 use native.Mathlib.Omega.{arith}
 use lib.ListN.{length, replicate}
 use lib.Dec.{ltb}
 use borrow.Author.Tests.{le-leb}
 use Rattle.facts.specs.Pick.{pick, both}
+use Rattle.facts.specs.Limits.{holdLeast}
+use Rattle.facts.proofs.Picks.{both-true}
 use Rattle.facts.specs.Pieces.{join}
 use Rattle.fields.specs.declared.Refusal.{Refusal}
 use Rattle.arbitration.specs.Stream.{feed as each}
-use Rattle.arbitration.specs.Receive.{stop}
-use Rattle.shelf.specs.Store.{shelfStore}
-use Rattle.receiver.specs.Rules.{bookEngine}
-use Rattle.receiver.specs.Lent.{Lent, lent, rxOf, fresh, freshState, sizesOk, nextOk, begun, started}
-use Rattle.receiver.specs.Play.{packetsOf, plays, Demand}
+use Rattle.arbitration.specs.Receive.{accepted}
+use Rattle.arbitration.specs.Lists.{WellFormed, Copies}
+use Rattle.body.specs.Read.{goodBody}
+use Rattle.packet.specs.Packet.{framing}
+use Rattle.receiver.specs.Receiver.{nextOk, fit}
+use Rattle.receiver.specs.Demand3.{Given, MadeBy, Names, AnsweredTo}
+use Rattle.receiver.specs.Lent.{real, Lent, lent, ordersOf, symbolsOf, shelfOf, stateOf, receivedAll, fresh, freshState, zeroBook, sizesOk, begun, started}
 use Rattle.receiver.specs.declared.State.{State}
 use Rattle.receiver.specs.declared.Started.{Started}
-use Rattle.receiver.proofs.Fits.{never-six, demanded, stop-reported}
-use Rattle.receiver.proofs.Plays.{start-ready}
+use Rattle.receiver.proofs.Fits.{never-six}
+use Rattle.receiver.proofs.Real.{realLaws, real-demand, fresh-started, start-ready}
 use Rattle.recording.specs.Stream.{Kept, hears, Hearing, hearing, byte, keptOf, hearingOf, opened, cut, feedable, Outcome, outcome, streamIn, took, fed}
-use Rattle.recording.specs.Whole.{restOf, waiting, fedOn, fedAll, began, openedOver}
+use Rattle.recording.specs.Whole.{packetsOf, restOf, waiting, fedOn, fedAll, began, openedOver}
 use Rattle.recording.specs.declared.Stream.{Stream}
 use Rattle.recording.specs.declared.Fed.{Fed}
-use Rattle.recording.proofs.Packets.{all-heard, whole, hears-plays, cut-rest}
+use Rattle.recording.proofs.Packets.{all-heard, whole, hears-receives, cut-rest}
 use Rattle.recording.proofs.Cuts.{all-fit, same-stream, again, same-size, fed-then}
 
 -- the tests of a feed, met
-feedable-by : (k : Stream) (o s h w : ℕ) → (sizesOk o s h ≡ true) × (nextOk (k .receiver .next) ≡ true) → 1502 ≤ w → k .held ≤ w → feedable k o s h w ≡ true
+feedable-by : (k : Stream) (o s h w : ℕ) → (sizesOk o s h ≡ true) × (nextOk (k .receiver .next) ≡ true) → holdLeast ≤ w → k .held ≤ w → feedable k o s h w ≡ true
 unfolding feedable both
-feedable-by k o s h w six big fits = simp (six .0, six .1, le-leb 1502 w big, le-leb (k .held) w fits)
+feedable-by k o s h w six big fits = simp (six .0, six .1, le-leb holdLeast w big, le-leb (k .held) w fits)
 
 -- `start` and `open`: a start that was not refused is where this begins
 pub start-opened : (o s h w : List ℕ) (st : State) (o′ s′ h′ : List ℕ) → begun (Started.Ready st) o′ s′ h′ ≡ started o s h → (sizesOk (length o) (length s) (length h) ≡ true) × (outcome (Fed.Took (opened st)) o′ s′ h′ w ≡ openedOver (length o) (length s) (length h) w)
 start-opened o s h w st o′ s′ h′ e =
-    let r = start-ready o s h [] (Started.Ready st) o′ s′ h′ e st refl in
-    (r .0, ap (λ (l : Lent). outcome (Fed.Took (opened (l .state))) (l .orders) (l .symbols) (l .shelf) w) (r .1))
+    let r = start-ready o s h st o′ s′ h′ e in
+    (r .0, ap (λ (l : Lent). outcome (Fed.Took (opened (stateOf l))) (ordersOf l) (symbolsOf l) (shelfOf l) w) (r .1))
 
 -- o, s, h: the lengths of the lent tables; w: the lent buffer
-module _ (o s h : ℕ) (w : List ℕ) (sizes : sizesOk o s h ≡ true) (big : 1502 ≤ length w) where
+module _ (o s h : ℕ) (w : List ℕ) (sizes : sizesOk o s h ≡ true) (big : holdLeast ≤ length w) where
   -- after all bytes of t
   abbrev after : List ℕ → Hearing
   after t = each byte t (hearing [] 0 (began o s h))
@@ -49,11 +54,20 @@ module _ (o s h : ℕ) (w : List ℕ) (sizes : sizesOk o s h ≡ true) (big : 15
   abbrev one : List ℕ → Outcome
   one t = fed (opened freshState) (replicate o 0) (replicate s 0) (replicate h 0) w t
 
-  after-lent : (t : List ℕ) → after t .kept .lent ≡ plays (packetsOf t) (fresh o s h)
-  after-lent t = ap (λ (x : Kept). x .lent) (whole t (began o s h)) ∙ hears-plays (packetsOf t) (began o s h)
+  after-lent : (t : List ℕ) → after t .kept .lent ≡ receivedAll (packetsOf t) (fresh o s h)
+  after-lent t = ap (λ (x : Kept). x .lent) (whole t (began o s h)) ∙ hears-receives (packetsOf t) (began o s h)
 
-  six : (t : List ℕ) (l : Lent) → l ≡ after t .kept .lent → (sizesOk (length (l .orders)) (length (l .symbols)) (length (l .shelf)) ≡ true) × (nextOk (l .state .next) ≡ true)
-  six t l e = subst (λ (x : Lent). (sizesOk (length (x .orders)) (length (x .symbols)) (length (x .shelf)) ≡ true) × (nextOk (x .state .next) ≡ true)) (sym (e ∙ after-lent t)) (never-six o s h sizes (packetsOf t))
+  abbrev NoSix : Lent → Type 0
+  NoSix x = (sizesOk (length (ordersOf x)) (length (symbolsOf x)) (length (shelfOf x)) ≡ true) × (nextOk (stateOf x .next) ≡ true)
+
+  no-six : (x : Lent) → fit real x ≡ true → NoSix x
+  unfolding fit
+  no-six x e = both-true {a = sizesOk (length (ordersOf x)) (length (symbolsOf x)) (length (shelfOf x))} {b = nextOk (stateOf x .next)} e
+
+  six : (t : List ℕ) (l : Lent) → l ≡ after t .kept .lent → NoSix l
+  six t l e =
+      subst NoSix (sym (e ∙ after-lent t))
+      (no-six (receivedAll (packetsOf t) (fresh o s h)) (never-six real realLaws (zeroBook o s) (fresh o s h) (fresh-started o s h sizes) (packetsOf t)))
 
   one-is : (t : List ℕ) → one t ≡ took (length w) (after t)
   unfolding fed pick each
@@ -120,17 +134,23 @@ module _ (o s h : ℕ) (w : List ℕ) (sizes : sizesOk o s h ≡ true) (big : 15
     pub pieces-kept : keptOf k o′ s′ h′ ≡ hears (packetsOf (join cs)) (began o s h)
     pieces-kept = ap (λ (x : Hearing). x .kept) (pieces-heard .1) ∙ whole (join cs) (began o s h)
 
-    -- the receiver and its tables: those of `play`
-    pub pieces-played : lent o′ s′ h′ (k .receiver) ≡ plays (packetsOf (join cs)) (fresh o s h)
-    pieces-played = ap (λ (x : Kept). x .lent) pieces-kept ∙ hears-plays (packetsOf (join cs)) (began o s h)
+    -- the receiver and its tables: those of a start and a call of `receive` for each of the recording's packets
+    pub pieces-received : lent o′ s′ h′ (k .receiver) ≡ receivedAll (packetsOf (join cs)) (fresh o s h)
+    pieces-received = ap (λ (x : Kept). x .lent) pieces-kept ∙ hears-receives (packetsOf (join cs)) (began o s h)
 
     -- "recording=cut"
     pub pieces-cut : cut k ≡ ltb 0 (length (restOf (join cs)))
     pieces-cut = ap cut (sym (pieces-heard .0)) ∙ cut-rest (join cs) (began o s h)
 
-    -- demand 3, both halves, and the stop that it names
-    pub pieces-demand : Demand o s h (join cs) (rxOf (lent o′ s′ h′ (k .receiver))) × (k .receiver .stop ≡ stop shelfStore bookEngine (rxOf (lent o′ s′ h′ (k .receiver))))
-    pieces-demand = (
-      subst (λ (l : Lent). Demand o s h (join cs) (rxOf l)) (sym pieces-played) (demanded o s h sizes (join cs)),
-      subst (λ (l : Lent). l .state .stop ≡ stop shelfStore bookEngine (rxOf l)) (sym pieces-played) (stop-reported o s h sizes (join cs)),
-    )
+    -- so demand 3 speaks of it, with the recording's packets for those given
+    module _ (ms : List (List ℕ)) (wf : WellFormed goodBody ms) (copies : Copies ms (accepted framing (packetsOf (join cs)))) where
+      pub pieces-given : Given real ms (zeroBook o s) (fresh o s h) (packetsOf (join cs))
+      pieces-given = record { well-formed = wf; started = fresh-started o s h sizes; copies = copies }
+
+      pub pieces-first : MadeBy real ms (zeroBook o s) (lent o′ s′ h′ (k .receiver))
+      pieces-first = subst (MadeBy real ms (zeroBook o s)) (sym pieces-received) (real-demand ms o s .first (fresh o s h) (packetsOf (join cs)) pieces-given)
+
+      pub pieces-second : (j : ℕ) → AnsweredTo real j (packetsOf (join cs)) (fresh o s h) → (j ≤ k .receiver .next - 1) ⊎ Names real ms (zeroBook o s) (lent o′ s′ h′ (k .receiver))
+      pieces-second j all =
+          subst (λ (x : Lent). (j ≤ x .rx .next - 1) ⊎ Names real ms (zeroBook o s) x) (sym pieces-received)
+          (real-demand ms o s .second (fresh o s h) (packetsOf (join cs)) pieces-given j all)

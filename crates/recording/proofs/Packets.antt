@@ -12,6 +12,7 @@ use lib.Seq.{drop-length, drop-drop, take-all, length-take-le}
 use lib.Dec.{leb, ltb, eqb}
 use borrow.Author.Tests.{le-leb, lt-leb, lt-ltb, le-ltb, eq-eqb, ne-eqb}
 use Rattle.facts.specs.Pick.{pick, both, either}
+use Rattle.facts.specs.Limits.{packetMost}
 use Rattle.facts.specs.Pieces.{join}
 use Rattle.facts.proofs.Picks.{pick-ind, either-none}
 use Rattle.wire.specs.Le.{field}
@@ -20,12 +21,12 @@ use Rattle.fields.specs.Fields.{refusal}
 use Rattle.packet.specs.Packet.{Framing, framing}
 use Rattle.arbitration.specs.Stream.{feed as each, feeds}
 use Rattle.arbitration.proofs.StreamLaws as pieces
-use Rattle.receiver.specs.Lent.{Lent, Outcome, outcome, framed, received, sizesOk, nextOk}
-use Rattle.receiver.specs.Play.{packetsIn, packetsOf, plays}
+use Rattle.receiver.specs.Receiver.{handledBy, fit, receives, receivesAll}
+use Rattle.receiver.specs.Lent.{real, Lent, Handled, handled, received, receivedAll}
 use Rattle.receiver.specs.declared.Received.{Received}
-use Rattle.receiver.proofs.Recordings.{packets-short, packets-cut, packets-next, packets-enough}
+use Rattle.recording.proofs.PacketLaws.{packets-short, packets-cut, packets-next, packets-enough}
 use Rattle.recording.specs.Stream.{more, Kept, kept, counted, heard, hears, Hearing, hearing, passed, byte, cut, streamIn}
-use Rattle.recording.specs.Whole.{packed, restOf, Inside, waiting}
+use Rattle.recording.specs.Whole.{packetsIn, packetsOf, packed, restOf, Inside, waiting}
 use Rattle.recording.proofs.Bytes.{passes, so-far, at-once, length-seen}
 
 -- request 13: "However a recording is cut, empty chunks included"
@@ -34,32 +35,32 @@ any-cut = pieces.any-cut byte
 
 -- ---- the packets of a recording
 -- a packet of more than 1,500 bytes is refused, as any bad one is
-framing-long : (p : List ℕ) → 1500 < length p → framing p ≡ bad (refusal 1)
+framing-long : (p : List ℕ) → packetMost < length p → framing p ≡ bad (refusal 1)
 unfolding framing both pick
-framing-long p h = simp (le-leb 1 (length p) (omega arith), lt-leb (length p) 1500 h)
+framing-long p h = simp (le-leb 1 (length p) (omega arith), lt-leb (length p) packetMost h)
 
-pub heard-long : (p : List ℕ) (k : Kept) → 1500 < length p → heard p k ≡ kept (more (k .bad) 1) (k .totals) (k .lent)
-unfolding heard counted received framed
+pub heard-long : (p : List ℕ) (k : Kept) → packetMost < length p → heard p k ≡ kept (more (k .bad) 1) (k .totals) (k .lent)
+unfolding heard counted receives handledBy
 heard-long p k h =
-    pick-ind Bad (both (sizesOk (length (k .lent .orders)) (length (k .lent .symbols)) (length (k .lent .shelf))) (nextOk (k .lent .state .next))) (framed (framing p) (k .lent)) (outcome (Received.Refused (refusal 6)) (k .lent))
-    (λ _. ap (λ (x : Framing). counted (framed x (k .lent) .answer) (framed x (k .lent) .after) k) (framing-long p h))
+    pick-ind Bad (fit real (k .lent)) (handledBy real (framing p) (k .lent)) (handled (Received.Refused (refusal 6)) (k .lent))
+    (λ _. ap (λ (x : Framing). counted (handledBy real x (k .lent) .answer) (handledBy real x (k .lent) .after) k) (framing-long p h))
     (λ _. refl)
   where
-    Bad : Outcome → Type 0
+    Bad : Handled → Type 0
     Bad x = counted (x .answer) (x .after) k ≡ kept (more (k .bad) 1) (k .totals) (k .lent)
 
 -- ---- what the bytes that are left come to
-waiting-over : (u : List ℕ) (k : Kept) → 2 ≤ length u → 1500 < field u 0 2 → waiting u k ≡ hearing [] (field u 0 2 - (length u - 2)) k
+waiting-over : (u : List ℕ) (k : Kept) → 2 ≤ length u → packetMost < field u 0 2 → waiting u k ≡ hearing [] (field u 0 2 - (length u - 2)) k
 unfolding waiting both pick
-waiting-over u k two long = simp (le-leb 2 (length u) two, lt-ltb 1500 (field u 0 2) long)
+waiting-over u k two long = simp (le-leb 2 (length u) two, lt-ltb packetMost (field u 0 2) long)
 
-waiting-held : (u : List ℕ) (k : Kept) → (2 ≤ length u → field u 0 2 ≤ 1500) → waiting u k ≡ hearing u 0 k
+waiting-held : (u : List ℕ) (k : Kept) → (2 ≤ length u → field u 0 2 ≤ packetMost) → waiting u k ≡ hearing u 0 k
 unfolding waiting both pick
 waiting-held u k small = go (decLt (length u) 2)
   where
     go : Dec (length u < 2) → waiting u k ≡ hearing u 0 k
     go (yes a) = simp (lt-leb 2 (length u) a)
-    go (no a) = simp (le-leb 2 (length u) (omega arith), le-ltb 1500 (field u 0 2) (small (omega arith)))
+    go (no a) = simp (le-leb 2 (length u) (omega arith), le-ltb packetMost (field u 0 2) (small (omega arith)))
 
 module _ (t : List ℕ) (k : Kept) where
   abbrev n : ℕ
@@ -69,14 +70,14 @@ module _ (t : List ℕ) (k : Kept) where
   end = each byte t (hearing [] 0 k)
 
   -- it ends inside a length, or inside a packet that is not over-long
-  unfinished : length t < 2 + n → (2 ≤ length t → n ≤ 1500) → end ≡ waiting t k
+  unfinished : length t < 2 + n → (2 ≤ length t → n ≤ packetMost) → end ≡ waiting t k
   unfolding each
   unfinished h small =
       sym (so-far t k (length t) (omega arith) h small)
       ∙ (λ i. each byte (drop-length t i) (hearing (take-all (length t) t (omega arith) i) 0 k))
       ∙ sym (waiting-held t k small)
 
-  module _ (two : 2 ≤ length t) (long : 1500 < n) where
+  module _ (two : 2 ≤ length t) (long : packetMost < n) where
     seen : each byte (drop 2 t) (hearing [] n k) ≡ end
     seen = length-seen t k two long
 
@@ -115,18 +116,18 @@ module _ (t : List ℕ) (k : Kept) where
 
   -- a packet that is all there
   pub next-packet : 2 ≤ length t → n ≤ length t - 2 → each byte (drop (2 + n) t) (hearing [] 0 (heard (take n (drop 2 t)) k)) ≡ end
-  next-packet two h = go (decLt 1500 n)
+  next-packet two h = go (decLt packetMost n)
     where
-      go : Dec (1500 < n) → each byte (drop (2 + n) t) (hearing [] 0 (heard (take n (drop 2 t)) k)) ≡ end
+      go : Dec (packetMost < n) → each byte (drop (2 + n) t) (hearing [] 0 (heard (take n (drop 2 t)) k)) ≡ end
       go (yes a) = passed-by two a h
       go (no a) = at-once t k (omega arith) (omega arith)
 
   -- "that last piece is dropped, not bad": it waits, and nothing is counted
   pub last-piece : Inside t → end ≡ waiting t k
   last-piece (inl a) = unfinished (omega arith) (λ b. absurd (omega arith))
-  last-piece (inr b) = go (decLt (length t) 2) (decLt 1500 n)
+  last-piece (inr b) = go (decLt (length t) 2) (decLt packetMost n)
     where
-      go : Dec (length t < 2) → Dec (1500 < n) → end ≡ waiting t k
+      go : Dec (length t < 2) → Dec (packetMost < n) → end ≡ waiting t k
       go (yes a) c = unfinished (omega arith) (λ d. absurd (omega arith))
       go (no a) (yes c) = passing (omega arith) c b
       go (no a) (no c) = unfinished (omega arith) (λ _. omega arith)
@@ -171,7 +172,7 @@ all-heard =
 
 waiting-kept : (u : List ℕ) (k : Kept) → waiting u k .kept ≡ k
 unfolding waiting
-waiting-kept u k = pick-ind (λ (x : Hearing). x .kept ≡ k) (both (leb 2 (length u)) (ltb 1500 (field u 0 2))) (hearing [] (field u 0 2 - (length u - 2)) k) (hearing u 0 k) (λ _. refl) (λ _. refl)
+waiting-kept u k = pick-ind (λ (x : Hearing). x .kept ≡ k) (both (leb 2 (length u)) (ltb packetMost (field u 0 2))) (hearing [] (field u 0 2 - (length u - 2)) k) (hearing u 0 k) (λ _. refl) (λ _. refl)
 
 pub whole : (t : List ℕ) (k : Kept) → each byte t (hearing [] 0 k) .kept ≡ hears (packetsOf t) k
 whole t k = ap (λ (x : Hearing). x .kept) (all-heard t k) ∙ waiting-kept (restOf t) (hears (packetsOf t) k)
@@ -187,19 +188,19 @@ rest-inside =
     ))
 
 -- ---- "a recording that ends inside a length or packet gives `recording=cut`": where anything is left of it, and only there
-cut-held : (u : List ℕ) (k : Kept) → (2 ≤ length u → field u 0 2 ≤ 1500) → cut (streamIn (waiting u k)) ≡ ltb 0 (length u)
+cut-held : (u : List ℕ) (k : Kept) → (2 ≤ length u → field u 0 2 ≤ packetMost) → cut (streamIn (waiting u k)) ≡ ltb 0 (length u)
 unfolding cut
 cut-held u k small = ap (λ (x : Hearing). cut (streamIn x)) (waiting-held u k small) ∙ either-none (ltb 0 (length u))
 
-cut-over : (u : List ℕ) (k : Kept) → 2 ≤ length u → 1500 < field u 0 2 → length u - 2 < field u 0 2 → cut (streamIn (waiting u k)) ≡ ltb 0 (length u)
+cut-over : (u : List ℕ) (k : Kept) → 2 ≤ length u → packetMost < field u 0 2 → length u - 2 < field u 0 2 → cut (streamIn (waiting u k)) ≡ ltb 0 (length u)
 unfolding cut either
 cut-over u k two long h = ap (λ (x : Hearing). cut (streamIn x)) (waiting-over u k two long) ∙ lt-ltb 0 (field u 0 2 - (length u - 2)) (omega arith) ∙ sym (lt-ltb 0 (length u) (omega arith))
 
 cut-waiting : (u : List ℕ) (k : Kept) → Inside u → cut (streamIn (waiting u k)) ≡ ltb 0 (length u)
 cut-waiting u k (inl a) = cut-held u k (λ b. absurd (omega arith))
-cut-waiting u k (inr b) = go (decLt (length u) 2) (decLt 1500 (field u 0 2))
+cut-waiting u k (inr b) = go (decLt (length u) 2) (decLt packetMost (field u 0 2))
   where
-    go : Dec (length u < 2) → Dec (1500 < field u 0 2) → cut (streamIn (waiting u k)) ≡ ltb 0 (length u)
+    go : Dec (length u < 2) → Dec (packetMost < field u 0 2) → cut (streamIn (waiting u k)) ≡ ltb 0 (length u)
     go (yes a) c = cut-held u k (λ d. absurd (omega arith))
     go (no a) (no c) = cut-held u k (λ _. omega arith)
     go (no a) (yes c) = cut-over u k (omega arith) c b
@@ -207,13 +208,13 @@ cut-waiting u k (inr b) = go (decLt (length u) 2) (decLt 1500 (field u 0 2))
 pub cut-rest : (t : List ℕ) (k : Kept) → cut (streamIn (each byte t (hearing [] 0 k))) ≡ ltb 0 (length (restOf t))
 cut-rest t k = ap (λ (x : Hearing). cut (streamIn x)) (all-heard t k) ∙ cut-waiting (restOf t) (hears (packetsOf t) k) (rest-inside t .1)
 
--- the receiver and its tables are those of `play_on`
+-- the receiver and its tables are those of as many calls of `receive`
 counted-after : (a : Received) (after : Lent) (k : Kept) → counted a after k .lent ≡ after
 unfolding counted
 counted-after (Received.Accepted t) after k = refl
 counted-after (Received.Refused r) after k = refl
 
-pub hears-plays : (ps : List (List ℕ)) (k : Kept) → hears ps k .lent ≡ plays ps (k .lent)
-unfolding hears plays heard
-hears-plays [] k = refl
-hears-plays (p ∷ ps) k = hears-plays ps (heard p k) ∙ ap (plays ps) (counted-after (received (k .lent) p .answer) (received (k .lent) p .after) k)
+pub hears-receives : (ps : List (List ℕ)) (k : Kept) → hears ps k .lent ≡ receivedAll ps (k .lent)
+unfolding hears receivesAll heard
+hears-receives [] k = refl
+hears-receives (p ∷ ps) k = hears-receives ps (heard p k) ∙ ap (receivedAll ps) (counted-after (received (k .lent) p .answer) (received (k .lent) p .after) k)

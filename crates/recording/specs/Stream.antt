@@ -7,12 +7,14 @@ use lib.Dec.{leb, ltb, eqb}
 use Rattle.facts.specs.Pick.{pick, both, either}
 use Rattle.wire.specs.Le.{field}
 use Rattle.fields.specs.Fields.{refusal}
+use Rattle.facts.specs.Limits.{packetMost, holdLeast}
+use Rattle.arbitration.specs.declared.Counts.{Counts}
+use Rattle.arbitration.specs.Loops.{noCounts}
 use Rattle.arbitration.specs.Stream.{feed as each}
-use Rattle.receiver.specs.Lent.{Lent, lent, received, sizesOk, nextOk}
+use Rattle.receiver.specs.Receiver.{nextOk}
+use Rattle.receiver.specs.Lent.{Lent, lent, ordersOf, symbolsOf, shelfOf, stateOf, received, sizesOk}
 use Rattle.receiver.specs.declared.State.{State}
-use Rattle.receiver.specs.declared.Tally.{Tally}
 use Rattle.receiver.specs.declared.Received.{Received}
-use Rattle.recording.specs.declared.Totals.{Totals}
 use Rattle.recording.specs.declared.Stream.{Stream}
 use Rattle.recording.specs.declared.Fed.{Fed}
 
@@ -21,24 +23,21 @@ unfoldable pub more : ℕ → ℕ → ℕ
 more a b = min (a + b) 18446744073709551615
 
 -- "the totals of each record answer"
-abbrev pub noTotals : Totals
-noTotals = record { taken = 0; old = 0; far = 0; repeated = 0; differing = 0 }
-
-unfoldable pub added : Tally → Totals → Totals
+unfoldable pub added : Counts → Counts → Counts
 added t n = record { taken = more (n .taken) (t .taken); old = more (n .old) (t .old); far = more (n .far) (t .far); repeated = more (n .repeated) (t .repeated); differing = more (n .differing) (t .differing) }
 
 -- what packets change: the counts, and the receiver with its tables
 pub record Kept : Type 0 where
   pub bad : ℕ
-  pub totals : Totals
+  pub totals : Counts
   pub lent : Lent
 
-abbrev pub kept : ℕ → Totals → Lent → Kept
+abbrev pub kept : ℕ → Counts → Lent → Kept
 kept b n k = record { bad = b; totals = n; lent = k }
 
 -- "A refused packet is counted as bad and passed over"
 unfoldable pub counted : Received → Lent → Kept → Kept
-counted (Received.Accepted a) after k = kept (k .bad) (added (a .tally) (k .totals)) after
+counted (Received.Accepted a) after k = kept (k .bad) (added (a .counts) (k .totals)) after
 counted (Received.Refused r) after k = kept (more (k .bad) 1) (k .totals) after
 
 unfoldable pub heard : List ℕ → Kept → Kept
@@ -66,7 +65,7 @@ passed n x = hearing (x .unfinished) (x .skip - n) (kept (pick (eqb n (x .skip))
 unfoldable pub grown : List ℕ → Kept → Hearing
 grown u k =
     pick (ltb (length u) 2) (hearing u 0 k)
-    (pick (ltb 1500 (field u 0 2)) (hearing [] (field u 0 2) k)
+    (pick (ltb packetMost (field u 0 2)) (hearing [] (field u 0 2) k)
     (pick (ltb (length u) (2 + field u 0 2)) (hearing u 0 k)
     (hearing [] 0 (heard (take (field u 0 2) (drop 2 u)) k))))
 
@@ -83,7 +82,7 @@ hearingOf k o s h w = hearing (take (k .held) w) (k .skip) (keptOf k o s h)
 
 -- nothing held, nothing to pass over, nothing counted
 abbrev pub opened : State → Stream
-opened q = record { receiver = q; held = 0; skip = 0; bad = 0; totals = noTotals }
+opened q = record { receiver = q; held = 0; skip = 0; bad = 0; totals = noCounts }
 
 -- "a recording that ends inside a length or packet gives `recording=cut`"
 unfoldable pub cut : Stream → Bool
@@ -91,7 +90,7 @@ cut k = either (ltb 0 (k .held)) (ltb 0 (k .skip))
 
 -- "a lent buffer of 1,502 bytes or more for the unfinished packet (else 6, as also when the state claims more bytes held than the buffer has)"; 6 also where a receiver is refused by 6
 unfoldable pub feedable : Stream → ℕ → ℕ → ℕ → ℕ → Bool
-feedable k o s h w = both (both (sizesOk o s h) (nextOk (k .receiver .next))) (both (leb 1502 w) (leb (k .held) w))
+feedable k o s h w = both (both (sizesOk o s h) (nextOk (k .receiver .next))) (both (leb holdLeast w) (leb (k .held) w))
 
 -- an answer, and what was lent after it
 pub record Outcome : Type 0 where
@@ -110,13 +109,13 @@ fedNumber (Fed.Took k) = 0
 fedNumber (Fed.Refused r) = r .number
 
 abbrev pub streamIn : Hearing → Stream
-streamIn x = record { receiver = x .kept .lent .state; held = length (x .unfinished); skip = x .skip; bad = x .kept .bad; totals = x .kept .totals }
+streamIn x = record { receiver = stateOf (x .kept .lent); held = length (x .unfinished); skip = x .skip; bad = x .kept .bad; totals = x .kept .totals }
 
 -- the stream after a chunk: in a buffer of w bytes the unfinished ones, and zeros behind them
 unfoldable pub took : ℕ → Hearing → Outcome
 took w x =
     outcome (Fed.Took (streamIn x))
-    (x .kept .lent .orders) (x .kept .lent .symbols) (x .kept .lent .shelf)
+    (ordersOf (x .kept .lent)) (symbolsOf (x .kept .lent)) (shelfOf (x .kept .lent))
     (x .unfinished ++ replicate (w - length (x .unfinished)) 0)
 
 -- a chunk of any size, and a stream of any state with anything lent

@@ -1,15 +1,29 @@
 -- A whole recording: what lies behind its last packet, and chunk after chunk from a start (document 01, "The sheet").
-use Prim.Native.Nat.{ℕ, _+_, _-_, _<_}
+use Prim.Native.Nat.{ℕ, zero, suc, _+_, _-_, _<_}
 use mathlib.Core.Logic.{_⊎_}
 use mathlib.Core.List.{List, [], _∷_}
-use lib.ListN.{length, drop, replicate}
+use lib.ListN.{length, take, drop, replicate}
 use lib.Dec.{leb, ltb}
 use Rattle.facts.specs.Pick.{pick, both}
+use Rattle.facts.specs.Limits.{packetMost}
 use Rattle.wire.specs.Le.{field}
 use Rattle.receiver.specs.Lent.{fresh, freshState}
-use Rattle.receiver.specs.Play.{packetsOf}
-use Rattle.recording.specs.Stream.{Kept, kept, noTotals, Hearing, hearing, opened, Outcome, outcome, fed}
+use Rattle.arbitration.specs.Loops.{noCounts}
+use Rattle.recording.specs.Stream.{Kept, kept, Hearing, hearing, opened, Outcome, outcome, fed}
 use Rattle.recording.specs.declared.Fed.{Fed}
+
+-- ---- its packets
+-- "packets each behind a 2-byte length"; "that last piece is dropped" where a recording ends inside a length or packet
+unfoldable pub packetsIn : ℕ → List ℕ → List (List ℕ)
+packetsIn zero t = []
+packetsIn (suc f) t =
+    pick (ltb (length t) 2) []
+    (pick (ltb (length t - 2) (field t 0 2)) []
+    (take (field t 0 2) (drop 2 t) ∷ packetsIn f (drop (2 + field t 0 2) t)))
+
+-- all of a recording; it has no more packets than bytes
+abbrev pub packetsOf : List ℕ → List (List ℕ)
+packetsOf t = packetsIn (length t) t
 
 -- ---- its end
 -- "packets each behind a 2-byte length": how many bytes they are with their lengths
@@ -27,7 +41,7 @@ Inside u = (length u < 2) ⊎ (length u - 2 < field u 0 2)
 
 -- such bytes and no more: the rest of an over-long packet is passed over, any other piece is held
 unfoldable pub waiting : List ℕ → Kept → Hearing
-waiting u k = pick (both (leb 2 (length u)) (ltb 1500 (field u 0 2))) (hearing [] (field u 0 2 - (length u - 2)) k) (hearing u 0 k)
+waiting u k = pick (both (leb 2 (length u)) (ltb packetMost (field u 0 2))) (hearing [] (field u 0 2 - (length u - 2)) k) (hearing u 0 k)
 
 -- ---- chunk after chunk
 -- over what the chunk before left; a refused one stays refused, and nothing is fed after it
@@ -45,7 +59,7 @@ fedAll (c ∷ cs) x = fedAll cs (fedOn c x)
 -- ---- from a start
 -- nothing counted
 abbrev pub began : ℕ → ℕ → ℕ → Kept
-began o s h = kept 0 noTotals (fresh o s h)
+began o s h = kept 0 noCounts (fresh o s h)
 
 -- a stream that was opened over the tables of a start; w: the lent buffer, with any bytes
 abbrev pub openedOver : ℕ → ℕ → ℕ → List ℕ → Outcome

@@ -1,23 +1,17 @@
 // A recording in pieces: packets, each behind its length in two bytes, carved out of chunks of any size and given to a receiver.
+use arbitration::Counts;
+use facts::HOLD_LEAST;
+use facts::PACKET_MOST;
 use fields::Refusal;
 use receiver::Received;
 use receiver::State;
-use receiver::Tally;
 ghost use mathlib.Core.Path.{_≡_};
 ghost use mathlib.Core.List.{_++_};
 ghost use Prim.Native.Nat.{_+_, _-_, _≤_, _<_};
+ghost use Rattle.facts.specs.Limits.{holdLeast};
 ghost use lib.ListN.{length, take, drop, set, replicate};
 ghost use Rattle.recording.specs.Stream.{more as atMost, added, heard, keptOf, hearingOf, opened, cut, feedable, outcome, fed};
 ghost use Rattle.recording.specs.Steps.{Whole, Passed, Pushed, Stepped, Ran};
-
-// How many records got each answer, over all accepted packets.
-pub struct Totals {
-    pub taken: u64,
-    pub old: u64,
-    pub far: u64,
-    pub repeated: u64,
-    pub differing: u64,
-}
 
 // What a stream keeps between chunks, beside its buffer: the receiver, how many bytes of an unfinished packet are in the buffer, how many
 // of an over-long one are still to come, and the counts.
@@ -26,7 +20,7 @@ pub struct Stream {
     pub held: usize,
     pub skip: usize,
     pub bad: u64,
-    pub totals: Totals,
+    pub totals: Counts,
 }
 
 pub enum Fed {
@@ -46,15 +40,15 @@ fn more(a: u64, b: u64) -> u64
     if u64::MAX - a < b { u64::MAX } else { a + b }
 }
 
-fn add(n: Totals, t: Tally) -> Totals
+fn add(n: Counts, t: Counts) -> Counts
     ensures { λ r. ⌜ r ≡ added t n ⌝ }
 {
-    Totals {
-        taken: more(n.taken, t.taken as u64),
-        old: more(n.old, t.old as u64),
-        far: more(n.far, t.far as u64),
-        repeated: more(n.repeated, t.repeated as u64),
-        differing: more(n.differing, t.differing as u64),
+    Counts {
+        taken: more(n.taken, t.taken),
+        old: more(n.old, t.old),
+        far: more(n.far, t.far),
+        repeated: more(n.repeated, t.repeated),
+        differing: more(n.differing, t.differing),
     }
 }
 
@@ -68,8 +62,8 @@ fn hear(orders: &mut [u64], symbols: &mut [u8], shelf: &mut [u8], k: Stream, p: 
     let totals = k.totals;
     match answer {
         Received::Accepted(t) => {
-            let tally = t.tally;
-            let sums = add(totals, tally);
+            let counts = t.counts;
+            let sums = add(totals, counts);
             Stream {
                 receiver,
                 held: 0,
@@ -130,7 +124,7 @@ fn push(
     k: Stream,
     x: u8,
 ) -> Stream
-    requires { ⌜ (k .skip ≡ 0) × (k .held ≤ length (now hold)) × (1502 ≤ length (now hold)) ⌝ }
+    requires { ⌜ (k .skip ≡ 0) × (k .held ≤ length (now hold)) × (holdLeast ≤ length (now hold)) ⌝ }
     ensures { λ r. ⌜ Pushed x (hearingOf k (now (orders .entry)) (now (symbols .entry)) (now (shelf .entry)) (now (hold .entry))) r (now (orders .exit)) (now (symbols .exit)) (now (shelf .exit)) (now (hold .exit)) ⌝ }
 {
     let held = k.held;
@@ -141,7 +135,7 @@ fn push(
         return r;
     }
     let n = wire::u16_at(hold, 0) as usize;
-    if 1500 < n {
+    if PACKET_MOST < n {
         r.held = 0;
         r.skip = n;
         return r;
@@ -160,7 +154,7 @@ fn whole(chunk: &[u8], at: usize) -> usize
 {
     let left = chunk.len() - at;
     let n = wire::u16_at(chunk, at) as usize;
-    if 1500 < n {
+    if PACKET_MOST < n {
         return 0;
     }
     if left < 2 + n {
@@ -195,7 +189,7 @@ fn step(
     chunk: &[u8],
     at: usize,
 ) -> Moved
-    requires { ⌜ (at < length (now chunk)) × (k .held ≤ length (now hold)) × (1502 ≤ length (now hold)) ⌝ }
+    requires { ⌜ (at < length (now chunk)) × (k .held ≤ length (now hold)) × (holdLeast ≤ length (now hold)) ⌝ }
     ensures { λ r. ⌜ Stepped (now (chunk .entry)) at (hearingOf k (now (orders .entry)) (now (symbols .entry)) (now (shelf .entry)) (now (hold .entry))) r (now (orders .exit)) (now (symbols .exit)) (now (shelf .exit)) (now (hold .exit)) ⌝ }
 {
     let held = k.held;
@@ -224,7 +218,7 @@ fn run(
     s: Stream,
     chunk: &[u8],
 ) -> Stream
-    requires { ⌜ (s .held ≤ length (now hold)) × (1502 ≤ length (now hold)) ⌝ }
+    requires { ⌜ (s .held ≤ length (now hold)) × (holdLeast ≤ length (now hold)) ⌝ }
     ensures { λ r. ⌜ Ran (now (chunk .entry)) (hearingOf s (now (orders .entry)) (now (symbols .entry)) (now (shelf .entry)) (now (hold .entry))) r (now (orders .exit)) (now (symbols .exit)) (now (shelf .exit)) (now (hold .exit)) ⌝ }
 {
     let mut k = s;
@@ -255,7 +249,7 @@ fn can_feed(s: Stream, orders: usize, symbols: usize, shelf: usize, hold: usize)
     if !receiver::next_ok(state.next) {
         return false;
     }
-    1502 <= hold && s.held <= hold
+    HOLD_LEAST <= hold && s.held <= hold
 }
 
 // A stream over a receiver, before the first chunk.
@@ -267,7 +261,7 @@ pub fn open(state: State) -> Stream
         held: 0,
         skip: 0,
         bad: 0,
-        totals: Totals {
+        totals: Counts {
             taken: 0,
             old: 0,
             far: 0,

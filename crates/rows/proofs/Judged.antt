@@ -103,6 +103,10 @@ one-kind r = go (free r) refl (live r) refl
 pub zero-not-live : live zeroRow ≡ false
 zero-not-live = free-not-live zeroRow zero-free
 
+pub zero-unspoiled : spoiled zeroRow ≡ false
+unfolding spoiled either
+zero-unspoiled = rw zero-free refl
+
 pub spoiled-not-live : (r : Row) → spoiled r ≡ true → live r ≡ false
 spoiled-not-live r e = go (one-kind r)
   where
@@ -159,6 +163,10 @@ key-is k r e = both-is e
 pub is-this : (id : ℕ) (r : Row) → r .order ≡ id → live r ≡ true → isOrder id r ≡ true
 unfolding isOrder
 is-this id r e l = sym (same-number (r .order) id (live r) e) ∙ l
+
+pub of-key : (k : ℕ) (r : Row) → r .key ≡ k → live r ≡ true → ofKey k r ≡ true
+unfolding ofKey
+of-key k r e l = sym (same-number (r .key) k (live r) e) ∙ l
 
 pub other-symbol : (s : ℕ) (r : Row) → (symbolOf r ≡ s → ⊥) → ofSymbol s r ≡ false
 unfolding ofSymbol

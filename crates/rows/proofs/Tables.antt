@@ -6,14 +6,14 @@ use mathlib.Core.Bool.{Bool, true, false}
 use Prim.Native.Nat.{ℕ, suc, _+_, _*_, _/_, _%_, _≤_, _<_}
 use native.Mathlib.Nat.{add-zero, mod-lt, mod-def}
 use native.Mathlib.Omega.{arith}
-use lib.ListN.{length, getD, set, take, drop, replicate, length-drop, length-map, List·getD-map, List·getD-eq-default}
+use lib.ListN.{length, getD, set, take, drop, replicate, length-replicate, getD-replicate, length-drop, length-map, List·getD-map, List·getD-eq-default}
 use lib.Seq.{drop-at, getD-set-same, getD-set-other}
 use lib.Dec.{ltb}
 use borrow.Author.Tests.{ltb-true, ltb-false}
 use Rattle.facts.specs.Pieces.{pieces}
 use Rattle.facts.proofs.PieceLaws.{length-pieces, getD-pieces, getD-piece, put-in, put-out, length-put, put-self, pieces-replicate, map-replicate, length-piece, length-join, wide-map, values-put, values-join, join-values, rest-put, rest-values, values-rest}
 use Rattle.rows.specs.declared.Row.{Row}
-use Rattle.rows.specs.Rows.{rowOf, numbersOf, rows, rest, flat, putRow, zeroRow}
+use Rattle.rows.specs.Rows.{rowOf, numbersOf, rows, rowCount, rest, flat, putRow, zeroRow}
 
 -- ---- a row and its five numbers
 pub row-eq : (a b : Row) → a .order ≡ b .order → a .key ≡ b .key → a .price ≡ b .price → a .size ≡ b .size → a .rank ≡ b .rank → a ≡ b
@@ -38,7 +38,7 @@ numbers-row (a ∷ b ∷ c ∷ d ∷ []) h = absurd (omega arith)
 numbers-row (a ∷ b ∷ c ∷ d ∷ e ∷ f ∷ x) h = absurd (omega arith)
 
 -- ---- tables and their rows
-pub length-rows : (t : List ℕ) → length (rows t) ≡ length t / 5
+pub length-rows : (t : List ℕ) → length (rows t) ≡ rowCount t
 unfolding rows
 length-rows t = length-map (pieces 5 t) rowOf ∙ length-pieces 5 t
 
@@ -69,6 +69,14 @@ pub rows-zero : (n : ℕ) → rows (replicate n 0) ≡ replicate (n / 5) zeroRow
 unfolding rows rowOf zeroRow
 rows-zero n = rw (pieces-replicate {A = ℕ} 5 n 0) (map-replicate rowOf (n / 5) (replicate 5 0))
 
+-- every row of a wiped table is the zero row, and so is what lies past the last
+pub wiped-row : (n i : ℕ) → getD (rows (replicate n 0)) i zeroRow ≡ zeroRow
+wiped-row n i = rw rows-zero (go (ltb i (n / 5)) refl)
+  where
+    go : (b : Bool) → ltb i (n / 5) ≡ b → getD (replicate (n / 5) zeroRow) i zeroRow ≡ zeroRow
+    go true e = getD-replicate (n / 5) i zeroRow zeroRow (ltb-true i (n / 5) e)
+    go false e = List·getD-eq-default (replicate (n / 5) zeroRow) zeroRow (rw length-replicate (ltb-false i (n / 5) e))
+
 -- ---- a table of any length is its rows and the rest
 pub length-rest : (t : List ℕ) → length (rest t) < 5
 unfolding rest
@@ -93,7 +101,7 @@ unfolding rest putRow
 rest-put-row t i r = rw (length-put 5 t i (numbersOf r)) (rest-put 5 t i (numbersOf r) (length-numbers r))
 
 -- ---- the rows after one is put
-pub row-put-same : (t : List ℕ) (i : ℕ) (r : Row) → i < length t / 5 → getD (rows (putRow t i r)) i zeroRow ≡ r
+pub row-put-same : (t : List ℕ) (i : ℕ) (r : Row) → i < rowCount t → getD (rows (putRow t i r)) i zeroRow ≡ r
 row-put-same t i r h = rw (rows-put t i r) (getD-set-same (rows t) i r zeroRow (rw length-rows h))
 
 pub row-put-other : (t : List ℕ) (i : ℕ) (r : Row) (j : ℕ) → (j ≡ i → ⊥) → getD (rows (putRow t i r)) j zeroRow ≡ getD (rows t) j zeroRow
@@ -104,7 +112,7 @@ pub getD-rows : (t : List ℕ) (i : ℕ) → getD (rows t) i zeroRow ≡ rowOf (
 unfolding rows rowOf zeroRow
 getD-rows t i = List·getD-map rowOf (pieces 5 t) i []
 
-pub row-read : (t : List ℕ) (i : ℕ) → i < length t / 5
+pub row-read : (t : List ℕ) (i : ℕ) → i < rowCount t
     → _≡_ {A = Row} (record { order = getD t (5 * i) 0; key = getD t (5 * i + 1) 0; price = getD t (5 * i + 2) 0; size = getD t (5 * i + 3) 0; rank = getD t (5 * i + 4) 0 })
     (getD (rows t) i zeroRow)
 unfolding rowOf
@@ -117,10 +125,10 @@ row-read t i h =
     (getD-piece 5 t i 3 0 (omega arith))
     (getD-piece 5 t i 4 0 (omega arith)))
 
-pub row-past : (t : List ℕ) (i : ℕ) → length t / 5 ≤ i → getD (rows t) i zeroRow ≡ zeroRow
+pub row-past : (t : List ℕ) (i : ℕ) → rowCount t ≤ i → getD (rows t) i zeroRow ≡ zeroRow
 row-past t i h = List·getD-eq-default (rows t) zeroRow (rw length-rows h)
 
-pub row-written : (t : List ℕ) (i : ℕ) (r : Row) → i < length t / 5
+pub row-written : (t : List ℕ) (i : ℕ) (r : Row) → i < rowCount t
     → set (set (set (set (set t (5 * i) (r .order)) (5 * i + 1) (r .key)) (5 * i + 2) (r .price)) (5 * i + 3) (r .size)) (5 * i + 4) (r .rank) ≡ putRow t i r
 unfolding putRow numbersOf
 row-written t i r h =
@@ -130,17 +138,17 @@ row-written t i r h =
     let e4 : 5 * i + 4 ≡ suc (suc (suc (suc (5 * i)))) = omega arith in
     rw (put-in 5 t i (numbersOf r) h, e1, e2, e3, e4)
 
-pub put-past : (t : List ℕ) (i : ℕ) (r : Row) → length t / 5 ≤ i → putRow t i r ≡ t
+pub put-past : (t : List ℕ) (i : ℕ) (r : Row) → rowCount t ≤ i → putRow t i r ≡ t
 unfolding putRow
 put-past t i r h = put-out 5 t i (numbersOf r) h
 
 -- a row put where it lies already
 pub put-row-self : (t : List ℕ) (i : ℕ) → putRow t i (getD (rows t) i zeroRow) ≡ t
 unfolding putRow
-put-row-self t i = go (ltb i (length t / 5)) refl
+put-row-self t i = go (ltb i (rowCount t)) refl
   where
-    go : (b : Bool) → ltb i (length t / 5) ≡ b → putRow t i (getD (rows t) i zeroRow) ≡ t
+    go : (b : Bool) → ltb i (rowCount t) ≡ b → putRow t i (getD (rows t) i zeroRow) ≡ t
     go true e =
-        let h : i < length t / 5 = ltb-true i (length t / 5) e in
+        let h : i < rowCount t = ltb-true i (rowCount t) e in
         rw (getD-rows t i, getD-pieces 5 t i [] h, numbers-row (take 5 (drop (5 * i) t)) (length-piece 5 t i h)) (put-self 5 t i)
-    go false e = put-past t i (getD (rows t) i zeroRow) (ltb-false i (length t / 5) e)
+    go false e = put-past t i (getD (rows t) i zeroRow) (ltb-false i (rowCount t) e)

@@ -1,2 +1,5 @@
+pub mod Keys
 pub mod Rows
 pub mod Find
+pub mod Shares
+pub mod Tidy

@@ -7,6 +7,7 @@ use lib.Dec.{ltb, leb, eqb}
 use Rattle.facts.specs.Pick.{both, either}
 use Rattle.facts.specs.Pieces.{pieces, join, putPiece}
 use Rattle.rows.specs.declared.Row.{Row}
+use Rattle.rows.specs.Keys.{symbolIn}
 
 -- the row that five numbers are
 unfoldable pub rowOf : List ℕ → Row
@@ -20,9 +21,13 @@ numbersOf r = r .order ∷ r .key ∷ r .price ∷ r .size ∷ r .rank ∷ []
 unfoldable pub rows : List ℕ → List Row
 rows t = map rowOf (pieces 5 t)
 
+-- how many rows a table has
+abbrev pub rowCount : List ℕ → ℕ
+rowCount t = length t / 5
+
 -- the numbers behind the last whole row
 unfoldable pub rest : List ℕ → List ℕ
-rest t = drop (5 * (length t / 5)) t
+rest t = drop (5 * rowCount t) t
 
 -- the table of whole rows
 unfoldable pub flat : List Row → List ℕ
@@ -35,9 +40,8 @@ putRow t i r = putPiece 5 t i (numbersOf r)
 unfoldable pub zeroRow : Row
 zeroRow = record { order = 0; key = 0; price = 0; size = 0; rank = 0 }
 
--- "symbol ID times 2 plus side"
 abbrev pub symbolOf : Row → ℕ
-symbolOf r = r .key / 2
+symbolOf r = symbolIn (r .key)
 
 -- "An all-zero row is free"
 unfoldable pub free : Row → Bool

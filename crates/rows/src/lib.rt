@@ -1,15 +1,16 @@
 // The order table: five numbers to a row. Each function answers for any table, any place and any row; only `row_in` and `put_row` know where a number lies.
 ghost use mathlib.Core.Path.{_≡_};
-ghost use Prim.Native.Nat.{_/_, _<_};
+ghost use Prim.Native.Nat.{_<_};
 ghost use lib.ListN.{length, getD, replicate};
-ghost use Rattle.rows.specs.Rows.{rows, putRow, zeroRow, free, live, goodRows};
+ghost use Rattle.rows.specs.Keys.{keyFor, symbolIn, sideIn};
+ghost use Rattle.rows.specs.Rows.{rows, rowCount, putRow, zeroRow, free, live, goodRows};
 ghost use Rattle.rows.specs.Find.{isOrder, findOrder, findFree, heldAt, ofSymbol, ofKey, countLive};
 use facts::Found;
 
 // The most rows of a table.
 const MAX_ROWS: usize = 1600;
 
-// key: the symbol ID times 2 plus the side, buy 0 and sell 1.
+// key: the symbol and the side, by `key_for`.
 pub struct Row {
     pub order: u64,
     pub key: u64,
@@ -24,6 +25,25 @@ pub enum Held {
     Nowhere,
 }
 
+// The symbol ID times 2 plus the side, buy 0 and sell 1.
+pub fn key_for(symbol: u32, side: u8) -> u64
+    ensures { λ r. ⌜ r ≡ keyFor symbol side ⌝ }
+{
+    (symbol as u64) * 2 + side as u64
+}
+
+pub fn symbol_in(key: u64) -> u64
+    ensures { λ r. ⌜ r ≡ symbolIn key ⌝ }
+{
+    key / 2
+}
+
+pub fn side_in(key: u64) -> u64
+    ensures { λ r. ⌜ r ≡ sideIn key ⌝ }
+{
+    key % 2
+}
+
 pub fn zero_row() -> Row
     ensures { λ r. ⌜ r ≡ zeroRow ⌝ }
 {
@@ -36,9 +56,15 @@ pub fn zero_row() -> Row
     }
 }
 
+pub fn row_count(t: &[u64]) -> usize
+    ensures { λ r. ⌜ r ≡ rowCount (now (t .entry)) ⌝ }
+{
+    t.len() / 5
+}
+
 // A row that is there.
 fn row_in(t: &[u64], i: usize) -> Row
-    requires { ⌜ i < length (now t) / 5 ⌝ }
+    requires { ⌜ i < rowCount (now t) ⌝ }
     ensures { λ r. ⌜ r ≡ getD (rows (now (t .entry))) i zeroRow ⌝ }
 {
     let b = 5 * i;
@@ -54,7 +80,7 @@ fn row_in(t: &[u64], i: usize) -> Row
 pub fn row_at(t: &[u64], i: usize) -> Row
     ensures { λ r. ⌜ r ≡ getD (rows (now (t .entry))) i zeroRow ⌝ }
 {
-    if i < t.len() / 5 {
+    if i < row_count(t) {
         row_in(t, i)
     } else {
         zero_row()
@@ -64,7 +90,7 @@ pub fn row_at(t: &[u64], i: usize) -> Row
 pub fn put_row(t: &mut [u64], i: usize, r: Row)
     ensures { λ _. ⌜ now (t .exit) ≡ putRow (now (t .entry)) i r ⌝ }
 {
-    if t.len() / 5 <= i {
+    if row_count(t) <= i {
         return;
     }
     let b = 5 * i;
@@ -102,7 +128,7 @@ pub fn is_live(r: Row) -> bool
     if r.rank < 1 {
         return false;
     }
-    if r.key / 2 > 4294967295 {
+    if symbol_in(r.key) > 4294967295 {
         return false;
     }
     if r.price < 1 {
@@ -132,7 +158,7 @@ pub fn is_order(r: Row, id: u64) -> bool
 pub fn of_symbol(r: Row, symbol: u64) -> bool
     ensures { λ b. ⌜ b ≡ ofSymbol symbol r ⌝ }
 {
-    if r.key / 2 != symbol {
+    if symbol_in(r.key) != symbol {
         return false;
     }
     is_live(r)
@@ -167,7 +193,7 @@ pub fn good_rows(n: usize) -> bool
 pub fn find_order(t: &[u64], id: u64) -> Found
     ensures { λ r. ⌜ r ≡ findOrder id (rows (now (t .entry))) ⌝ }
 {
-    let end = t.len() / 5;
+    let end = row_count(t);
     let mut i = 0;
     while i < end {
         if is_order(row_in(t, i), id) {
@@ -181,7 +207,7 @@ pub fn find_order(t: &[u64], id: u64) -> Found
 pub fn find_free(t: &[u64]) -> Found
     ensures { λ r. ⌜ r ≡ findFree (rows (now (t .entry))) ⌝ }
 {
-    let n = t.len() / 5;
+    let n = row_count(t);
     let mut i = 0;
     while i < n {
         if is_free(row_in(t, i)) {
@@ -217,7 +243,7 @@ pub fn wipe_rows(t: &mut [u64])
 pub fn count_live(t: &[u64]) -> usize
     ensures { λ r. ⌜ r ≡ countLive (rows (now (t .entry))) ⌝ }
 {
-    let n = t.len() / 5;
+    let n = row_count(t);
     let mut count: usize = 0;
     let mut i = 0;
     while i < n {

@@ -230,7 +230,7 @@ fn print(orders: &[u64], symbols: &[u8], text: &mut [u8], s: Stream) {
     };
     let state = s.receiver;
     match answer_sheet::sheet(text, orders, symbols, state, s.bad, word) {
-        SheetAnswer::Written(n) => show(text, n),
+        SheetAnswer::Length(n) => show(text, n),
         SheetAnswer::Refused(_) => refused(),
     }
 }

@@ -21,7 +21,7 @@ use Rattle.wire.proofs.Laws.{length-padded, getD-padded, padded-part, length-to
 use Rattle.arbitration.specs.Slots.{Slot, emptySlot, slotFor, slotBody, sameBytes, sameSlot}
 use Rattle.arbitration.proofs.SlotLaws.{same-bytes-refl, bytes-differ}
 use Rattle.shelf.specs.Shelf.{slotSize, goodShelf, slotOf, bytesOf, slotAt, putSlot}
-use Rattle.shelf.specs.Store.{length-bytes}
+use Rattle.shelf.proofs.StoreLaws.{length-bytes}
 
 -- ---- the bytes of a slot, as the code cuts them out
 pub slot-in : (t : List ℕ) (i : ℕ) → i < length t / 74 → take (74 * i + 74 - 74 * i) (drop (74 * i) t) ≡ getD (pieces slotSize t) i []

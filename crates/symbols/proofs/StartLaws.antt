@@ -14,6 +14,7 @@ use Rattle.facts.proofs.Searches.{first-lowest, none-first}
 use Rattle.facts.proofs.CountLaws.{count-none}
 use Rattle.symbols.specs.Entries.{entries, entryOf, used, freeEntry, idOf}
 use Rattle.symbols.specs.Find.{isSymbol, findSymbol, findFreeEntry, knownSymbol, placeFor, countUsed}
+use Rattle.symbols.specs.Tidy.{Distinct, Packed}
 use Rattle.symbols.proofs.EntryLaws.{id-entry-of, used-entry-of, used-not-free, wiped-free, wiped-unused}
 use Rattle.symbols.proofs.FindLaws.{Known, Place, own, fresh, symbol-is, is-symbol, unused-symbol, free-below, some-known, known-found, found-known, nowhere-unknown, place-is, place-own}
 use Rattle.symbols.proofs.UpdateLaws.{others-kept, own-is, find-others, find-own, count-known, count-new}
@@ -30,9 +31,6 @@ unfolding countUsed
 wiped-count n = count-none used (entries (replicate n 0)) [] (λ i l. wiped-unused n i)
 
 -- ---- used entries have distinct IDs
-abbrev pub Distinct : List (List ℕ) → Type 0
-Distinct es = (i j : ℕ) → used (getD es i []) ≡ true → used (getD es j []) ≡ true → idOf (getD es i []) ≡ idOf (getD es j []) → i ≡ j
-
 -- exactly if a search for the ID of a used entry finds that entry
 pub distinct-found : (es : List (List ℕ)) → Distinct es → (i : ℕ) → used (getD es i []) ≡ true → findSymbol (idOf (getD es i [])) es ≡ At i
 distinct-found es d i u = go (known-found id es (some-known id es i (is-symbol id (getD es i []) u refl)))
@@ -74,10 +72,6 @@ distinct-kept b es i e u d = found-distinct after (λ j v. at j v (eqb j i) refl
         rw x (find-others b es i e (idOf (getD es j [])) n ∙ f)
 
 -- ---- "in order of first use": the used entries lie in front, and all others are free
-pub record Packed (es : List (List ℕ)) : Type 0 where
-  pub front : (i : ℕ) → i < countUsed es → used (getD es i []) ≡ true
-  pub back : (i : ℕ) → countUsed es ≤ i → freeEntry (getD es i []) ≡ true
-
 pub wiped-packed : (n : ℕ) → Packed (entries (replicate n 0))
 wiped-packed n = record { front = λ i l. absurd (omega (arith, wiped-count n)); back = λ i l. wiped-free n i }
 

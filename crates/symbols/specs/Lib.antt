@@ -1,3 +1,4 @@
 pub mod Entries
 pub mod Find
 pub mod Work
+pub mod Tidy

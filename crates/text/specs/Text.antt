@@ -1,5 +1,5 @@
 -- Text in a lent buffer, and what numbers and tickers look like on a sheet (document 01, "The sheet").
-use Prim.Native.Nat.{ℕ, zero, suc, _+_, _-_, _/_, _%_, min}
+use Prim.Native.Nat.{ℕ, zero, suc, _+_, _-_, _/_, _%_, _≤_, min}
 use mathlib.Core.Path.{_≡_}
 use mathlib.Core.List.{List, [], _∷_, _++_, map}
 use lib.ListN.{length}
@@ -8,10 +8,16 @@ use lib.Dec.{ltb, leb, eqb}
 use lib.IntN.{ℤ, pos, negsuc}
 use Rattle.facts.specs.Pick.{pick, both}
 
--- "Every call's statement decides each number it returns and each byte of every lent table": b' is b with the text t stored from `at` on, as far as b reaches, and r is the place behind what was stored
+-- the highest place that a number of 64 bits tells
+abbrev pub lastPlace : ℕ
+lastPlace = 18446744073709551615
+
+-- "Every call's statement decides each number it returns and each byte of every lent table": b' is b with the text t stored from `at` on, as far as b reaches,
+-- and r is the place behind the whole of t, stored or not. That place stays at the highest there is, and no lent buffer goes beyond it
 pub record Wrote (b : List ℕ) (at : ℕ) (t b' : List ℕ) (r : ℕ) : Type 0 where
   pub bytes : b' ≡ sets b at t
-  pub end : r ≡ at + min (length t) (length b - at)
+  pub end : r ≡ at + min (length t) (lastPlace - at)
+  pub lent : length b ≤ lastPlace
 
 -- the decimal digits of n, at most f of them, the highest first (`more` is named so that it is computed only where it is taken)
 unfoldable pub digitsOf : ℕ → ℕ → List ℕ
@@ -45,9 +51,9 @@ shownOf x = pick (both (leb 32 x) (leb x 126)) x 46
 unfoldable pub tickerOf : List ℕ → List ℕ
 tickerOf t = map shownOf (trimOf t)
 
--- "key=value lines .., each ended by one line feed", where the value is a number; the key is given with its equals sign
-unfoldable pub lineOf : List ℕ → ℕ → List ℕ
-lineOf key n = key ++ (decimalOf n ++ (10 ∷ []))
+-- "key=value lines .., each ended by one line feed"; the key is given with its equals sign
+unfoldable pub lineOf : List ℕ → List ℕ → List ℕ
+lineOf key value = key ++ (value ++ (10 ∷ []))
 
 -- "up to ten levels a side, .. symbols in table order": f 0, then f 1, up to f (n - 1)
 unfoldable pub each : (ℕ → List ℕ) → ℕ → List ℕ

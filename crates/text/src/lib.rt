@@ -1,4 +1,5 @@
-// Appends to a lent buffer. Each writes from `at` on as far as the buffer reaches and answers the place behind what it wrote, so the next append goes there.
+// Appends to a lent buffer. Each writes from `at` on as far as the buffer reaches and answers the place behind all of its text, written or not, so that the next
+// append goes there and the last one tells how long the whole is.
 ghost use mathlib.Core.Path.{_≡_};
 ghost use mathlib.Core.List.{[], _∷_, map};
 ghost use Prim.Native.Nat.{_+_, _%_, _≤_};
@@ -11,6 +12,9 @@ pub fn byte(buf: &mut [u8], at: usize, b: u8) -> usize
 {
     if at < buf.len() {
         buf[at] = b;
+        return at + 1;
+    }
+    if at < usize::MAX {
         return at + 1;
     }
     at
@@ -130,7 +134,7 @@ pub fn ticker(buf: &mut [u8], at: usize, t: [u8; 11]) -> usize
 
 // The key with its equals sign, a number, a line feed.
 pub fn line(buf: &mut [u8], at: usize, key: &[u8], n: u64) -> usize
-    ensures { λ r. ⌜ Wrote (now (buf .entry)) at (lineOf (now (key .entry)) n) (now (buf .exit)) r ⌝ }
+    ensures { λ r. ⌜ Wrote (now (buf .entry)) at (lineOf (now (key .entry)) (decimalOf n)) (now (buf .exit)) r ⌝ }
 {
     let o = bytes(buf, at, key);
     let p = decimal(buf, o, n);

@@ -3,19 +3,21 @@
 use mathlib.Core.Path.{_≡_, refl, ap}
 use mathlib.Core.List.{List, [], _∷_, map}
 use mathlib.Core.Bool.{Bool, true, false}
-use Prim.Native.Nat.{ℕ, suc, _+_, _*_, _/_, _%_, _-_, _≤_, _<_, min}
+use Prim.Native.Nat.{ℕ, suc, _+_, _*_, _-_, _≤_, _<_, min}
 use native.Mathlib.Numerals.{add-one}
 use native.Mathlib.Omega.{arith}
 use lib.ListN.{length, getD, drop, drop-of-length-le, length-map}
 use lib.Seq.{drop-cons}
 use lib.Dec.{leb, eqb}
 use borrow.Author.Tests.{eq-eqb, ne-eqb, le-leb, lt-leb}
+use Rattle.facts.specs.Limits.{mostPrice}
 use Rattle.facts.specs.Pick.{pick}
 use Rattle.facts.specs.Sums.{sumBy, countBy}
 use Rattle.facts.proofs.Picks.{pick-ind, both-true}
 use Rattle.facts.proofs.SumLaws.{count-bound}
 use Rattle.rows.specs.declared.Row.{Row}
-use Rattle.rows.specs.Rows.{rows, zeroRow, live, goodRows}
+use Rattle.rows.specs.Keys.{keyFor, sideIn}
+use Rattle.rows.specs.Rows.{rows, rowCount, zeroRow, live, goodRows}
 use Rattle.rows.specs.Find.{ofKey}
 use Rattle.rows.proofs.Tables.{length-rows}
 use Rattle.rows.proofs.Judged.{live-ranges, key-is, good-rows, rows-fit}
@@ -25,32 +27,32 @@ use Rattle.ascend.proofs.Laws.{Rising, ins-least, least-top, from-all, from-non
 use Rattle.ascend.proofs.Places.{all-of, places-rising, places-length}
 use Rattle.views.specs.declared.Level.{Level}
 use Rattle.views.specs.declared.Side.{Side}
-use Rattle.views.specs.Ladder.{topPrice, keyOf, far, atPrice, placesOf, prices, sizeAt, levelOf, ladder}
+use Rattle.views.specs.Ladder.{keyOf, far, atPrice, placesOf, prices, sizeAt, levelOf, ladder}
 use Rattle.views.specs.Nearest.{beyond, near}
 
 -- ---- keys and places
-pub bid-far : (s p : ℕ) → far (keyOf Side.Buy s) p ≡ topPrice - p
+pub bid-far : (s p : ℕ) → far (keyOf Side.Buy s) p ≡ mostPrice - p
 unfolding keyOf far pick
-bid-far s p = rw (eq-eqb (s * 2 % 2) 0 (omega arith))
+bid-far s p = rw (eq-eqb (sideIn (keyFor s 0)) 0 (omega arith))
 
 pub offer-far : (s p : ℕ) → far (keyOf Side.Sell s) p ≡ p
 unfolding keyOf far pick
-offer-far s p = rw (ne-eqb ((s * 2 + 1) % 2) 0 (λ e. omega arith))
+offer-far s p = rw (ne-eqb (sideIn (keyFor s 1)) 0 (λ e. omega arith))
 
-pub far-top : (k p : ℕ) → p ≤ topPrice → far k p ≤ topPrice
+pub far-top : (k p : ℕ) → p ≤ mostPrice → far k p ≤ mostPrice
 unfolding far
-far-top k p h = pick-ind (λ n. n ≤ topPrice) (eqb (k % 2) 0) (topPrice - p) p (λ e. omega arith) (λ e. h)
+far-top k p h = pick-ind (λ n. n ≤ mostPrice) (eqb (sideIn k) 0) (mostPrice - p) p (λ e. omega arith) (λ e. h)
 
 -- a place's price is as far as the place
-pub far-far : (k p : ℕ) → p ≤ topPrice → far k (far k p) ≡ p
+pub far-far : (k p : ℕ) → p ≤ mostPrice → far k (far k p) ≡ p
 unfolding far pick
-far-far k p h = go (eqb (k % 2) 0)
+far-far k p h = go (eqb (sideIn k) 0)
   where
-    go : (b : Bool) → pick b (topPrice - pick b (topPrice - p) p) (pick b (topPrice - p) p) ≡ p
+    go : (b : Bool) → pick b (mostPrice - pick b (mostPrice - p) p) (pick b (mostPrice - p) p) ≡ p
     go true = omega arith
     go false = refl
 
-pub key-price : (k : ℕ) (r : Row) → ofKey k r ≡ true → r .price ≤ topPrice
+pub key-price : (k : ℕ) (r : Row) → ofKey k r ≡ true → r .price ≤ mostPrice
 key-price k r e = live-ranges r (key-is k r e .1) .price-top
 
 pub at-price-is : (k p : ℕ) (r : Row) → atPrice k p r ≡ true → (ofKey k r ≡ true) × (eqb (r .price) p ≡ true)
@@ -114,13 +116,13 @@ module _ (k low best : ℕ) (r : Row) where
 pub scan-start : (k low : ℕ) (rs : List Row) → leastFrom beyond low (placesOf k rs) ≡ min beyond (leastFrom beyond low (placesOf k rs))
 scan-start k low rs = omega (arith, least-top beyond low 0 (placesOf k rs) (rising k rs))
 
-pub scan-row : (k low best : ℕ) (t : List ℕ) (i : ℕ) → i < length t / 5
+pub scan-row : (k low best : ℕ) (t : List ℕ) (i : ℕ) → i < rowCount t
     → min best (leastFrom beyond low (placesOf k (drop i (rows t)))) ≡ min (near k low best (getD (rows t) i zeroRow)) (leastFrom beyond low (placesOf k (drop (i + 1) (rows t))))
 scan-row k low best t i h =
     let l : i < length (rows t) = rw length-rows h in
     rw (drop-cons (rows t) i zeroRow l, add-one i) (near-step k low best (getD (rows t) i zeroRow) (drop (suc i) (rows t)))
 
-pub scan-end : (k low best : ℕ) (t : List ℕ) (i : ℕ) → best ≤ beyond → length t / 5 ≤ i → min best (leastFrom beyond low (placesOf k (drop i (rows t)))) ≡ best
+pub scan-end : (k low best : ℕ) (t : List ℕ) (i : ℕ) → best ≤ beyond → rowCount t ≤ i → min best (leastFrom beyond low (placesOf k (drop i (rows t)))) ≡ best
 unfolding placesOf places leastFrom
 scan-end k low best t i b h =
     let l : length (rows t) ≤ i = rw length-rows h in
@@ -143,21 +145,21 @@ module _ (k : ℕ) (rs : List Row) where
   ladder-start = ap (map (levelOf k rs)) prices-start
 
   module _ (low d : ℕ) (e : d ≡ leastFrom beyond low (placesOf k rs)) where
-    pub prices-next : d ≤ topPrice → pricesFrom k rs low ≡ far k d ∷ pricesFrom k rs (d + 1)
+    pub prices-next : d ≤ mostPrice → pricesFrom k rs low ≡ far k d ∷ pricesFrom k rs (d + 1)
     unfolding pricesFrom
     prices-next h =
         let f : fromOn low (placesOf k rs) ≡ d ∷ fromOn (d + 1) (placesOf k rs) = rw e (from-some beyond low 0 (placesOf k rs) (rising k rs) (omega arith)) in
         ap (map (far k)) f
 
-    pub prices-end : topPrice < d → pricesFrom k rs low ≡ []
+    pub prices-end : mostPrice < d → pricesFrom k rs low ≡ []
     unfolding pricesFrom
     prices-end h = ap (map (far k)) (from-none beyond low 0 (placesOf k rs) (rising k rs) (omega arith))
 
-    pub ladder-next : d ≤ topPrice → ladderFrom k rs low ≡ levelOf k rs (far k d) ∷ ladderFrom k rs (d + 1)
+    pub ladder-next : d ≤ mostPrice → ladderFrom k rs low ≡ levelOf k rs (far k d) ∷ ladderFrom k rs (d + 1)
     unfolding ladderFrom
     ladder-next h = ap (map (levelOf k rs)) (prices-next h)
 
-    pub ladder-end : topPrice < d → ladderFrom k rs low ≡ []
+    pub ladder-end : mostPrice < d → ladderFrom k rs low ≡ []
     unfolding ladderFrom
     ladder-end h = ap (map (levelOf k rs)) (prices-end h)
 

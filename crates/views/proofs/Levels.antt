@@ -7,6 +7,7 @@ use Prim.Native.Nat.{ℕ, suc, _-_, _≤_, _<_}
 use native.Mathlib.Omega.{arith}
 use lib.Dec.{eqb}
 use borrow.Author.Tests.{eq-eqb, ne-eqb, eqb-true, eqb-false}
+use Rattle.facts.specs.Limits.{mostPrice}
 use Rattle.facts.specs.Pick.{both}
 use Rattle.facts.specs.Sums.{sumBy, onlyIf, countBy}
 use Rattle.facts.proofs.SumLaws.{only-no, only-yes}
@@ -17,7 +18,7 @@ use Rattle.ascend.proofs.Laws.{Ascends, Rising}
 use Rattle.ascend.proofs.Each.{all-weaken, all-map, rising-below}
 use Rattle.ascend.proofs.Places.{All, sum-places}
 use Rattle.views.specs.declared.Side.{Side}
-use Rattle.views.specs.Ladder.{topPrice, keyOf, far, atPrice, placesOf, prices}
+use Rattle.views.specs.Ladder.{keyOf, far, atPrice, placesOf, prices}
 use Rattle.views.specs.Nearest.{beyond}
 use Rattle.views.proofs.Laws.{at-price-is, bid-far, offer-far, far-top, far-far, key-price, rising}
 
@@ -39,16 +40,16 @@ offer-prices s [] = refl
 offer-prices s (d ∷ ds) = rw (offer-far s d, offer-prices s ds)
 
 -- ---- in range
-pub places-low : (k : ℕ) (rs : List Row) → All (λ d. d ≤ topPrice) (placesOf k rs)
+pub places-low : (k : ℕ) (rs : List Row) → All (λ d. d ≤ mostPrice) (placesOf k rs)
 places-low k rs = all-weaken (λ d h. omega arith) (placesOf k rs) (rising-below beyond 0 (placesOf k rs) (rising k rs) .1)
 
-pub prices-low : (k : ℕ) (rs : List Row) → All (λ p. p ≤ topPrice) (prices k rs)
+pub prices-low : (k : ℕ) (rs : List Row) → All (λ p. p ≤ mostPrice) (prices k rs)
 unfolding prices
-prices-low k rs = all-map (λ p. p ≤ topPrice) (far k) (placesOf k rs) (all-weaken (λ d h. far-top k d h) (placesOf k rs) (places-low k rs))
+prices-low k rs = all-map (λ p. p ≤ mostPrice) (far k) (placesOf k rs) (all-weaken (λ d h. far-top k d h) (placesOf k rs) (places-low k rs))
 
 -- ---- a place and its price
-module _ (k d : ℕ) (h : d ≤ topPrice) where
-  same-place : (p : ℕ) → p ≤ topPrice → eqb (far k p) d ≡ eqb p (far k d)
+module _ (k d : ℕ) (h : d ≤ mostPrice) where
+  same-place : (p : ℕ) → p ≤ mostPrice → eqb (far k p) d ≡ eqb p (far k d)
   same-place p l = go (eqb (far k p) d) refl
     where
       go : (b : Bool) → eqb (far k p) d ≡ b → b ≡ eqb p (far k d)
@@ -74,7 +75,7 @@ module _ (k d : ℕ) (h : d ≤ topPrice) where
   any-in-place (r ∷ rs) = rw (in-place r, any-in-place rs)
 
 -- ---- sums over levels
-pub sum-prices : (k : ℕ) (f : Row → ℕ) (rs : List Row) (ds : List ℕ) → All (λ d. d ≤ topPrice) ds
+pub sum-prices : (k : ℕ) (f : Row → ℕ) (rs : List Row) (ds : List ℕ) → All (λ d. d ≤ mostPrice) ds
     → sumBy (λ p. sumBy (onlyIf (atPrice k p) f) rs) (map (far k) ds) ≡ sumBy (λ d. sumBy (onlyIf (inPlace (ofKey k) (λ r. far k (r .price)) d) f) rs) ds
 unfolding sumBy
 sum-prices k f rs [] h = refl

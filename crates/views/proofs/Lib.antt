@@ -5,3 +5,4 @@ pub mod Signs
 pub mod Spreads
 pub mod ViewLaws
 pub mod Theorems
+pub mod Owned

@@ -12,7 +12,7 @@ use mir.Syntax.{w64}
 use mir.Val.{SFits, toZ}
 use mir.ValLaws.{toZ-pos}
 use borrow.Author.Tests.{ltb-true, ltb-false, le-ltb}
-use Rattle.views.specs.Ladder.{topPrice}
+use Rattle.facts.specs.Limits.{mostPrice}
 
 -- ---- its size
 -- at most the larger of the two
@@ -24,17 +24,17 @@ minus-size a (suc b) = go (ltb a (suc b)) refl
     go true e = omega (arith, ltb-true a (suc b) e)
     go false e = omega arith
 
-pub minus-top : (a b : ℕ) → a ≤ topPrice → b ≤ topPrice → natAbs (pos a -ℤ pos b) ≤ topPrice
+pub minus-top : (a b : ℕ) → a ≤ mostPrice → b ≤ mostPrice → natAbs (pos a -ℤ pos b) ≤ mostPrice
 minus-top a b h l = omega (arith, minus-size a b)
 
 mag-abs : (z : ℤ) → mag z ≤ natAbs z
 mag-abs (pos n) = omega arith
 mag-abs (negsuc n) = omega arith
 
-pub minus-fits : (a b : ℕ) → a ≤ topPrice → b ≤ topPrice → SFits w64 (pos a -ℤ pos b)
+pub minus-fits : (a b : ℕ) → a ≤ mostPrice → b ≤ mostPrice → SFits w64 (pos a -ℤ pos b)
 minus-fits a b h l = record { sfits = omega (arith, minus-top a b h l, mag-abs (pos a -ℤ pos b)) }
 
-pub price-signed : (a : ℕ) → a ≤ topPrice → toZ w64 a ≡ pos a
+pub price-signed : (a : ℕ) → a ≤ mostPrice → toZ w64 a ≡ pos a
 price-signed a h = toZ-pos w64 a (omega arith)
 
 -- ---- its sign

@@ -7,12 +7,13 @@ use native.Mathlib.Omega.{arith}
 use lib.Dec.{ltb}
 use lib.IntN.{pos, _-ℤ_, ℤ, natAbs}
 use lib.Signed.{ltZ}
+use Rattle.facts.specs.Limits.{mostPrice}
 use Rattle.rows.specs.declared.Row.{Row}
 use Rattle.ascend.specs.Ascend.{leastFrom}
 use Rattle.ascend.proofs.Places.{All}
 use Rattle.views.specs.declared.Side.{Side}
 use Rattle.views.specs.declared.SpreadAnswer.{SpreadAnswer}
-use Rattle.views.specs.Ladder.{topPrice, keyOf, far, placesOf, prices}
+use Rattle.views.specs.Ladder.{keyOf, far, placesOf, prices}
 use Rattle.views.specs.Nearest.{beyond}
 use Rattle.views.specs.Spread.{between, spreadOf}
 use Rattle.views.specs.Views.{spreadNumber}
@@ -20,23 +21,23 @@ use Rattle.views.proofs.Laws.{bid-far, offer-far, pricesFrom, prices-st
 use Rattle.views.proofs.Signs.{minus-top, minus-below, minus-same, minus-zero}
 
 module _ (k : ℕ) (rs : List Row) (d : ℕ) (e : d ≡ leastFrom beyond 0 (placesOf k rs)) where
-  pub no-price : topPrice < d → prices k rs ≡ []
+  pub no-price : mostPrice < d → prices k rs ≡ []
   no-price h = sym (prices-start k rs) ∙ prices-end k rs 0 d e h
 
-  pub best-price : d ≤ topPrice → prices k rs ≡ far k d ∷ pricesFrom k rs (d + 1)
+  pub best-price : d ≤ mostPrice → prices k rs ≡ far k d ∷ pricesFrom k rs (d + 1)
   best-price h = sym (prices-start k rs) ∙ prices-next k rs 0 d e h
 
 module _ (s : ℕ) (rs : List Row) (b : ℕ) (e : b ≡ leastFrom beyond 0 (placesOf (keyOf Side.Buy s) rs)) where
-  pub no-bid : topPrice < b → SpreadAnswer.Empty ≡ spreadOf s rs
+  pub no-bid : mostPrice < b → SpreadAnswer.Empty ≡ spreadOf s rs
   unfolding spreadOf between
   no-bid h = rw (no-price (keyOf Side.Buy s) rs b e h)
 
-  module _ (l : b ≤ topPrice) (a : ℕ) (f : a ≡ leastFrom beyond 0 (placesOf (keyOf Side.Sell s) rs)) where
-    pub no-offer : topPrice < a → SpreadAnswer.Empty ≡ spreadOf s rs
+  module _ (l : b ≤ mostPrice) (a : ℕ) (f : a ≡ leastFrom beyond 0 (placesOf (keyOf Side.Sell s) rs)) where
+    pub no-offer : mostPrice < a → SpreadAnswer.Empty ≡ spreadOf s rs
     unfolding spreadOf between
     no-offer h = rw (best-price (keyOf Side.Buy s) rs b e l, no-price (keyOf Side.Sell s) rs a f h)
 
-    pub two-sided : a ≤ topPrice → SpreadAnswer.Of (pos a -ℤ pos (topPrice - b)) ≡ spreadOf s rs
+    pub two-sided : a ≤ mostPrice → SpreadAnswer.Of (pos a -ℤ pos (mostPrice - b)) ≡ spreadOf s rs
     unfolding spreadOf between
     two-sided h = rw (best-price (keyOf Side.Buy s) rs b e l, best-price (keyOf Side.Sell s) rs a f h, bid-far s b, offer-far s a)
 
@@ -53,15 +54,15 @@ pub record Sides (s : ℕ) (rs : List Row) (z : ℤ) : Type 0 where
   pub negative-crossed : ltZ z (pos 0) ≡ ltb offer bid
   pub zero-locked : z ≡ pos 0 → offer ≡ bid
   pub locked-zero : offer ≡ bid → z ≡ pos 0
-  pub size : natAbs z ≤ topPrice
+  pub size : natAbs z ≤ mostPrice
 
 pub between-none : (bs : List ℕ) → between bs [] ≡ SpreadAnswer.Empty
 unfolding between
 between-none [] = refl
 between-none (b ∷ bs) = refl
 
-pub sides : (s : ℕ) (rs : List Row) (z : ℤ) (bs : List ℕ) → prices (keyOf Side.Buy s) rs ≡ bs → All (λ p. p ≤ topPrice) bs
-    → (os : List ℕ) → prices (keyOf Side.Sell s) rs ≡ os → All (λ p. p ≤ topPrice) os → between bs os ≡ SpreadAnswer.Of z → Sides s rs z
+pub sides : (s : ℕ) (rs : List Row) (z : ℤ) (bs : List ℕ) → prices (keyOf Side.Buy s) rs ≡ bs → All (λ p. p ≤ mostPrice) bs
+    → (os : List ℕ) → prices (keyOf Side.Sell s) rs ≡ os → All (λ p. p ≤ mostPrice) os → between bs os ≡ SpreadAnswer.Of z → Sides s rs z
 unfolding between
 sides s rs z [] p h os q l f = let x : _≡_ {A = ℕ} 0 1 = cc in absurd (omega arith)
 sides s rs z (b ∷ bs) p h [] q l f = let x : _≡_ {A = ℕ} 0 1 = cc in absurd (omega arith)

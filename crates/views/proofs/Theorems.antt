@@ -10,6 +10,7 @@ use lib.Seq.{getD-drop, getD-append-add}
 use lib.Dec.{eqb}
 use lib.IntN.{ℤ}
 use borrow.Author.Tests.{ne-eqb, eqb-true}
+use Rattle.facts.specs.Limits.{mostPrice}
 use Rattle.facts.specs.Pick.{pick}
 use Rattle.facts.specs.Sums.{sumBy, onlyIf, countBy}
 use Rattle.facts.proofs.Picks.{pick-ind}
@@ -29,7 +30,7 @@ use Rattle.views.specs.declared.Level.{Level}
 use Rattle.views.specs.declared.Side.{Side}
 use Rattle.views.specs.declared.SpreadAnswer.{SpreadAnswer}
 use Rattle.views.specs.declared.CountsAnswer.{CountsAnswer}
-use Rattle.views.specs.Ladder.{topPrice, keyOf, far, atPrice, placesOf, prices, levelOf, ladder, threeOf, fitting, written}
+use Rattle.views.specs.Ladder.{keyOf, far, atPrice, placesOf, prices, levelOf, ladder, threeOf, fitting, written}
 use Rattle.views.specs.Nearest.{beyond}
 use Rattle.views.specs.Views.{goodTables, viewFault, Shown, ladderView, spreadView, countsView, ladderNumber, spreadNumber, countsNumber}
 use Rattle.views.specs.Spread.{between, spreadOf}
@@ -48,7 +49,7 @@ level-prices k rs = go (prices k rs)
     go (p ∷ ps) = rw (go ps)
 
 -- "bids from the highest"
-pub bids-fall : (s : ℕ) (rs : List Row) → Falls (topPrice + 1) (prices (keyOf Side.Buy s) rs)
+pub bids-fall : (s : ℕ) (rs : List Row) → Falls (mostPrice + 1) (prices (keyOf Side.Buy s) rs)
 unfolding prices
 bids-fall s rs = bid-prices-fall s 0 (placesOf (keyOf Side.Buy s) rs) (rising (keyOf Side.Buy s) rs)
 
@@ -90,7 +91,7 @@ module _ (k : ℕ) (rs : List Row) where
   unfolding prices placesOf
   price-taken =
       all-map (λ p. anyBy (atPrice k p) rs ≡ true) (far k) (placesOf k rs)
-      (all-weaken (λ d w. sym (any-in-place k d (w .1) rs) ∙ (sym (places-has (ofKey k) (λ r. far k (r .price)) d rs) ∙ w .0)) (placesOf k rs) (all-and (λ d. has d (placesOf k rs) ≡ true) (λ d. d ≤ topPrice) (placesOf k rs) (all-has (placesOf k rs)) (places-low k rs)))
+      (all-weaken (λ d w. sym (any-in-place k d (w .1) rs) ∙ (sym (places-has (ofKey k) (λ r. far k (r .price)) d rs) ∙ w .0)) (placesOf k rs) (all-and (λ d. has d (placesOf k rs) ≡ true) (λ d. d ≤ mostPrice) (placesOf k rs) (all-has (placesOf k rs)) (places-low k rs)))
 
   pub level-filled : All (λ (l : Level). (1 ≤ l .orders) × (1 ≤ l .shares)) (ladder k rs)
   unfolding ladder levelOf countBy
@@ -120,7 +121,7 @@ module _ (k : ℕ) (rs : List Row) where
 -- no live bid is above the best
 pub bid-highest : (s : ℕ) (rs : List Row) (b : ℕ) (bs : List ℕ) → prices (keyOf Side.Buy s) rs ≡ b ∷ bs → All (λ r. ofKey (keyOf Side.Buy s) r ≡ true → r .price ≤ b) rs
 bid-highest s rs b bs e =
-    let f : Falls (topPrice + 1) (b ∷ bs) = rw e at (bids-fall s rs) in
+    let f : Falls (mostPrice + 1) (b ∷ bs) = rw e at (bids-fall s rs) in
     let l : All (λ p. p ≤ b) (prices (keyOf Side.Buy s) rs) = rw e (omega arith, all-weaken (λ x h. omega arith) bs (falls-below b bs (f .1))) in
     all-weaken (λ r h m. counted (keyOf Side.Buy s) r (λ p. p ≤ b) (prices (keyOf Side.Buy s) rs) l (omega (arith, h m))) rs (at-one-price (keyOf Side.Buy s) rs)
 

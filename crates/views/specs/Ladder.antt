@@ -1,31 +1,33 @@
 -- The ladder (document 01: "The ladder of a symbol and side is its price levels, bids from the highest, offers from the lowest: price, shares, number of orders").
-use Prim.Native.Nat.{ℕ, _+_, _*_, _/_, _%_, _-_}
+use Prim.Native.Nat.{ℕ, _/_, _-_}
 use mathlib.Core.List.{List, [], _∷_, _++_, map}
 use mathlib.Core.Bool.{Bool}
 use lib.ListN.{length, take, drop}
 use lib.Dec.{eqb}
 use Rattle.facts.specs.Pick.{pick, both}
+use Rattle.facts.specs.Limits.{mostPrice}
 use Rattle.facts.specs.Pieces.{join, putPiece}
 use Rattle.facts.specs.Sums.{sumBy, onlyIf, countBy}
 use Rattle.rows.specs.declared.Row.{Row}
+use Rattle.rows.specs.Keys.{keyFor, sideIn}
 use Rattle.rows.specs.Rows.{rows, goodRows}
 use Rattle.rows.specs.Find.{ofKey}
 use Rattle.ascend.specs.Ascend.{places}
 use Rattle.views.specs.declared.Level.{Level}
 use Rattle.views.specs.declared.Side.{Side}
 
--- "price (millionths of a dollar) 1 to 1,000,000,000,000,000"
-abbrev pub topPrice : ℕ
-topPrice = 1000000000000000
+-- "buy 0, sell 1"
+abbrev pub sideNumber : Side → ℕ
+sideNumber Side.Buy = 0
+sideNumber Side.Sell = 1
 
--- "symbol ID times 2 plus side (buy 0, sell 1)"
+-- the key under which the rows of a symbol and side stand
 unfoldable pub keyOf : Side → ℕ → ℕ
-keyOf Side.Buy s = s * 2
-keyOf Side.Sell s = s * 2 + 1
+keyOf side s = keyFor s (sideNumber side)
 
--- "bids from the highest, offers from the lowest": how far a price lies from the best that there can be; of a key that is even, a bid's
+-- "bids from the highest, offers from the lowest": how far a price of the key lies from the best that there can be
 unfoldable pub far : ℕ → ℕ → ℕ
-far k p = pick (eqb (k % 2) 0) (topPrice - p) p
+far k p = pick (eqb (sideIn k) 0) (mostPrice - p) p
 
 -- a live order of the key at that price
 unfoldable pub atPrice : ℕ → ℕ → Row → Bool

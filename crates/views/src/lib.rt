@@ -4,20 +4,18 @@ ghost use mathlib.Core.Bool.{true};
 ghost use Prim.Native.Nat.{_≤_};
 ghost use lib.ListN.{length};
 ghost use lib.IntN.{pos, _-ℤ_};
+ghost use Rattle.facts.specs.Limits.{mostPrice};
 ghost use Rattle.rows.specs.Rows.{rows, goodRows};
 ghost use Rattle.ascend.specs.Ascend.{leastFrom};
-ghost use Rattle.views.specs.Ladder.{keyOf, far, atPrice, placesOf, levelOf, putLevel, laidOut, ladderRun, topPrice};
+ghost use Rattle.views.specs.Ladder.{keyOf, far, atPrice, placesOf, levelOf, putLevel, laidOut, ladderRun};
 ghost use Rattle.views.specs.Nearest.{beyond, near};
 ghost use Rattle.views.specs.Spread.{spreadOf};
 ghost use Rattle.views.specs.Views.{goodTables, viewFault, shown, ladderView, spreadView, countsView};
 use fields::Refusal;
 use rows::Row;
 
-// The highest price, in millionths of a dollar.
-const TOP_PRICE: u64 = 1000000000000000;
-
 // Farther than any price lies from the best.
-const BEYOND: u64 = 1000000000000001;
+const BEYOND: u64 = facts::MOST_PRICE + 1;
 
 pub enum Side {
     Buy,
@@ -58,18 +56,18 @@ pub fn key_of(symbol: u32, side: Side) -> u64
     ensures { λ r. ⌜ r ≡ keyOf side symbol ⌝ }
 {
     match side {
-        Side::Buy => (symbol as u64) * 2,
-        Side::Sell => (symbol as u64) * 2 + 1,
+        Side::Buy => rows::key_for(symbol, 0),
+        Side::Sell => rows::key_for(symbol, 1),
     }
 }
 
 // How far a price lies from the best that there can be, and the price that lies so far.
 fn far_of(key: u64, price: u64) -> u64
-    requires { ⌜ price ≤ topPrice ⌝ }
+    requires { ⌜ price ≤ mostPrice ⌝ }
     ensures { λ r. ⌜ r ≡ far key price ⌝ }
 {
-    if key % 2 == 0 {
-        return TOP_PRICE - price;
+    if rows::side_in(key) == 0 {
+        return facts::MOST_PRICE - price;
     }
     price
 }
@@ -95,7 +93,7 @@ fn nearer(r: Row, key: u64, low: u64, best: u64) -> u64
 fn nearest(t: &[u64], key: u64, low: u64) -> u64
     ensures { λ r. ⌜ r ≡ leastFrom beyond low (placesOf key (rows (now (t .entry)))) ⌝ }
 {
-    let n = t.len() / 5;
+    let n = rows::row_count(t);
     let mut best = BEYOND;
     let mut i = 0;
     while i < n {
@@ -119,7 +117,7 @@ fn level_at(t: &[u64], key: u64, price: u64) -> Level
     requires { ⌜ goodRows (length (now t)) ≡ true ⌝ }
     ensures { λ r. ⌜ r ≡ levelOf key (rows (now (t .entry))) price ⌝ }
 {
-    let n = t.len() / 5;
+    let n = rows::row_count(t);
     let mut shares: u64 = 0;
     let mut count: u64 = 0;
     let mut i = 0;
@@ -162,7 +160,7 @@ fn ladder_of(orders: &[u64], key: u64, out: &mut [u64]) -> usize
     let mut low: u64 = 0;
     loop {
         let d = nearest(orders, key, low);
-        if d > TOP_PRICE {
+        if d > facts::MOST_PRICE {
             return j;
         }
         put_level(out, j, level_at(orders, key, far_of(key, d)));
@@ -173,7 +171,7 @@ fn ladder_of(orders: &[u64], key: u64, out: &mut [u64]) -> usize
 
 // What is left of two prices, signed.
 fn minus(a: u64, b: u64) -> i64
-    requires { ⌜ (a ≤ topPrice) × (b ≤ topPrice) ⌝ }
+    requires { ⌜ (a ≤ mostPrice) × (b ≤ mostPrice) ⌝ }
     ensures { λ r. ⌜ r ≡ pos a -ℤ pos b ⌝ }
 {
     (a as i64) - (b as i64)
@@ -184,14 +182,14 @@ fn spread_of(orders: &[u64], symbol: u32) -> SpreadAnswer
     ensures { λ r. ⌜ r ≡ spreadOf symbol (rows (now (orders .entry))) ⌝ }
 {
     let bid = nearest(orders, key_of(symbol, Side::Buy), 0);
-    if bid > TOP_PRICE {
+    if bid > facts::MOST_PRICE {
         return SpreadAnswer::Empty;
     }
     let offer = nearest(orders, key_of(symbol, Side::Sell), 0);
-    if offer > TOP_PRICE {
+    if offer > facts::MOST_PRICE {
         return SpreadAnswer::Empty;
     }
-    SpreadAnswer::Of(minus(offer, TOP_PRICE - bid))
+    SpreadAnswer::Of(minus(offer, facts::MOST_PRICE - bid))
 }
 
 fn good_tables(orders: &[u64], symbols: &[u8]) -> bool

@@ -1,8 +1,10 @@
 -- Four appends, each where the one before ended.
 -- Assumes nothing.
 use Rattle.answer_sheet.specs.Keys.{badKey, nextKey, stopKey}
-use Rattle.answer_sheet.specs.Sheet.{headOf}
-use Rattle.text.proofs.Laws.{wrote-then}
+use Rattle.answer_sheet.specs.Sheet.{headLines}
+use Rattle.facts.specs.Pieces.{join}
+use Rattle.answer_sheet.specs.Lines.{plain, lineText, textOf}
+use Rattle.text.proofs.Laws.{wrote-last, wrote-then}
 use borrow.Author.Needs.{needs}
 use Rattle.answer_sheet.proofs.head.Statement.{statement}
 use Rattle.answer_sheet.proofs.head.Tie as tie
@@ -35,8 +37,8 @@ same-length : tie.Need-same-length
 same-length c = search needs
 
 returns : tie.Need-returns
-unfolding headOf badKey nextKey stopKey
-returns c = wrote-then (c .before .before .before .before .before .before .before .before .before .before .before .before .before .before .before .before .before .before .recording-line .ensures) (wrote-then (c .before .before .before .before .before .before .before .before .before .before .before .before .before .line .ensures) (wrote-then (c .before .before .before .before .before .before .before .before .line2 .ensures) (c .before .before .line3 .ensures)))
+unfolding headLines textOf lineText plain join badKey nextKey stopKey
+returns c = (wrote-then (c .before .before .before .before .before .before .before .before .before .before .before .before .before .before .before .before .before .before .recording-line .ensures) (wrote-then (c .before .before .before .before .before .before .before .before .before .before .before .before .before .line .ensures) (wrote-then (c .before .before .before .before .before .before .before .before .line2 .ensures) (wrote-last (c .before .before .line3 .ensures)))), search needs)
 
 pub head-spec : {M : Type 1} → statement M
 head-spec =

@@ -1,7 +1,7 @@
 -- Four appends, each where the one before ended.
 -- Assumes nothing.
-use Rattle.answer_sheet.specs.Sheet.{levelLine}
-use Rattle.text.proofs.Laws.{wrote-then}
+use Rattle.answer_sheet.proofs.Lines.{level-text}
+use Rattle.text.proofs.Laws.{wrote-as, wrote-then}
 use borrow.Author.Needs.{needs}
 use Rattle.answer_sheet.proofs.level_line.Statement.{statement}
 use Rattle.answer_sheet.proofs.level_line.Tie as tie
@@ -22,8 +22,7 @@ same-length : tie.Need-same-length
 same-length c = search needs
 
 returns : tie.Need-returns
-unfolding levelLine
-returns c = wrote-then (c .before .before .before .before .before .before .before .before .before .before .before .before .before .before .bytes .ensures) (wrote-then (c .before .before .before .before .before .before .before .before .before .before .number .ensures) (wrote-then (c .before .before .before .before .before .before .number2 .ensures) (c .before .before .number3 .ensures)))
+returns c = wrote-as (level-text _ _) (wrote-then (c .before .before .before .before .before .before .before .before .before .before .before .before .before .before .bytes .ensures) (wrote-then (c .before .before .before .before .before .before .before .before .before .before .number .ensures) (wrote-then (c .before .before .before .before .before .before .number2 .ensures) (c .before .before .number3 .ensures))))
 
 pub level-line-spec : {M : Type 1} → statement M
 level-line-spec =

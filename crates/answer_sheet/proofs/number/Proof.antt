@@ -1,6 +1,6 @@
 -- Two appends, the second where the first ended.
 -- Assumes nothing.
-use Rattle.answer_sheet.specs.Sheet.{valueOf}
+use Rattle.answer_sheet.specs.Sheet.{markedOf}
 use Rattle.text.proofs.Laws.{wrote-then}
 use borrow.Author.Needs.{needs}
 use Rattle.answer_sheet.proofs.number.Statement.{statement}
@@ -16,7 +16,7 @@ same-length : tie.Need-same-length
 same-length c = search needs
 
 returns : tie.Need-returns
-unfolding valueOf
+unfolding markedOf
 returns c = search (needs, wrote-then)
 
 pub number-spec : {M : Type 1} → statement M

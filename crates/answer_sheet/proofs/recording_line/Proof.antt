@@ -1,7 +1,8 @@
 -- Each word is its own case of the definition, and its line is a constant.
 -- Assumes nothing.
 use Rattle.answer_sheet.specs.Keys.{recordingKey, wholeWord, cutWord}
-use Rattle.answer_sheet.specs.Sheet.{recordingLine}
+use Rattle.answer_sheet.specs.Sheet.{recordingWord}
+use Rattle.text.specs.Text.{lineOf}
 use borrow.Author.Needs.{needs}
 use Rattle.answer_sheet.proofs.recording_line.Statement.{statement}
 use Rattle.answer_sheet.proofs.recording_line.Tie as tie
@@ -28,14 +29,14 @@ same-length : tie.Need-same-length
 same-length c = search needs
 
 returns : tie.Need-returns
-unfolding recordingLine recordingKey wholeWord
+unfolding lineOf recordingWord recordingKey wholeWord
 returns c = rw (c .before .before .before .before .before .enum-told .given .1) (c .before .before .bytes .ensures)
 
 same-length-2 : tie.Need-same-length-2
 same-length-2 c = search needs
 
 returns-2 : tie.Need-returns-2
-unfolding recordingLine recordingKey cutWord
+unfolding lineOf recordingWord recordingKey cutWord
 returns-2 c = rw (c .before .before .before .before .before .enum-told2 .given .1) (c .before .before .bytes2 .ensures)
 
 pub recording-line-spec : {M : Type 1} → statement M

@@ -2,6 +2,8 @@
 -- Assumes nothing.
 use mathlib.Core.Path.{sym, _∙_}
 use borrow.Author.Tests.{not-true, not-false}
+use native.Mathlib.Omega.{arith}
+use Rattle.answer_sheet.proofs.Bound.{Machine}
 use Rattle.answer_sheet.proofs.Exits.{counted-good, uncounted-bad, sizes-refused, next-refused, sheet-stored}
 use borrow.Author.Needs.{needs}
 use Rattle.answer_sheet.proofs.sheet.Statement.{statement}
@@ -46,7 +48,9 @@ returns-3 c =
     let a = told .before .before .before .before .before .before .args in
     let g = counted-good (a .orders .now) (a .symbols .now) _ (sym (told .c .given .1) ∙ told .before .before .counts .ensures) in
     let n = sym (tried .before .next-ok .ensures) ∙ not-false _ (tried .if1 .left) in
-    sheet-stored (a .word) (a .bad) (a .state) (a .orders .now) (a .symbols .now) (a .buf .now) g n _ _ (c .before .before .all-lines .ensures)
+    let wrote = c .before .before .all-lines .ensures in
+    let m : Machine (a .bad) (a .state) (a .symbols .now) = record { bad-fits = search needs; second-fits = wrote .2; stop-fits = wrote .1; bytes = λ i. omega (arith, told .before .before .before .shared-slice-known2 .given i) } in
+    sheet-stored (a .word) (a .bad) (a .state) (a .orders .now) (a .symbols .now) (a .buf .now) g n m _ _ (wrote .0)
 
 pub sheet-spec : {M : Type 1} → statement M
 sheet-spec =

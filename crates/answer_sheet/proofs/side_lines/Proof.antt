@@ -24,7 +24,7 @@ levels-requires c κs =
     let laid = c .before .before .before .before in
     let start = laid .before .before .before .before .before .before in
     let a = start .args in
-    ladder-fits (a .side) (a .id) (a .orders .now) (a .symbols .now) _ (start .pre) _ _ (laid .ladder .ensures) _ refl (c .levels-shown .ensures)
+    ladder-fits (a .side) (a .id) (a .orders .now) (a .symbols .now) _ (start .pre .0) _ _ (laid .ladder .ensures) _ refl (c .levels-shown .ensures)
 
 same-length : tie.Need-same-length
 same-length c = search needs
@@ -34,7 +34,7 @@ returns c =
     let laid = c .before .before .before .before .before .before .before in
     let start = laid .before .before .before .before .before .before in
     let a = start .args in
-    wrote-as (ladder-lines (a .side) (a .id) (a .orders .now) (a .symbols .now) _ (start .pre) _ _ (laid .ladder .ensures) (a .key .now) _ refl (c .before .before .before .levels-shown .ensures)) (c .before .before .levels .ensures)
+    wrote-as (ladder-lines (a .side) (a .id) (a .orders .now) (a .symbols .now) _ (start .pre .0) _ _ (laid .ladder .ensures) (a .key .now) (start .pre .1) _ refl (c .before .before .before .levels-shown .ensures)) (c .before .before .levels .ensures)
 
 pub side-lines-spec : {M : Type 1} → statement M
 side-lines-spec =

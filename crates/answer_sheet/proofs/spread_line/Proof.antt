@@ -1,7 +1,7 @@
 -- Three appends, each where the one before ended.
 -- Assumes nothing.
 use Rattle.answer_sheet.specs.Keys.{spreadKey}
-use Rattle.answer_sheet.specs.Sheet.{spreadLine}
+use Rattle.text.specs.Text.{lineOf}
 use Rattle.text.proofs.Laws.{wrote-then}
 use borrow.Author.Needs.{needs}
 use Rattle.answer_sheet.proofs.spread_line.Statement.{statement}
@@ -23,7 +23,7 @@ same-length : tie.Need-same-length
 same-length c = search needs
 
 returns : tie.Need-returns
-unfolding spreadLine spreadKey
+unfolding lineOf spreadKey
 returns c = wrote-then (c .before .before .before .before .before .before .before .before .before .before .bytes .ensures) (wrote-then (c .before .before .before .before .before .before .spread-word .ensures) (c .before .before .byte .ensures))
 
 pub spread-line-spec : {M : Type 1} → statement M

@@ -48,7 +48,7 @@ returns-2 c = rw (c .before .before .before .before .before .enum-told .given .1
 
 returns-3 : tie.Need-returns-3
 unfolding spreadWord
-returns-3 c = rw (c .enum-told2 .given .1) (wrote-none _ _)
+returns-3 c = rw (c .enum-told2 .given .1) (wrote-none (search needs))
 
 pub spread-word-spec : {M : Type 1} → statement M
 spread-word-spec =

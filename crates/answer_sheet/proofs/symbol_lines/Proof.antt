@@ -2,7 +2,9 @@
 -- Assumes nothing.
 use Rattle.answer_sheet.specs.Keys.{symbolKey, lotKey}
 use Rattle.answer_sheet.specs.Sheet.{symbolLines}
-use Rattle.text.proofs.Laws.{wrote-then}
+use Rattle.facts.specs.Pieces.{join}
+use Rattle.answer_sheet.specs.Lines.{plain, lineText, textOf}
+use Rattle.text.proofs.Laws.{wrote-last, wrote-then}
 use borrow.Author.Needs.{needs}
 use Rattle.answer_sheet.proofs.symbol_lines.Statement.{statement}
 use Rattle.answer_sheet.proofs.symbol_lines.Tie as tie
@@ -32,8 +34,8 @@ same-length : tie.Need-same-length
 same-length c = search needs
 
 returns : tie.Need-returns
-unfolding symbolLines symbolKey lotKey
-returns c = wrote-then (c .before .before .before .before .before .before .before .before .before .before .before .before .line .ensures) (wrote-then (c .before .before .before .before .before .before .before .before .ticker-line .ensures) (c .before .before .line2 .ensures))
+unfolding symbolLines textOf lineText plain join symbolKey lotKey
+returns c = wrote-then (c .before .before .before .before .before .before .before .before .before .before .before .before .line .ensures) (wrote-then (c .before .before .before .before .before .before .before .before .ticker-line .ensures) (wrote-last (c .before .before .line2 .ensures)))
 
 pub symbol-lines-spec : {M : Type 1} → statement M
 symbol-lines-spec =

@@ -2,7 +2,9 @@
 -- Assumes nothing.
 use Rattle.answer_sheet.specs.Keys.{secondKey, symbolsKey, ordersKey}
 use Rattle.answer_sheet.specs.Sheet.{tableLines}
-use Rattle.text.proofs.Laws.{wrote-then}
+use Rattle.facts.specs.Pieces.{join}
+use Rattle.answer_sheet.specs.Lines.{plain, lineText, textOf}
+use Rattle.text.proofs.Laws.{wrote-last, wrote-then}
 use borrow.Author.Needs.{needs}
 use Rattle.answer_sheet.proofs.table_lines.Statement.{statement}
 use Rattle.answer_sheet.proofs.table_lines.Tie as tie
@@ -29,8 +31,8 @@ same-length : tie.Need-same-length
 same-length c = search needs
 
 returns : tie.Need-returns
-unfolding tableLines secondKey symbolsKey ordersKey
-returns c = wrote-then (c .before .before .before .before .before .before .before .before .before .before .before .before .line .ensures) (wrote-then (c .before .before .before .before .before .before .before .line2 .ensures) (c .before .before .line3 .ensures))
+unfolding tableLines textOf lineText plain join secondKey symbolsKey ordersKey
+returns c = (wrote-then (c .before .before .before .before .before .before .before .before .before .before .before .before .line .ensures) (wrote-then (c .before .before .before .before .before .before .before .line2 .ensures) (wrote-last (c .before .before .line3 .ensures))), search needs)
 
 pub table-lines-spec : {M : Type 1} → statement M
 table-lines-spec =

@@ -1,7 +1,7 @@
 -- Three appends, each where the one before ended.
 -- Assumes nothing.
 use Rattle.answer_sheet.specs.Keys.{tickerKey}
-use Rattle.answer_sheet.specs.Sheet.{tickerLine}
+use Rattle.text.specs.Text.{lineOf}
 use Rattle.text.proofs.Laws.{wrote-then}
 use borrow.Author.Needs.{needs}
 use Rattle.answer_sheet.proofs.ticker_line.Statement.{statement}
@@ -23,7 +23,7 @@ same-length : tie.Need-same-length
 same-length c = search needs
 
 returns : tie.Need-returns
-unfolding tickerLine tickerKey
+unfolding lineOf tickerKey
 returns c = wrote-then (c .before .before .before .before .before .before .before .before .before .before .bytes .ensures) (wrote-then (c .before .before .before .before .before .before .ticker .ensures) (c .before .before .byte .ensures))
 
 pub ticker-line-spec : {M : Type 1} → statement M

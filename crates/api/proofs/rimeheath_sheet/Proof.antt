@@ -27,14 +27,14 @@ same-length c = search needs
 
 returns : tie.Need-returns
 unfolding sheetAnswer sheetNumber
-returns c = sheet-handed _ _ (c .before .r .given .1) _ _ (rw (c .before .before .before .before .before .before .before .before .state-in .ensures, c .before .before .before .before .before .before .word-of .ensures) at (c .before .before .before .before .before .sheet .ensures)) (c .before .before .before .before .before .before .before .before .before .before .before .before .args .written .now)
+returns c = sheet-handed _ _ (c .before .r .given .1) _ _ (rw (c .before .before .before .before .before .before .before .before .state-in .ensures, c .before .before .before .before .before .before .word-of .ensures) at (c .before .before .before .before .before .sheet .ensures)) (c .before .before .before .before .before .before .before .before .before .before .before .before .args .length .now)
 
 same-length-2 : tie.Need-same-length-2
 same-length-2 c = search needs
 
 returns-2 : tie.Need-returns-2
 unfolding sheetAnswer sheetNumber
-returns-2 c = sheet-handed _ _ (c .before .before .n .given .1) _ _ (rw (c .before .before .before .before .before .before .before .before .before .state-in .ensures, c .before .before .before .before .before .before .before .word-of .ensures) at (c .before .before .before .before .before .before .sheet .ensures)) (c .before .before .before .before .before .before .before .before .before .before .before .before .before .args .written .now)
+returns-2 c = sheet-handed _ _ (c .before .before .n .given .1) _ _ (rw (c .before .before .before .before .before .before .before .before .before .state-in .ensures, c .before .before .before .before .before .before .before .word-of .ensures) at (c .before .before .before .before .before .before .sheet .ensures)) (c .before .before .before .before .before .before .before .before .before .before .before .before .before .args .length .now)
 
 pub rimeheath-sheet-spec : {M : Type 1} → statement M
 rimeheath-sheet-spec =

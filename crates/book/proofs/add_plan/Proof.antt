@@ -17,7 +17,7 @@ of-known-requires c κs = search needs
 
 returns : tie.Need-returns
 unfolding addPlan
-returns c = c .of-known .ensures ∙ ap (ofKnown (c .before .before .before .args .entry)) (c .before .room-for .ensures ∙ ap (λ r. roomFor (c .before .before .before .args .clock) r (c .before .before .before .args .order) (c .before .before .before .args .free)) (c .before .before .row-for .ensures))
+returns c = c .of-known .ensures ∙ ap (λ p. ofKnown (c .before .before .before .args .entry) (λ e. p)) (c .before .room-for .ensures ∙ ap (λ r. roomFor (c .before .before .before .args .clock) r (c .before .before .before .args .order) (c .before .before .before .args .free)) (c .before .before .row-for .ensures))
 
 pub add-plan-spec : {M : Type 1} → statement M
 add-plan-spec = tie.close (tie.spec row-for-requires room-for-requires of-known-requires returns)

@@ -14,7 +14,7 @@ of-known-requires c κs = search needs
 
 returns : tie.Need-returns
 unfolding clearPlan
-returns c = c .of-known .ensures ∙ ap (ofKnown (c .before .before .args .entry)) (c .before .on-rows .ensures)
+returns c = c .of-known .ensures ∙ ap (λ p. ofKnown (c .before .before .args .entry) (λ e. p)) (c .before .on-rows .ensures)
 
 pub clear-plan-spec : {M : Type 1} → statement M
 clear-plan-spec = tie.close (tie.spec on-rows-requires of-known-requires returns)

@@ -30,11 +30,11 @@ of-known-requires-2 c κs = search needs
 
 returns : tie.Need-returns
 unfolding deletePlan
-returns c = c .of-known .ensures ∙ ap (ofKnown (c .before .before .before .before .before .args .entry)) (upon-rule _ _ _ (sym (c .before .before .before .before .target-of .ensures) ∙ c .before .before .n .given .1))
+returns c = c .of-known .ensures ∙ ap (λ p. ofKnown (c .before .before .before .before .before .args .entry) (λ e. p)) (upon-rule _ _ _ (sym (c .before .before .before .before .target-of .ensures) ∙ c .before .before .n .given .1))
 
 returns-2 : tie.Need-returns-2
 unfolding deletePlan
-returns-2 c = rw (c .of-known2 .ensures, c .before .on-rows .ensures, c .before .before .zero-row .ensures) (ap (ofKnown (c .before .before .before .before .before .before .before .args .entry)) (upon-order _ (deleted (c .before .before .before .before .before .before .before .args .clock)) _ _ (sym (c .before .before .before .before .before .before .target-of .ensures) ∙ c .before .before .before .before .i .given .1)))
+returns-2 c = rw (c .of-known2 .ensures, c .before .on-rows .ensures, c .before .before .zero-row .ensures) (ap (λ p. ofKnown (c .before .before .before .before .before .before .before .args .entry) (λ e. p)) (upon-order _ (deleted (c .before .before .before .before .before .before .before .args .clock)) _ _ (sym (c .before .before .before .before .before .before .target-of .ensures) ∙ c .before .before .before .before .i .given .1)))
 
 pub delete-plan-spec : {M : Type 1} → statement M
 delete-plan-spec =

@@ -36,11 +36,11 @@ of-known-requires-2 c κs = search needs
 
 returns : tie.Need-returns
 unfolding modifyPlan
-returns c = c .of-known .ensures ∙ ap (ofKnown (c .before .before .before .before .before .args .entry)) (upon-rule _ _ _ (sym (c .before .before .before .before .target-of .ensures) ∙ c .before .before .n .given .1))
+returns c = c .of-known .ensures ∙ ap (λ p. ofKnown (c .before .before .before .before .before .args .entry) (λ e. p)) (upon-rule _ _ _ (sym (c .before .before .before .before .target-of .ensures) ∙ c .before .before .n .given .1))
 
 returns-2 : tie.Need-returns-2
 unfolding modifyPlan
-returns-2 c = rw (c .of-known2 .ensures, c .before .on-rows .ensures, c .before .before .remake .ensures, c .before .before .before .before .loses-place .ensures) (ap (ofKnown (c .before .before .before .before .before .before .before .before .before .args .entry)) (upon-order _ (modified (c .before .before .before .before .before .before .before .before .before .args .clock) (c .before .before .before .before .before .before .before .before .before .args .m) (c .before .before .before .before .before .before .before .before .before .args .number)) _ _ (sym (c .before .before .before .before .before .before .before .before .target-of .ensures) ∙ c .before .before .before .before .before .before .i .given .1)))
+returns-2 c = rw (c .of-known2 .ensures, c .before .on-rows .ensures, c .before .before .remake .ensures, c .before .before .before .before .loses-place .ensures) (ap (λ p. ofKnown (c .before .before .before .before .before .before .before .before .before .args .entry) (λ e. p)) (upon-order _ (modified (c .before .before .before .before .before .before .before .before .before .args .clock) (c .before .before .before .before .before .before .before .before .before .args .m) (c .before .before .before .before .before .before .before .before .before .args .number)) _ _ (sym (c .before .before .before .before .before .before .before .before .target-of .ensures) ∙ c .before .before .before .before .before .before .i .given .1)))
 
 pub modify-plan-spec : {M : Type 1} → statement M
 modify-plan-spec =

@@ -1,10 +1,8 @@
--- Each field is the message's, and the side is at most 1, so the key fits.
+-- Each field is the message's; the key is made of its symbol and of the side that its letter tells.
 -- Assumes nothing.
-use native.Mathlib.Omega.{arith}
+use mathlib.Core.Path.{refl, ap, _∙_}
 use Rattle.book.specs.Plan.{rowFor}
-use Rattle.book.proofs.Laws.{side-small}
-use mathlib.Core.Path.{refl, ap}
-use Prim.Native.Nat.{_+_, _*_}
+use Rattle.rows.specs.Keys.{keyFor}
 use Rattle.rows.proofs.Tables.{row-eq}
 use borrow.Author.Needs.{needs}
 use Rattle.book.proofs.row_for.Statement.{statement}
@@ -13,21 +11,15 @@ use Rattle.book.proofs.row_for.Tie as tie
 side-of-requires : tie.Need-side-of-requires
 side-of-requires c κs = search needs
 
-cast-t4 : tie.Need-cast-t4
-cast-t4 c = search needs
+key-for-requires : tie.Need-key-for-requires
+key-for-requires c κs = search needs
 
-mul-t5 : tie.Need-mul-t5
-mul-t5 c = search needs
-
-add-t6 : tie.Need-add-t6
-add-t6 c = omega (arith, side-small (c .before .before .args .m .side))
-
-cast-t7 : tie.Need-cast-t7
-cast-t7 c = search needs
+cast-t5 : tie.Need-cast-t5
+cast-t5 c = search needs
 
 returns : tie.Need-returns
 unfolding rowFor
-returns c = row-eq _ _ refl (ap (λ s. c .before .before .before .args .m .symbol * 2 + s) (c .before .before .side-of .ensures)) refl refl refl
+returns c = row-eq _ _ refl (c .before .key-for .ensures ∙ ap (keyFor (c .before .before .before .args .m .symbol)) (c .before .before .side-of .ensures)) refl refl refl
 
 pub row-for-spec : {M : Type 1} → statement M
-row-for-spec = tie.close (tie.spec side-of-requires cast-t4 mul-t5 add-t6 cast-t7 returns)
+row-for-spec = tie.close (tie.spec side-of-requires key-for-requires cast-t5 returns)

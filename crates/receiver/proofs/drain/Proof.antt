@@ -9,7 +9,7 @@ use lib.ListN.{length}
 use Rattle.arbitration.specs.Receive.{drain as drained}
 use Rattle.arbitration.proofs.Turns.{loop-step, loop-rest, loop-end, turn-next}
 use Rattle.shelf.specs.Store.{shelfStore}
-use Rattle.receiver.specs.Rules.{bookEngine}
+use Rattle.receiver.specs.Lent.{bookEngine}
 use Rattle.receiver.specs.Lent.{Rx, rx}
 use Rattle.receiver.proofs.drain.Statement.{statement}
 use Rattle.receiver.proofs.drain.Tie as tie
@@ -21,7 +21,7 @@ Inv-loop orders₀ symbols₀ shelf₀ at₀ i₀ orders symbols shelf at i =
     × (length shelf ≡ length shelf₀)
     × (at .next ≤ at₀ .next + i)
     × (i ≤ 64)
-    × (drained shelfStore bookEngine (64 - i) (rx (at .next) (at .second) orders symbols shelf) ≡ drained shelfStore bookEngine 64 (rx (at₀ .next) (at₀ .second) orders₀ symbols₀ shelf₀))
+    × (drained shelfStore bookEngine (64 - i) (rx (at .next) (at .clock) orders symbols shelf) ≡ drained shelfStore bookEngine 64 (rx (at₀ .next) (at₀ .clock) orders₀ symbols₀ shelf₀))
 
 abbrev μ-loop : tie.MeasureT-loop
 μ-loop orders₀ symbols₀ shelf₀ at₀ i₀ orders symbols shelf at i = 64 - i
@@ -42,7 +42,7 @@ same-length-3 : tie.Need-same-length-3 Inv-loop μ-loop
 same-length-3 c = search needs
 
 returns : tie.Need-returns Inv-loop μ-loop
-returns c = loop-rest shelfStore bookEngine 64 (c .before .before .before .before .before .before .before .before .before .before .before .before .before .before .loop .i) (rx (c .before .before .before .before .before .before .before .before .before .before .before .before .before .before .loop .at .next) (c .before .before .before .before .before .before .before .before .before .before .before .before .before .before .loop .at .second) (c .before .before .before .before .before .before .before .before .before .before .before .before .before .before .loop .orders) (c .before .before .before .before .before .before .before .before .before .before .before .before .before .before .loop .symbols) (c .before .before .before .before .before .before .before .before .before .before .before .before .before .before .loop .shelf)) _ _ (c .before .before .before .before .before .before .before .before .before .before .before .before .before .before .loop .inv .5) (c .before .before .before .before .before .before .before .before .before .turn .ensures .0) (sym (c .before .before .before .before .before .before .before .before .before .turn .ensures .1) ∙ not-true (c .before .before .before .before .before .before .before .before .before .turn .result .on) (c .if1 .taken))
+returns c = loop-rest shelfStore bookEngine 64 (c .before .before .before .before .before .before .before .before .before .before .before .before .before .before .loop .i) (rx (c .before .before .before .before .before .before .before .before .before .before .before .before .before .before .loop .at .next) (c .before .before .before .before .before .before .before .before .before .before .before .before .before .before .loop .at .clock) (c .before .before .before .before .before .before .before .before .before .before .before .before .before .before .loop .orders) (c .before .before .before .before .before .before .before .before .before .before .before .before .before .before .loop .symbols) (c .before .before .before .before .before .before .before .before .before .before .before .before .before .before .loop .shelf)) _ _ (c .before .before .before .before .before .before .before .before .before .before .before .before .before .before .loop .inv .5) (c .before .before .before .before .before .before .before .before .before .turn .ensures .0) (sym (c .before .before .before .before .before .before .before .before .before .turn .ensures .1) ∙ not-true (c .before .before .before .before .before .before .before .before .before .turn .result .on) (c .if1 .taken))
 
 add-i : tie.Need-add-i Inv-loop μ-loop
 add-i c = search needs
@@ -52,7 +52,7 @@ loop-less c = search needs
 
 loop-again : tie.Need-loop-again Inv-loop μ-loop
 loop-again c =
-    let r : Rx = (rx (c .before .before .before .before .before .before .before .before .before .before .before .before .before .before .loop .at .next) (c .before .before .before .before .before .before .before .before .before .before .before .before .before .before .loop .at .second) (c .before .before .before .before .before .before .before .before .before .before .before .before .before .before .loop .orders) (c .before .before .before .before .before .before .before .before .before .before .before .before .before .before .loop .symbols) (c .before .before .before .before .before .before .before .before .before .before .before .before .before .before .loop .shelf)) in
+    let r : Rx = (rx (c .before .before .before .before .before .before .before .before .before .before .before .before .before .before .loop .at .next) (c .before .before .before .before .before .before .before .before .before .before .before .before .before .before .loop .at .clock) (c .before .before .before .before .before .before .before .before .before .before .before .before .before .before .loop .orders) (c .before .before .before .before .before .before .before .before .before .before .before .before .before .before .loop .symbols) (c .before .before .before .before .before .before .before .before .before .before .before .before .before .before .loop .shelf)) in
     let next : c .before .before .before .before .before .before .before .before .before .turn .result .at .next ≤ c .before .before .before .before .before .before .before .before .before .before .before .before .before .before .loop .at .next + 1 = omega (arith, ap (λ (x : Rx). x .next) (c .before .before .before .before .before .before .before .before .before .turn .ensures .0), turn-next shelfStore bookEngine r .1) in (
       search needs,
       search needs,
@@ -72,7 +72,7 @@ same-length-6 : tie.Need-same-length-6 Inv-loop μ-loop
 same-length-6 c = search needs
 
 returns-2 : tie.Need-returns-2 Inv-loop μ-loop
-returns-2 c = loop-end shelfStore bookEngine 64 (c .before .loop .i) (rx (c .before .loop .at .next) (c .before .loop .at .second) (c .before .loop .orders) (c .before .loop .symbols) (c .before .loop .shelf)) _ (c .loop-test .left) (c .before .loop .inv .5)
+returns-2 c = loop-end shelfStore bookEngine 64 (c .before .loop .i) (rx (c .before .loop .at .next) (c .before .loop .at .clock) (c .before .loop .orders) (c .before .loop .symbols) (c .before .loop .shelf)) _ (c .loop-test .left) (c .before .loop .inv .5)
 
 pub drain-spec : {M : Type 1} → statement M
 drain-spec =

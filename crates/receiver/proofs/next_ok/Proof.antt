@@ -2,7 +2,7 @@
 -- Assumes nothing.
 use borrow.Author.Tests.{le-leb, lt-leb}
 use Rattle.facts.specs.Pick.{both}
-use Rattle.receiver.specs.Lent.{nextOk}
+use Rattle.receiver.specs.Receiver.{nextOk}
 use Rattle.receiver.proofs.next_ok.Statement.{statement}
 use Rattle.receiver.proofs.next_ok.Tie as tie
 

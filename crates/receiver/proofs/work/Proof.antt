@@ -1,6 +1,6 @@
 -- The loop keeps: the records that are left, from here, give the end; each turn walks one record on.
 -- Assumes nothing.
-use Rattle.receiver.specs.Lent.{countsIn, noTally, workingOf}
+use Rattle.receiver.specs.Lent.{bookEngine, workingOf}
 use mathlib.Core.Path.{_≡_, refl, ap, _∙_}
 use Prim.Native.Nat.{_+_, _-_, _*_, _≤_}
 use native.Mathlib.Omega.{arith}
@@ -8,9 +8,8 @@ use borrow.Author.Needs.{needs}
 use lib.ListN.{length, drop}
 use Rattle.packet.specs.Packet.{framesFrom}
 use Rattle.packet.specs.declared.Head.{Head}
-use Rattle.arbitration.proofs.Tallies.{working, work as workAll, total}
+use Rattle.arbitration.specs.Loops.{noCounts, working, work as workAll, total}
 use Rattle.shelf.specs.Store.{shelfStore}
-use Rattle.receiver.specs.Rules.{bookEngine}
 use Rattle.receiver.proofs.Records.{leftFrom, worked-bounds, next-inside, next-frames, next-works, first-frames, last-works, same-record}
 use Rattle.receiver.proofs.work.Statement.{statement}
 use Rattle.receiver.proofs.work.Tie as tie
@@ -23,9 +22,9 @@ Inv-loop orders₀ symbols₀ shelf₀ p w₀ at₀ orders symbols shelf w at =
     × (length shelf ≡ length shelf₀)
     × (at ≤ length p)
     × (w .at .next ≤ w₀ .at .next + 64 * at)
-    × (total (countsIn (w .tally)) ≤ at)
+    × (total (w .counts) ≤ at)
     × (framesFrom (length p) (drop at p) ≡ records (leftFrom p at))
-    × (workAll shelfStore bookEngine (leftFrom p at) (workingOf (w .at) (w .tally) orders symbols shelf) ≡ workAll shelfStore bookEngine (leftFrom p 0) (workingOf (w₀ .at) (w₀ .tally) orders₀ symbols₀ shelf₀))
+    × (workAll shelfStore bookEngine (leftFrom p at) (workingOf (w .at) (w .counts) orders symbols shelf) ≡ workAll shelfStore bookEngine (leftFrom p 0) (workingOf (w₀ .at) (w₀ .counts) orders₀ symbols₀ shelf₀))
 
 abbrev μ-loop : tie.MeasureT-loop
 μ-loop orders₀ symbols₀ shelf₀ p w₀ at₀ orders symbols shelf w at = length p - at
@@ -53,7 +52,7 @@ loop-less c = omega (arith, next-inside (c .before .before .before .before .befo
 
 loop-again : tie.Need-loop-again Inv-loop μ-loop
 loop-again c =
-    let b = worked-bounds _ (workingOf (c .before .before .before .before .before .before .before .before .before .before .before .before .before .loop .w .at) (c .before .before .before .before .before .before .before .before .before .before .before .before .before .loop .w .tally) (c .before .before .before .before .before .before .before .before .before .before .before .before .before .loop .orders) (c .before .before .before .before .before .before .before .before .before .before .before .before .before .loop .symbols) (c .before .before .before .before .before .before .before .before .before .before .before .before .before .loop .shelf)) _ (c .before .before .before .before .before .before .offer .ensures ∙ ap (λ (x : Rec). working shelfStore bookEngine x (workingOf (c .before .before .before .before .before .before .before .before .before .before .before .before .before .loop .w .at) (c .before .before .before .before .before .before .before .before .before .before .before .before .before .loop .w .tally) (c .before .before .before .before .before .before .before .before .before .before .before .before .before .loop .orders) (c .before .before .before .before .before .before .before .before .before .before .before .before .before .loop .symbols) (c .before .before .before .before .before .before .before .before .before .before .before .before .before .loop .shelf))) (same-record (c .before .before .before .before .before .before .before .before .before .before .before .before .before .before .before .before .before .before .args .p .now) (c .before .before .before .before .before .before .before .before .before .before .before .before .before .loop .at) (c .before .before .before .before .before .before .before .before .before .before .before .head-at .result) _ (c .before .before .before .before .before .before .before .before .before .before .before .head-at .ensures) (c .before .before .before .before .before .before .before .body-at .ensures))) in (
+    let b = worked-bounds shelfStore bookEngine _ (workingOf (c .before .before .before .before .before .before .before .before .before .before .before .before .before .loop .w .at) (c .before .before .before .before .before .before .before .before .before .before .before .before .before .loop .w .counts) (c .before .before .before .before .before .before .before .before .before .before .before .before .before .loop .orders) (c .before .before .before .before .before .before .before .before .before .before .before .before .before .loop .symbols) (c .before .before .before .before .before .before .before .before .before .before .before .before .before .loop .shelf)) _ (c .before .before .before .before .before .before .offer .ensures ∙ ap (λ (x : Rec). working shelfStore bookEngine x (workingOf (c .before .before .before .before .before .before .before .before .before .before .before .before .before .loop .w .at) (c .before .before .before .before .before .before .before .before .before .before .before .before .before .loop .w .counts) (c .before .before .before .before .before .before .before .before .before .before .before .before .before .loop .orders) (c .before .before .before .before .before .before .before .before .before .before .before .before .before .loop .symbols) (c .before .before .before .before .before .before .before .before .before .before .before .before .before .loop .shelf))) (same-record (c .before .before .before .before .before .before .before .before .before .before .before .before .before .before .before .before .before .before .args .p .now) (c .before .before .before .before .before .before .before .before .before .before .before .before .before .loop .at) (c .before .before .before .before .before .before .before .before .before .before .before .head-at .result) _ (c .before .before .before .before .before .before .before .before .before .before .before .head-at .ensures) (c .before .before .before .before .before .before .before .body-at .ensures))) in (
       search needs,
       search needs,
       search needs,
@@ -61,7 +60,7 @@ loop-again c =
       omega (arith, b .0),
       omega (arith, b .1),
       next-frames (c .before .before .before .before .before .before .before .before .before .before .before .before .before .before .before .before .before .before .args .p .now) (c .before .before .before .before .before .before .before .before .before .before .before .before .before .loop .at) (c .before .before .before .before .before .before .before .before .before .before .before .head-at .result .len) (c .before .before .before .before .before .before .before .before .before .before .before .before .loop-test .taken) (ap (λ (h : Head). h .len) (c .before .before .before .before .before .before .before .before .before .before .before .head-at .ensures)) (c .before .before .before .before .before .before .before .before .before .before .before .before .before .loop .inv .6),
-      next-works (c .before .before .before .before .before .before .before .before .before .before .before .before .before .before .before .before .before .before .args .p .now) (c .before .before .before .before .before .before .before .before .before .before .before .before .before .loop .at) (c .before .before .before .before .before .before .before .before .before .before .before .head-at .result .len) (c .before .before .before .before .before .before .before .before .before .before .before .before .loop-test .taken) (ap (λ (h : Head). h .len) (c .before .before .before .before .before .before .before .before .before .before .before .head-at .ensures)) (c .before .before .before .before .before .before .before .before .before .before .before .before .before .loop .inv .6) (workingOf (c .before .before .before .before .before .before .before .before .before .before .before .before .before .loop .w .at) (c .before .before .before .before .before .before .before .before .before .before .before .before .before .loop .w .tally) (c .before .before .before .before .before .before .before .before .before .before .before .before .before .loop .orders) (c .before .before .before .before .before .before .before .before .before .before .before .before .before .loop .symbols) (c .before .before .before .before .before .before .before .before .before .before .before .before .before .loop .shelf)) _ _ (c .before .before .before .before .before .before .before .before .before .before .before .before .before .loop .inv .7) (c .before .before .before .before .before .before .offer .ensures ∙ ap (λ (x : Rec). working shelfStore bookEngine x (workingOf (c .before .before .before .before .before .before .before .before .before .before .before .before .before .loop .w .at) (c .before .before .before .before .before .before .before .before .before .before .before .before .before .loop .w .tally) (c .before .before .before .before .before .before .before .before .before .before .before .before .before .loop .orders) (c .before .before .before .before .before .before .before .before .before .before .before .before .before .loop .symbols) (c .before .before .before .before .before .before .before .before .before .before .before .before .before .loop .shelf))) (same-record (c .before .before .before .before .before .before .before .before .before .before .before .before .before .before .before .before .before .before .args .p .now) (c .before .before .before .before .before .before .before .before .before .before .before .before .before .loop .at) (c .before .before .before .before .before .before .before .before .before .before .before .head-at .result) _ (c .before .before .before .before .before .before .before .before .before .before .before .head-at .ensures) (c .before .before .before .before .before .before .before .body-at .ensures))),
+      next-works (c .before .before .before .before .before .before .before .before .before .before .before .before .before .before .before .before .before .before .args .p .now) (c .before .before .before .before .before .before .before .before .before .before .before .before .before .loop .at) (c .before .before .before .before .before .before .before .before .before .before .before .head-at .result .len) (c .before .before .before .before .before .before .before .before .before .before .before .before .loop-test .taken) (ap (λ (h : Head). h .len) (c .before .before .before .before .before .before .before .before .before .before .before .head-at .ensures)) (c .before .before .before .before .before .before .before .before .before .before .before .before .before .loop .inv .6) shelfStore bookEngine (workingOf (c .before .before .before .before .before .before .before .before .before .before .before .before .before .loop .w .at) (c .before .before .before .before .before .before .before .before .before .before .before .before .before .loop .w .counts) (c .before .before .before .before .before .before .before .before .before .before .before .before .before .loop .orders) (c .before .before .before .before .before .before .before .before .before .before .before .before .before .loop .symbols) (c .before .before .before .before .before .before .before .before .before .before .before .before .before .loop .shelf)) _ _ (c .before .before .before .before .before .before .before .before .before .before .before .before .before .loop .inv .7) (c .before .before .before .before .before .before .offer .ensures ∙ ap (λ (x : Rec). working shelfStore bookEngine x (workingOf (c .before .before .before .before .before .before .before .before .before .before .before .before .before .loop .w .at) (c .before .before .before .before .before .before .before .before .before .before .before .before .before .loop .w .counts) (c .before .before .before .before .before .before .before .before .before .before .before .before .before .loop .orders) (c .before .before .before .before .before .before .before .before .before .before .before .before .before .loop .symbols) (c .before .before .before .before .before .before .before .before .before .before .before .before .before .loop .shelf))) (same-record (c .before .before .before .before .before .before .before .before .before .before .before .before .before .before .before .before .before .before .args .p .now) (c .before .before .before .before .before .before .before .before .before .before .before .before .before .loop .at) (c .before .before .before .before .before .before .before .before .before .before .before .head-at .result) _ (c .before .before .before .before .before .before .before .before .before .before .before .head-at .ensures) (c .before .before .before .before .before .before .before .body-at .ensures))),
     )
 
 same-length : tie.Need-same-length Inv-loop μ-loop
@@ -74,7 +73,7 @@ same-length-3 : tie.Need-same-length-3 Inv-loop μ-loop
 same-length-3 c = search needs
 
 returns : tie.Need-returns Inv-loop μ-loop
-returns c = last-works (c .before .before .before .before .before .before .args .p .now) (c .before .loop .at) (c .loop-test .left) (c .before .loop .inv .6) (workingOf (c .before .loop .w .at) (c .before .loop .w .tally) (c .before .loop .orders) (c .before .loop .symbols) (c .before .loop .shelf)) (workAll shelfStore bookEngine (leftFrom (c .before .before .before .before .before .before .args .p .now) 0) (workingOf (c .before .before .before .before .before .before .args .start) noTally (c .before .before .before .before .before .before .args .orders .now) (c .before .before .before .before .before .before .args .symbols .now) (c .before .before .before .before .before .before .args .shelf .now))) (c .before .loop .inv .7) ∙ ap (λ cs. workAll shelfStore bookEngine cs (workingOf (c .before .before .before .before .before .before .args .start) noTally (c .before .before .before .before .before .before .args .orders .now) (c .before .before .before .before .before .before .args .symbols .now) (c .before .before .before .before .before .before .args .shelf .now))) (first-frames (c .before .before .before .before .before .before .args .p .now) (c .before .before .before .before .before .before .pre .1) .2)
+returns c = last-works shelfStore bookEngine (c .before .before .before .before .before .before .args .p .now) (c .before .loop .at) (c .loop-test .left) (c .before .loop .inv .6) (workingOf (c .before .loop .w .at) (c .before .loop .w .counts) (c .before .loop .orders) (c .before .loop .symbols) (c .before .loop .shelf)) (workAll shelfStore bookEngine (leftFrom (c .before .before .before .before .before .before .args .p .now) 0) (workingOf (c .before .before .before .before .before .before .args .start) noCounts (c .before .before .before .before .before .before .args .orders .now) (c .before .before .before .before .before .before .args .symbols .now) (c .before .before .before .before .before .before .args .shelf .now))) (c .before .loop .inv .7) ∙ ap (λ cs. workAll shelfStore bookEngine cs (workingOf (c .before .before .before .before .before .before .args .start) noCounts (c .before .before .before .before .before .before .args .orders .now) (c .before .before .before .before .before .before .args .symbols .now) (c .before .before .before .before .before .before .args .shelf .now))) (first-frames (c .before .before .before .before .before .before .args .p .now) (c .before .before .before .before .before .before .pre .1) .2)
 
 pub work-spec : {M : Type 1} → statement M
 work-spec =

@@ -8,8 +8,14 @@ use Rattle.rows.proofs.Tables.{row-written, put-past}
 use Rattle.rows.proofs.put_row.Statement.{statement}
 use Rattle.rows.proofs.put_row.Tie as tie
 
+row-count-requires : tie.Need-row-count-requires
+row-count-requires c κs = search needs
+
+same-length : tie.Need-same-length
+same-length c = search needs
+
 returns : tie.Need-returns
-returns c = let a = c .before .args in sym (put-past (a .t .now) (a .i) (a .r) (c .if1 .taken))
+returns c = let a = c .before .before .before .before .args in sym (put-past (a .t .now) (a .i) (a .r) (omega arith))
 
 mul-b : tie.Need-mul-b
 mul-b c = search needs
@@ -56,16 +62,18 @@ mul-t-5 c = search needs
 slice-write-t-5 : tie.Need-slice-write-t-5
 slice-write-t-5 c = simp length-set (omega arith)
 
-same-length : tie.Need-same-length
-same-length c = search needs
+same-length-2 : tie.Need-same-length-2
+same-length-2 c = search needs
 
 returns-2 : tie.Need-returns-2
-returns-2 c = let a = c .before .args in row-written (a .t .now) (a .i) (a .r) (omega arith)
+returns-2 c = let a = c .before .before .before .before .args in row-written (a .t .now) (a .i) (a .r) (omega arith)
 
 pub put-row-spec : {M : Type 1} → statement M
 put-row-spec =
     tie.close
     (tie.spec
+    row-count-requires
+    same-length
     returns
     mul-b
     mul-t
@@ -82,5 +90,5 @@ put-row-spec =
     add-t-4
     mul-t-5
     slice-write-t-5
-    same-length
+    same-length-2
     returns-2)

@@ -7,8 +7,8 @@ use lib.IntN.{pos, _-ℤ_}
 use mir.Syntax.{w64}
 use mir.ValLaws.{toZ-ofZ}
 use borrow.Author.Needs.{needs}
+use Rattle.facts.specs.Limits.{mostPrice}
 use Rattle.rows.specs.Rows.{rows}
-use Rattle.views.specs.Ladder.{topPrice}
 use Rattle.views.proofs.Signs.{minus-fits}
 use Rattle.views.proofs.Spreads.{no-bid, no-offer, two-sided}
 use Rattle.views.proofs.spread_of.Statement.{statement}
@@ -45,8 +45,8 @@ returns-3 c =
     let b = c .before .before .before .before .before .nearest .result in
     let o = c .before .before .nearest2 .result in
     let p = two-sided (a .symbol) (rows (a .orders .now)) b (rw (c .before .before .before .before .before .before .key-of .ensures) at (c .before .before .before .before .before .nearest .ensures)) (c .before .before .before .before .if1 .left) o (rw (c .before .before .before .key-of2 .ensures) at (c .before .before .nearest2 .ensures)) (c .before .if2 .left) in
-    let m : c .minus .result ≡ pos o -ℤ pos (topPrice - b) = c .minus .ensures in
-    rw (m, toZ-ofZ w64 _ (minus-fits o (topPrice - b) (c .before .if2 .left) (omega arith))) p
+    let m : c .minus .result ≡ pos o -ℤ pos (mostPrice - b) = c .minus .ensures in
+    rw (m, toZ-ofZ w64 _ (minus-fits o (mostPrice - b) (c .before .if2 .left) (omega arith))) p
 
 pub spread-of-spec : {M : Type 1} → statement M
 spread-of-spec =

@@ -1,14 +1,15 @@
--- Demand 3 of document 00, over any book, any shelf and any framing of packets.
+-- The words of demand 3 (document 00): lists of messages, true copies of them, what a list makes, and what was answered. The demand itself, of a start and
+-- any number of calls of `receive`, is receiver/specs/Demand3.antt.
 use Prim.Native.Nat.{ℕ, zero, suc, _+_, _-_, _≤_, _<_}
 use mathlib.Core.Path.{_≡_}
-use mathlib.Core.Logic.{_⊎_}
 use mathlib.Core.Bool.{Bool, true}
 use mathlib.Core.List.{List, [], _∷_}
 use lib.ListN.{length, getD}
+use Rattle.facts.specs.Limits.{lastNumber}
+use Rattle.wire.specs.Le.{Bytes}
 use Rattle.wire.specs.Records.{Rec}
-use Rattle.packet.specs.Packet.{Framing}
 use Rattle.arbitration.specs.Engine.{Applied, ok, broke, Engine, Store}
-use Rattle.arbitration.specs.Receive.{Answer, taken, old, repeated, Said, accepted, State, stop, said, receives}
+use Rattle.arbitration.specs.Receive.{Answer, taken, old, repeated, Said, State, stop, said}
 
 -- every element of a list
 abbrev pub Every : {A : Type 0} → (A → Type 0) → List A → Type 0
@@ -35,7 +36,17 @@ Copies ms cs = Every (TrueCopy ms) cs
 -- "Sequence numbers run from 1 to 1,000,000,000,000"
 pub record Numbered (c : Rec) : Type 0 where
   pub number-from : 1 ≤ c .number
-  pub number-to : c .number ≤ 1000000000000
+  pub number-to : c .number ≤ lastNumber
+
+-- a record that fits a slot, with a number in range
+pub record Bounded (c : Rec) : Type 0 where
+  pub number-to : c .number ≤ lastNumber
+  pub short : length (c .body) ≤ 64
+
+-- a record as packets bring it: they hold bytes
+pub record Sent (c : Rec) : Type 0 where
+  pub bounded : Bounded c
+  pub bytes : Bytes (c .body)
 
 -- a true copy that came in an accepted packet
 abbrev pub Copy : List (List ℕ) → Rec → Type 0
@@ -84,39 +95,3 @@ module _ (S : Store) (E : Engine) where
     pub made-k : made E ms s b k ≡ ok (r .book)
     pub rule-named : 1 ≤ stop S E r
     pub breaks : made E ms s b (suc k) ≡ broke (stop S E r)
-
-  module _ (frame : List ℕ → Framing) (b0 : E .Book) where
-    -- "Take any list of well-formed messages, numbered from 1. Start a receiver, leave its tables to it, and give it packets whose accepted
-    -- records are true copies from that list"
-    pub record Run (ms : List (List ℕ)) (r0 : State S E) (ps : List (List ℕ)) : Type 0 where
-      pub well-formed : WellFormed (E .good) ms
-      pub started : Started b0 r0
-      pub copies : Copies ms (accepted frame ps)
-
-    -- "After each accepted packet its order table, symbol table and second are exactly those made by the list's first k messages"
-    abbrev pub FirstHalf : Type 0
-    FirstHalf = (ms : List (List ℕ)) (r0 : State S E) (ps : List (List ℕ)) → Run ms r0 ps → Made ms 0 b0 (receives S E frame ps r0)
-
-    -- "If every number up to j was answered as taken, repeated or old, then k is at least j, or the receiver names message k + 1"
-    abbrev pub SecondHalf : Type 0
-    SecondHalf =
-        (ms : List (List ℕ)) (r0 : State S E) (ps : List (List ℕ)) (j : ℕ) → Run ms r0 ps
-        → ((n : ℕ) → 1 ≤ n → n ≤ j → Answered n (accepted frame ps) r0)
-        → (j < receives S E frame ps r0 .next) ⊎ Named ms 0 b0 (receives S E frame ps r0)
-
-    -- "Two such receivers on one list, with equal capacities and equal k, agree in these three"
-    abbrev pub Agreement : Type 0
-    Agreement =
-        (ms : List (List ℕ)) (r r′ : State S E) (ps ps′ : List (List ℕ)) → Run ms r ps → Run ms r′ ps′
-        → receives S E frame ps r .next ≡ receives S E frame ps′ r′ .next
-        → receives S E frame ps r .book ≡ receives S E frame ps′ r′ .book
-
-    -- both halves of one run, said of the state r that it ended in: what a function that receives packets can ensure
-    pub record Halves (r0 : State S E) (ps : List (List ℕ)) (r : State S E) : Type 0 where
-      pub first : (ms : List (List ℕ)) → Run ms r0 ps → Made ms 0 b0 r
-      pub second : (ms : List (List ℕ)) (j : ℕ) → Run ms r0 ps → ((n : ℕ) → 1 ≤ n → n ≤ j → Answered n (accepted frame ps) r0) → (j < r .next) ⊎ Named ms 0 b0 r
-
-    pub record Demand3 : Type 0 where
-      pub first-half : FirstHalf
-      pub second-half : SecondHalf
-      pub agreement : Agreement

@@ -8,13 +8,14 @@ use Rattle.rows.specs.Rows.{rows}
 use Rattle.symbols.specs.Entries.{entries}
 use Rattle.text.specs.Text.{Wrote, each}
 use Rattle.text.proofs.Laws.{wrote-as, wrote-kept, each-none, each-more, each-all}
-use Rattle.answer_sheet.specs.Sheet.{entryText}
-use Rattle.answer_sheet.proofs.Views.{blocks-are}
-use Rattle.answer_sheet.proofs.blocks.Statement.{statement}
-use Rattle.answer_sheet.proofs.blocks.Tie as tie
+use Rattle.answer_sheet.specs.Lines.{textOf}
+use Rattle.answer_sheet.specs.Sheet.{entryLines}
+use Rattle.answer_sheet.proofs.Views.{entries-are}
+use Rattle.answer_sheet.proofs.all_entries.Statement.{statement}
+use Rattle.answer_sheet.proofs.all_entries.Tie as tie
 
 abbrev Inv-loop : tie.InvT-loop
-Inv-loop buf₀ at orders symbols n i₀ o₀ buf i o = (i ≤ n) × Wrote buf₀ at (each (λ j. entryText (rows orders) (getD (entries symbols) j [])) i) buf o
+Inv-loop buf₀ at orders symbols n i₀ o₀ buf i o = (i ≤ n) × Wrote buf₀ at (each (λ j. textOf (entryLines (rows orders) (getD (entries symbols) j []))) i) buf o
 
 abbrev μ-loop : tie.MeasureT-loop
 μ-loop buf₀ at orders symbols n i₀ o₀ buf i o = n - i
@@ -23,10 +24,10 @@ entry-count-requires : tie.Need-entry-count-requires Inv-loop μ-loop
 entry-count-requires c κs = search needs
 
 loop-holds : tie.Need-loop-holds Inv-loop μ-loop
-loop-holds c = (search needs, each-none _ _ _)
+loop-holds c = (search needs, each-none _ (search needs))
 
-entry-text-requires : tie.Need-entry-text-requires Inv-loop μ-loop
-entry-text-requires c κs = search needs
+entry-lines-requires : tie.Need-entry-lines-requires Inv-loop μ-loop
+entry-lines-requires c κs = search needs
 
 add-i : tie.Need-add-i Inv-loop μ-loop
 add-i c = search needs
@@ -35,7 +36,7 @@ loop-less : tie.Need-loop-less Inv-loop μ-loop
 loop-less c = search needs
 
 loop-again : tie.Need-loop-again Inv-loop μ-loop
-loop-again c = (search needs, each-more _ (c .before .before .before .before .before .loop .inv .1) (c .before .before .entry-text .ensures))
+loop-again c = (search needs, each-more _ (c .before .before .before .before .before .loop .inv .1) (c .before .before .entry-lines .ensures))
 
 same-length : tie.Need-same-length Inv-loop μ-loop
 same-length c = wrote-kept (c .before .loop .inv .1)
@@ -43,17 +44,17 @@ same-length c = wrote-kept (c .before .loop .inv .1)
 returns : tie.Need-returns Inv-loop μ-loop
 returns c =
     let a = c .before .before .before .before .before .before .args in
-    wrote-as (blocks-are (a .orders .now) (a .symbols .now) _ (c .before .before .entry-count .ensures)) (each-all _ (c .before .loop .inv .0) (c .loop-test .left) (c .before .loop .inv .1))
+    wrote-as (entries-are (a .orders .now) (a .symbols .now) _ (c .before .before .entry-count .ensures)) (each-all _ (c .before .loop .inv .0) (c .loop-test .left) (c .before .loop .inv .1))
 
-pub blocks-spec : {M : Type 1} → statement M
-blocks-spec =
+pub all-entries-spec : {M : Type 1} → statement M
+all-entries-spec =
     tie.close
     (tie.spec
     Inv-loop
     μ-loop
     entry-count-requires
     loop-holds
-    entry-text-requires
+    entry-lines-requires
     add-i
     loop-less
     loop-again

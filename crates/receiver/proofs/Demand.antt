@@ -1,0 +1,86 @@
+-- Demand 3, of a start and any number of calls of `receive`: the calls are the packets of the theory, whose halves hold from a start, and the stop is that of the state.
+-- Assumes nothing.
+use Prim.Native.Nat.{ℕ, suc, _+_, _-_, _≤_, _<_}
+use mathlib.Core.Path.{_≡_, sym, ap, subst, _∙_}
+use mathlib.Core.Logic.{_⊎_, inl, inr}
+use mathlib.Core.List.{List}
+use native.Mathlib.Omega.{arith}
+use Rattle.wire.specs.Records.{Rec}
+use Rattle.arbitration.specs.Engine.{ok, broke, Engine, Store}
+use Rattle.arbitration.specs.Receive.{accepted, run, stop}
+use Rattle.arbitration.specs.Lists.{Every, Numbered, Copy, made, Made, Named}
+use Rattle.arbitration.proofs.Invariant.{every-copy}
+use Rattle.arbitration.proofs.Halves.{agree, start-ready, first-half, second-half}
+use Rattle.arbitration.proofs.Packets.{every-accepted, receives-run}
+use Rattle.receiver.specs.Parts.{Parts, engineOf}
+use Rattle.receiver.specs.Receiver.{Rx, Receiver, receivesAll}
+use Rattle.receiver.specs.Demand3.{Given, MadeBy, Names, AnsweredTo, Demand3}
+use Rattle.receiver.proofs.PartsLaws.{PartsLaws, lawsOf}
+use Rattle.receiver.proofs.Accounts.{account-reports}
+use Rattle.receiver.proofs.Fits.{all-received, all-stop, start-fit, start-stop}
+
+module _ (P : Parts) (L : PartsLaws P) (ms : List (List ℕ)) (b0 : P .rules .Book) where
+  abbrev S : Store
+  S = P .store
+
+  abbrev E : Engine
+  E = engineOf (P .rules)
+
+  module _ (k0 : Receiver P) (ps : List (List ℕ)) (g : Given P ms b0 k0 ps) where
+    abbrev cs : List Rec
+    cs = accepted (P .frame) ps
+
+    abbrev end : Receiver P
+    end = receivesAll P ps k0
+
+    copies : Every (Copy ms) cs
+    copies = every-copy ms cs (every-accepted (P .frame) Numbered (L .numbered) ps) (g .copies)
+
+    -- after the calls: the run of the accepted records
+    ran : end .rx ≡ run S E cs (k0 .rx)
+    ran = all-received P L ps k0 (start-fit P L b0 k0 (g .started)) ∙ receives-run (P .frame) S E ps (k0 .rx)
+
+    stop-is : end .stop ≡ stop S E (end .rx)
+    stop-is = all-stop P L ps k0 (start-stop P L b0 k0 (g .started))
+
+    pub made-so : Made S E ms 0 b0 (end .rx)
+    made-so = subst (Made S E ms 0 b0) (sym ran) (first-half S E (lawsOf P L) ms (g .well-formed) 0 b0 (k0 .rx) cs (start-ready S E (lawsOf P L) ms (g .well-formed) b0 (k0 .rx) (g .started .zeroed)) copies)
+
+    one-less : {k : ℕ} → end .rx .next ≡ 0 + suc k → k ≡ end .rx .next - 1
+    one-less e = omega arith
+
+    is-next : {k : ℕ} → end .rx .next ≡ 0 + suc k → suc k ≡ end .rx .next
+    is-next e = omega arith
+
+    pub first-of : MadeBy P ms b0 end
+    first-of =
+        let m = made-so in
+        record {
+          from-1 = omega (arith, m .next-is);
+          in-list = omega (arith, m .next-is, m .within);
+          tables-are = subst (λ (n : ℕ). made E ms 0 b0 n ≡ ok (end .rx .book)) (one-less (m .next-is)) (m .book-is);
+        }
+
+    named-of : Named S E ms 0 b0 (end .rx) → Names P ms b0 end
+    named-of m =
+        record {
+          in-list = omega (arith, m .next-is, m .in-list);
+          rule-named = omega (arith, stop-is, m .rule-named);
+          list-breaks = subst (λ (n : ℕ). made E ms 0 b0 n ≡ broke (end .stop)) (is-next (m .next-is)) (m .breaks ∙ ap broke (sym stop-is));
+        }
+
+    pub second-of : (j : ℕ) → AnsweredTo P j ps k0 → (j ≤ end .rx .next - 1) ⊎ Names P ms b0 end
+    second-of j all =
+        go (second-half S E (lawsOf P L) ms (g .well-formed) 0 b0 (k0 .rx) cs j (start-ready S E (lawsOf P L) ms (g .well-formed) b0 (k0 .rx) (g .started .zeroed)) copies all)
+      where
+        go : (j < run S E cs (k0 .rx) .next) ⊎ Named S E ms 0 b0 (run S E cs (k0 .rx)) → (j ≤ end .rx .next - 1) ⊎ Names P ms b0 end
+        go (inl l) = inl (omega (arith, ap (λ (x : Rx P). x .next) ran))
+        go (inr m) = inr (named-of (subst (Named S E ms 0 b0) (sym ran) m))
+
+  pub demand-3 : Demand3 P ms b0
+  demand-3 = record {
+    first = first-of;
+    second = second-of;
+    agreement = λ k0 k0′ ps ps′ g g′ e. agree S E ms 0 b0 _ _ (made-so k0 ps g) (made-so k0′ ps′ g′) e;
+    reported = account-reports P;
+  }

@@ -1,0 +1,68 @@
+-- A receiver over any parts, and what a packet does to it (document 01, "Lent tables and the shelf", "Refused, and what is left").
+use Prim.Native.Nat.{ℕ, _+_}
+use mathlib.Core.Bool.{Bool}
+use mathlib.Core.List.{List, [], _∷_}
+use lib.Dec.{leb}
+use Rattle.facts.specs.Pick.{pick, both}
+use Rattle.facts.specs.Limits.{lastNumber}
+use Rattle.wire.specs.Records.{Frames, bad, records}
+use Rattle.fields.specs.Fields.{refusal}
+use Rattle.fields.specs.declared.Refusal.{Refusal}
+use Rattle.arbitration.specs.Receive as theory
+use Rattle.receiver.specs.Parts.{Parts, engineOf}
+use Rattle.receiver.specs.declared.Account.{Account}
+use Rattle.receiver.specs.declared.Received.{Received}
+
+-- "a next number outside 1 to 10^12 + 1": 6
+unfoldable pub nextOk : ℕ → Bool
+nextOk n = both (leb 1 n) (leb n (lastNumber + 1))
+
+-- "The packet's answer tells how many records got each of 10 to 14, the next number, how many messages were applied (the growth of next), the highest number on the shelf (0 if none), and the stop"
+abbrev pub account : theory.Told → Account
+account t = record { counts = t .counts; next = t .next-number; applied = t .applied; highest = t .top; stop = t .stopped }
+
+-- document 01's number of each answer to a packet, 0 for an account
+abbrev pub receivedNumber : Received → ℕ
+receivedNumber (Received.Accepted a) = 0
+receivedNumber (Received.Refused r) = r .number
+
+module _ (P : Parts) where
+  -- the receiver of the theory
+  abbrev pub Rx : Type 0
+  Rx = theory.State (P .store) (engineOf (P .rules))
+
+  -- a receiver with what it is lent: the next number, the shelf, the book; and the stop of its last accepted packet
+  pub record Receiver : Type 0 where
+    pub rx : Rx
+    pub stop : ℕ
+
+  abbrev pub receiver : Rx → ℕ → Receiver
+  receiver r q = record { rx = r; stop = q }
+
+  -- an answer, and the receiver after it
+  pub record Handled : Type 0 where
+    pub answer : Received
+    pub after : Receiver
+
+  abbrev pub handled : Received → Receiver → Handled
+  handled a k = record { answer = a; after = k }
+
+  -- "Each refusal returns its number alone; tables, output and state keep every byte"
+  unfoldable pub handledBy : Frames Refusal → Receiver → Handled
+  handledBy (bad r) k = handled (Received.Refused r) k
+  handledBy (records cs) k =
+      let t : theory.Told = theory.told (P .store) (engineOf (P .rules)) cs (k .rx) in
+      handled (Received.Accepted (account t)) (receiver (theory.run (P .store) (engineOf (P .rules)) cs (k .rx)) (t .stopped))
+
+  -- no 6
+  unfoldable pub fit : Receiver → Bool
+  fit k = both (P .sized (k .rx .book) (k .rx .shelf)) (nextOk (k .rx .next))
+
+  -- "Order: 6, 1, then records from the front, each by 2, 5, 3, 4"
+  unfoldable pub receives : Receiver → List ℕ → Handled
+  receives k p = pick (fit k) (handledBy (P .frame p) k) (handled (Received.Refused (refusal 6)) k)
+
+  -- packet after packet, a call for each; a refused one leaves the receiver as it is
+  unfoldable pub receivesAll : List (List ℕ) → Receiver → Receiver
+  receivesAll [] k = k
+  receivesAll (p ∷ ps) k = receivesAll ps (receives k p .after)
