@@ -2,7 +2,7 @@
 -- Assumes nothing.
 use mathlib.Core.Path.{_≡_, refl, sym, ap, _∙_}
 use mathlib.Core.List.{List, [], _∷_, _++_, append-assoc, append-nil}
-use Prim.Native.Nat.{ℕ, zero, suc, _+_, _≤_}
+use Prim.Native.Nat.{ℕ, suc, _+_, _≤_}
 use mathlib.Core.Bool.{Bool, true}
 use mathlib.Core.Logic.{_⊎_, inl, inr}
 use native.Mathlib.Omega.{arith}
@@ -10,8 +10,9 @@ use lib.Dec.{eqb}
 use borrow.Author.Tests.{eqb-true}
 use Rattle.facts.specs.Pick.{pick, both}
 use lib.ListN.{length, getD, take, drop, replicate, length-append, length-drop}
-use lib.Seq.{take-at, drop-at, getD-at, getD-drop, take-add, take-all, drop-drop, drop-cons, length-take-le}
+use lib.Seq.{take-at, drop-at, getD-at, take-add, take-all, drop-drop, drop-cons, length-take-le}
 use Rattle.wire.specs.Le.{le, toLe, field, padded, Bytes}
+use Rattle.wire.proofs.Bytewise.{bytes-take, bytes-drop}
 use Rattle.wire.proofs.Laws.{padded-part, length-toLe, le-toLe, toLe-le}
 use Rattle.kinds.specs.Table.{typeOf, kindOf, kindLength, lengthOf, lookup, table}
 use Rattle.kinds.proofs.Laws.{pairs, lookup-rule, type-kind}
@@ -33,16 +34,6 @@ value-back byte v p q at l f = getD-at p v q 0 at l
 value-back (number w) v p q at l f = rw (drop-at p (toLe w v ++ q) at l, take-at (toLe w v) q w (length-toLe w v)) (le-toLe w v f)
 value-back (text w) v p q at l f = rw (drop-at p (v ++ q) at l, append-assoc v q (replicate w 0), take-at v (q ++ replicate w 0) w f)
 
--- a part of bytes is bytes
-take-bytes : (w : ℕ) (b : List ℕ) → Bytes b → Bytes (take w b)
-take-bytes zero b h i = omega arith
-take-bytes (suc w) [] h i = omega arith
-take-bytes (suc w) (x ∷ b) h zero = h 0
-take-bytes (suc w) (x ∷ b) h (suc i) = take-bytes w b (λ j. h (suc j)) i
-
-pub part-bytes : (b : List ℕ) (at w : ℕ) → Bytes b → Bytes (take w (drop at b))
-part-bytes b at w h = take-bytes w (drop at b) (λ i. rw getD-drop (h (at + i)))
-
 -- read from bytes that are there, it is written back
 bytes-back : (s : Shape) (b : List ℕ) (at : ℕ) → Bytes b → at + width s ≤ length b → bytesOf s (valueAt s b at) ≡ take (width s) (drop at b)
 unfolding field
@@ -50,7 +41,7 @@ bytes-back byte b at h l = rw (drop-cons b at 0 (omega arith))
 bytes-back (number w) b at h l =
     let x : List ℕ = take w (drop at b) in
     let n : length x ≡ w = length-take-le w (drop at b) (rw length-drop (omega arith)) in
-    ap (λ (k : ℕ). toLe k (le x)) (sym n) ∙ toLe-le x (part-bytes b at w h)
+    ap (λ (k : ℕ). toLe k (le x)) (sym n) ∙ toLe-le x (bytes-take w (drop at b) (bytes-drop at b h))
 bytes-back (text w) b at h l = padded-part b at w l
 
 -- ---- all fields

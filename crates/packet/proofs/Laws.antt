@@ -210,12 +210,12 @@ pub packet-is : (p : List ℕ) → 1 ≤ length p → length p ≤ packetMost �
 unfolding readPacket framing pick both
 packet-is p a b = simp (le-leb 1 (length p) a, le-leb (length p) packetMost b)
 
-pub packet-empty : (p : List ℕ) → length p < 1 → Packet.Refused (refusal 1) ≡ readPacket p
-unfolding readPacket framing told pick both
-packet-empty p a = simp (lt-leb 1 (length p) a)
-
 pub packet-long : (p : List ℕ) → packetMost < length p → Packet.Refused (refusal 1) ≡ readPacket p
 unfolding readPacket framing told pick both
 packet-long p a =
     let b : 1 ≤ length p = omega arith in
     simp (le-leb 1 (length p) b, lt-leb (length p) packetMost a)
+
+pub packet-empty : (p : List ℕ) → length p < 1 → Packet.Refused (refusal 1) ≡ readPacket p
+unfolding readPacket framing told pick both
+packet-empty p a = simp (lt-leb 1 (length p) a)
