@@ -7,9 +7,6 @@ ghost use Rattle.rows.specs.Rows.{rows, rowCount, putRow, zeroRow, free,
 ghost use Rattle.rows.specs.Find.{isOrder, findOrder, findFree, heldAt, ofSymbol, ofKey, countLive};
 use facts::Found;
 
-// The most rows of a table.
-const MAX_ROWS: usize = 1600;
-
 // key: the symbol and the side, by `key_for`.
 pub struct Row {
     pub order: u64,
@@ -134,7 +131,7 @@ pub fn is_live(r: Row) -> bool
     if r.price < 1 {
         return false;
     }
-    if r.price > 1000000000000000 {
+    if r.price > facts::MOST_PRICE {
         return false;
     }
     if r.size < 1 {
@@ -184,7 +181,7 @@ pub fn good_rows(n: usize) -> bool
     if k < 1 {
         return false;
     }
-    if k > MAX_ROWS {
+    if k > facts::MOST_ROWS {
         return false;
     }
     true
