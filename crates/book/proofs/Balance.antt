@@ -21,9 +21,10 @@ use Rattle.rows.specs.Rows.{rows, live}
 use Rattle.rows.specs.Find.{findOrder, heldAt}
 use Rattle.rows.specs.Shares.{liveShares, under}
 use Rattle.rows.proofs.Shares.{under-none}
+use Rattle.orders.specs.Work.{moves}
 use Rattle.orders.proofs.Applied.{row}
 use Rattle.orders.proofs.Shares.{add-shares, modify-shares, delete-shares, execute-shares, clear-shares}
-use Rattle.book.specs.Plan.{moves, rowFor}
+use Rattle.book.specs.Plan.{rowFor}
 use Rattle.book.specs.Book.{Book, orderIn, applied}
 use Rattle.book.proofs.Steps.{Names, clear, add, modify, delete, execution}
 use Rattle.book.proofs.Theorems.{row-symbol, row-live, add-entered, modify-done, modify-live, delete-done, execution-done, execution-covered, clear-done}

@@ -3,11 +3,8 @@
 use mathlib.Core.Path.{_≡_, refl, sym, ap}
 use mathlib.Core.List.{List}
 use Prim.Native.Nat.{ℕ, _≤_, _<_}
-use native.Mathlib.Omega.{arith}
-use lib.Dec.{eqb}
 use borrow.Author.Tests.{lt-ltb, le-ltb, eq-eqb, ne-eqb}
 use Rattle.facts.specs.Pick.{pick}
-use Rattle.facts.proofs.Picks.{pick-ind}
 use Rattle.fields.specs.declared.Body.{Body}
 use Rattle.fields.specs.declared.OrderExecution.{OrderExecution}
 use Rattle.body.specs.Read.{readBody}
@@ -21,12 +18,8 @@ use Rattle.book.specs.declared.Plan.{Plan}
 use Rattle.book.specs.declared.Plan.the-variants.{Stop}
 use Rattle.book.specs.declared.Target.{Target}
 use Rattle.book.specs.declared.Target.the-variants.{Order, Rule}
-use Rattle.book.specs.Plan.{onRows, target, upon, sideOf, executeAt, Finds, planBy}
+use Rattle.book.specs.Plan.{onRows, target, upon, executeAt, Finds, planBy}
 use Rattle.book.specs.Book.{Book, scans, planned, carried, applied}
-
-pub side-small : (x : ℕ) → sideOf x ≤ 1
-unfolding sideOf
-side-small x = pick-ind (λ n. n ≤ 1) (eqb x 66) 0 1 (λ _. omega arith) (λ _. omega arith)
 
 -- ---- a message that names an order
 module _ (i : ℕ) (r : Row) (symbol : ℕ) where

@@ -32,13 +32,13 @@ use Rattle.symbols.proofs.FindLaws.{unknown-nowhere}
 use Rattle.symbols.specs.Work.{entered}
 use Rattle.symbols.proofs.UpdateLaws.{entered-length}
 use Rattle.orders.specs.declared.RowWork.{RowWork}
-use Rattle.orders.specs.Work.{committed, remade}
+use Rattle.orders.specs.Work.{committed, moves, remade}
 use Rattle.orders.proofs.Commits.{committed-length}
 use Rattle.book.specs.declared.Clock.{Clock}
 use Rattle.book.specs.declared.Works.{Works}
 use Rattle.book.specs.declared.Plan.{Plan}
 use Rattle.book.specs.declared.Plan.the-variants.{Stop, Go}
-use Rattle.book.specs.Plan.{clock, works, onRows, idle, ofKnown, target, upon, moves, rowFor, roomFor, addPlan, modifyAt, modifyPlan, deleteAt, deletePlan, executeAt, executionPlan, clearPlan, updatePlan, Finds, planBy}
+use Rattle.book.specs.Plan.{clock, works, onRows, idle, ofKnown, target, upon, rowFor, roomFor, addPlan, modifyAt, modifyPlan, deleteAt, deletePlan, executeAt, executionPlan, clearPlan, updatePlan, Finds, planBy}
 use Rattle.book.specs.Parts.{the-second, the-symbols, the-orders, no-part, partOf}
 use Rattle.book.specs.Book.{Book, book, effect, scans, planned, carried, applied}
 use Rattle.book.proofs.Laws.{planned-by, carried-by}

@@ -25,6 +25,7 @@ use Rattle.rows.specs.declared.Row.{Row}
 use Rattle.rows.specs.Rows.{rows, zeroRow, symbolOf, free, live}
 use Rattle.rows.specs.Find.{findOrder, findFree, heldAt, ofSymbol}
 use Rattle.rows.specs.Tidy.{Unique}
+use Rattle.rows.proofs.Keys.{side-small}
 use Rattle.rows.proofs.Judged.{ranges-live}
 use Rattle.symbols.specs.declared.EntryWork.{EntryWork}
 use Rattle.symbols.specs.Entries.{entries, entryOf, putEntry, used, idOf}
@@ -34,7 +35,7 @@ use Rattle.symbols.proofs.EntryLaws.{used-body, entries-put}
 use Rattle.symbols.proofs.FindLaws.{known-found}
 use Rattle.symbols.proofs.UpdateLaws.{known-after, known-stays}
 use Rattle.orders.specs.declared.RowWork.{RowWork}
-use Rattle.orders.specs.Work.{remade, less, reduced, cleared, committed}
+use Rattle.orders.specs.Work.{moves, remade, less, reduced, cleared, committed}
 use Rattle.orders.proofs.Applied.{row, Added, Named, Remade, put-added, put-named, modify-row}
 use Rattle.orders.proofs.Clears.{clear-gone, clear-kept}
 use Rattle.orders.proofs.Unique.{add-unique, modify-unique, delete-unique, execute-unique, clear-unique}
@@ -43,9 +44,9 @@ use Rattle.orders.proofs.Again.{all-executed, part-executed, gone-free, gone-no
 use Rattle.book.specs.declared.Works.{Works}
 use Rattle.book.specs.declared.Plan.{Plan}
 use Rattle.book.specs.declared.Plan.the-variants.{Go}
-use Rattle.book.specs.Plan.{works, onRows, ofKnown, target, upon, moves, rowFor, roomFor, addPlan, modifyAt, modifyPlan, deleteAt, deletePlan, executeAt, executionPlan, clearPlan, planBy}
+use Rattle.book.specs.Plan.{works, onRows, ofKnown, target, upon, rowFor, roomFor, addPlan, modifyAt, modifyPlan, deleteAt, deletePlan, executeAt, executionPlan, clearPlan, planBy}
 use Rattle.book.specs.Book.{Book, orderIn, scans, planned, carried, applied}
-use Rattle.book.proofs.Laws.{side-small, planned-by, carried-by}
+use Rattle.book.proofs.Laws.{planned-by, carried-by}
 use Rattle.book.proofs.Plans.{goes-known, Owned, goes-owned, held-live, held-nowhere, goes-room, goes-execute, goes-update}
 use Rattle.book.proofs.Steps.{went, broken-keeps, Names, orders-named, symbols-updated}
 

@@ -1,8 +1,7 @@
 -- The book rules, message by message: from what the searches found to what is to be done (document 01: "Each rule is tried in the order given, and
 -- the first broken one counts"). A rule's number is the paper's. Nothing here looks into a table, so whoever searches, the plan is the same.
-use Prim.Native.Nat.{ℕ, _%_}
+use Prim.Native.Nat.{ℕ}
 use mathlib.Core.List.{List}
-use mathlib.Core.Bool.{Bool}
 use lib.Dec.{eqb, ltb}
 use Rattle.facts.specs.Pick.{pick}
 use Rattle.facts.specs.declared.Found.{Found}
@@ -16,12 +15,12 @@ use Rattle.fields.specs.declared.SymbolClear.{SymbolClear}
 use Rattle.rows.specs.declared.Row.{Row}
 use Rattle.rows.specs.declared.Held.{Held}
 use Rattle.rows.specs.declared.Held.the-variants.{Live, Nowhere}
-use Rattle.rows.specs.Keys.{keyFor}
+use Rattle.rows.specs.Keys.{keyFor, sideOf}
 use Rattle.rows.specs.Rows.{zeroRow, symbolOf}
 use Rattle.symbols.specs.declared.EntryWork.{EntryWork}
 use Rattle.symbols.specs.Entries.{idOf}
 use Rattle.orders.specs.declared.RowWork.{RowWork}
-use Rattle.orders.specs.Work.{remade, reduced}
+use Rattle.orders.specs.Work.{moves, remade, reduced}
 use Rattle.book.specs.declared.Clock.{Clock}
 use Rattle.book.specs.declared.Works.{Works}
 use Rattle.book.specs.declared.Plan.{Plan}
@@ -57,14 +56,6 @@ target (Live i r) symbol = pick (eqb (symbolOf r) symbol) (Order i r) (Rule 23)
 unfoldable pub upon : Target → (ℕ → Row → Plan) → Plan
 upon (Rule n) f = Stop n
 upon (Order i r) f = f i r
-
--- "side (buy 0, sell 1)"
-unfoldable pub sideOf : ℕ → ℕ
-sideOf x = pick (eqb x 66) 0 1
-
--- "Flag bit 0 set"
-unfoldable pub moves : ℕ → Bool
-moves flags = eqb (flags % 2) 1
 
 -- "order ID, symbol ID times 2 plus side (buy 0, sell 1), price, size, rank", "rank = sequence number"
 unfoldable pub rowFor : AddOrder → ℕ → Row

@@ -14,6 +14,7 @@ use Rattle.body.specs.Faults as faults
 use Rattle.body.specs.Read as read
 use Rattle.packet.specs.Record as head
 use Rattle.packet.specs.Packet as packet
+use Rattle.rows.specs.Keys as keys
 use Rattle.rows.specs.Rows as rows
 use Rattle.rows.specs.Find as find-row
 use Rattle.symbols.specs.Entries as entries
@@ -55,7 +56,7 @@ unfolding exercises.begins exercises.goesOn
     find-entry.isSymbol find-entry.findSymbol find-entry.findFreeEntry find-entry.knownSymbol find-entry.placeFor
     entry-work.entered
     row-work.remade row-work.reduced row-work.committed
-    plan.ofKnown plan.target plan.upon plan.sideOf plan.moves plan.rowFor plan.updatePlan plan.roomFor plan.addPlan plan.modifyPlan plan.executionPlan plan.planBy
+    plan.ofKnown plan.target plan.upon keys.sideOf row-work.moves plan.rowFor plan.updatePlan plan.roomFor plan.addPlan plan.modifyPlan plan.executionPlan plan.planBy
     book.planned book.carried book.applied
     slots.sameBytes slots.sameSlot
     theory.judge theory.goodSlot theory.highest theory.count theory.countsOf theory.try theory.stop theory.drain theory.after theory.run theory.said theory.told

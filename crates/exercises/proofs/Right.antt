@@ -15,6 +15,7 @@ use Rattle.body.specs.Faults as faults
 use Rattle.body.specs.Read as read
 use Rattle.packet.specs.Record as head
 use Rattle.packet.specs.Packet as packet
+use Rattle.rows.specs.Keys as keys
 use Rattle.rows.specs.Rows as rows
 use Rattle.rows.specs.Find as find-row
 use Rattle.ascend.specs.Ascend as ascend
@@ -62,7 +63,7 @@ unfolding table
     find-entry.isSymbol find-entry.findSymbol find-entry.findFreeEntry find-entry.knownSymbol find-entry.placeFor
     entry-work.entered
     row-work.remade row-work.reduced row-work.committed
-    plan.ofKnown plan.target plan.upon plan.sideOf plan.moves plan.rowFor plan.updatePlan plan.roomFor plan.addPlan plan.modifyPlan plan.executionPlan plan.planBy
+    plan.ofKnown plan.target plan.upon keys.sideOf row-work.moves plan.rowFor plan.updatePlan plan.roomFor plan.addPlan plan.modifyPlan plan.executionPlan plan.planBy
     book.planned book.carried book.applied
     ladder.keyOf ladder.far ladder.placesOf ladder.prices
     spread.between spread.spreadOf

@@ -4,8 +4,10 @@ use mathlib.Core.Path.{_≡_, sym}
 use mathlib.Core.Bool.{true}
 use Prim.Native.Nat.{ℕ, _≤_, _<_}
 use native.Mathlib.Omega.{arith}
+use lib.Dec.{eqb}
+use Rattle.facts.proofs.Picks.{pick-ind}
 use Rattle.rows.specs.declared.Row.{Row}
-use Rattle.rows.specs.Keys.{keyFor, symbolIn, sideIn}
+use Rattle.rows.specs.Keys.{keyFor, symbolIn, sideIn, sideOf}
 use Rattle.rows.specs.Rows.{live}
 use Rattle.rows.specs.Find.{ofKey}
 use Rattle.rows.proofs.Judged.{live-ranges, key-is, of-key}
@@ -20,6 +22,10 @@ module _ (s d : ℕ) (h : d ≤ 1) where
 
 pub key-back : (k : ℕ) → keyFor (symbolIn k) (sideIn k) ≡ k
 key-back k = omega arith
+
+pub side-small : (x : ℕ) → sideOf x ≤ 1
+unfolding sideOf
+side-small x = pick-ind (λ n. n ≤ 1) (eqb x 66) 0 1 (λ _. omega arith) (λ _. omega arith)
 
 pub side-most : (k : ℕ) → sideIn k ≤ 1
 side-most k = omega arith

@@ -7,7 +7,7 @@ use Prim.Native.Nat.{ℕ, suc, _+_, _*_, _/_, _≤_, _<_}
 use native.Mathlib.Nat.{add-zero, mod-lt, mod-def}
 use native.Mathlib.Omega.{arith}
 use lib.ListN.{length, getD, set, take, drop, replicate, length-replicate, getD-replicate, length-drop, length-map, List·getD-map, List·getD-eq-default}
-use lib.Seq.{drop-at, getD-set-same, getD-set-other}
+use lib.Seq.{getD-set-same, getD-set-other}
 use lib.Dec.{ltb}
 use borrow.Author.Tests.{ltb-true, ltb-false}
 use Rattle.facts.specs.Pieces.{pieces}

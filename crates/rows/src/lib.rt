@@ -2,7 +2,7 @@
 ghost use mathlib.Core.Path.{_≡_};
 ghost use Prim.Native.Nat.{_<_};
 ghost use lib.ListN.{length, getD, replicate};
-ghost use Rattle.rows.specs.Keys.{keyFor, symbolIn, sideIn};
+ghost use Rattle.rows.specs.Keys.{keyFor, symbolIn, sideIn, sideOf};
 ghost use Rattle.rows.specs.Rows.{rows, rowCount, putRow, zeroRow, free, live, goodRows};
 ghost use Rattle.rows.specs.Find.{isOrder, findOrder, findFree, heldAt, ofSymbol, ofKey, countLive};
 use facts::Found;
@@ -39,6 +39,13 @@ pub fn side_in(key: u64) -> u64
     ensures { λ r. ⌜ r ≡ sideIn key ⌝ }
 {
     key % 2
+}
+
+// The side that a message's letter tells.
+pub fn side_of(letter: u8) -> u8
+    ensures { λ r. ⌜ r ≡ sideOf letter ⌝ }
+{
+    if letter == b'B' { 0 } else { 1 }
 }
 
 pub fn zero_row() -> Row
