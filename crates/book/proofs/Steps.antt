@@ -24,7 +24,6 @@ use Rattle.fields.specs.declared.Trade.{Trade}
 use Rattle.fields.specs.declared.TradeCancel.{TradeCancel}
 use Rattle.fields.specs.declared.Refusal.{Refusal}
 use Rattle.body.specs.Read.{readBody, goodBody}
-use Rattle.rows.specs.Rows.{zeroRow}
 use Rattle.symbols.specs.declared.EntryWork.{EntryWork}
 use Rattle.symbols.specs.Entries.{entries, idOf}
 use Rattle.symbols.specs.Find.{knownSymbol}
@@ -32,7 +31,7 @@ use Rattle.symbols.proofs.FindLaws.{unknown-nowhere}
 use Rattle.symbols.specs.Work.{entered}
 use Rattle.symbols.proofs.UpdateLaws.{entered-length}
 use Rattle.orders.specs.declared.RowWork.{RowWork}
-use Rattle.orders.specs.Work.{committed, moves, remade}
+use Rattle.orders.specs.Work.{committed}
 use Rattle.orders.proofs.Commits.{committed-length}
 use Rattle.book.specs.declared.Clock.{Clock}
 use Rattle.book.specs.declared.Works.{Works}
@@ -157,10 +156,10 @@ module _ (n : ℕ) (b : List ℕ) (c : Clock) (f : Finds) where
   names-orders (add m) = known-orders c (f .entry (m .symbol)) (λ e. roomFor c (rowFor m n) (f .order (m .order)) (f .freeRow)) (λ e. room-orders c (rowFor m n) (f .order (m .order)) (f .freeRow))
   names-orders (modify m) =
       known-orders c (f .entry (m .symbol)) (λ e. upon (target (f .order (m .order)) (m .symbol)) (modifyAt c m n))
-      (λ e. named-orders c (f .order (m .order)) (m .symbol) (modifyAt c m n) (λ i r. goes-orders (RowWork.Put i (remade (m .price) (m .size) (moves (m .flags)) n r))))
+      (λ e. named-orders c (f .order (m .order)) (m .symbol) (modifyAt c m n) (λ i r. goes-orders _))
   names-orders (delete m) =
       known-orders c (f .entry (m .symbol)) (λ e. upon (target (f .order (m .order)) (m .symbol)) (deleteAt c))
-      (λ e. named-orders c (f .order (m .order)) (m .symbol) (deleteAt c) (λ i r. goes-orders (RowWork.Put i zeroRow)))
+      (λ e. named-orders c (f .order (m .order)) (m .symbol) (deleteAt c) (λ i r. goes-orders _))
   names-orders (execution m) =
       known-orders c (f .entry (m .symbol)) (λ e. upon (target (f .order (m .order)) (m .symbol)) (executeAt c m))
       (λ e. named-orders c (f .order (m .order)) (m .symbol) (executeAt c m) (execute-orders c m))
