@@ -8,20 +8,21 @@ use native.Mathlib.Nat.{suc-mul}
 use native.Mathlib.Omega.{arith}
 use lib.ListN.{length, take, drop, length-append, length-take, length-map}
 use lib.Seq.{getD-drop}
+use Rattle.facts.specs.Limits.{entrySize}
 use Rattle.facts.specs.Pieces.{cut, pieces, join}
 use Rattle.facts.proofs.Picks.{pick-ind, both-true}
 use Rattle.facts.proofs.SumLaws.{count-bound}
 use Rattle.wire.specs.Le.{Bytes}
 use Rattle.wire.proofs.Laws.{field-below, length-padded}
 use Rattle.fields.specs.Fields.{symbolOf}
-use Rattle.rows.specs.Rows.{rows, goodRows, maxRows, live}
+use Rattle.rows.specs.Rows.{rows, goodRows, live}
 use Rattle.rows.specs.Find.{countLive}
 use Rattle.rows.specs.declared.Row.{Row}
 use Rattle.rows.proofs.Judged.{good-rows}
 use Rattle.rows.proofs.Tables.{length-rows}
 use Rattle.ascend.proofs.Places.{All}
 use Rattle.ascend.proofs.Each.{all-weaken, all-map}
-use Rattle.symbols.specs.Entries.{entrySize, maxEntries, goodEntries, entries, used}
+use Rattle.symbols.specs.Entries.{goodEntries, entries, used}
 use Rattle.symbols.specs.Find.{countUsed}
 use Rattle.symbols.proofs.EntryLaws.{good-entries, length-entries}
 use Rattle.views.specs.Ladder.{keyOf, prices, levelOf, ladder}
@@ -210,11 +211,10 @@ module _ (orders symbols : List ℕ) (g : goodTables orders symbols ≡ true) wh
   rows-good = both-true g .0
 
   few-entries : length (entries symbols) ≤ 1000
-  unfolding goodTables maxEntries
+  unfolding goodTables
   few-entries = rw length-entries (good-entries (length symbols) (both-true {a = goodRows (length orders)} {b = goodEntries (length symbols)} g .1) .1)
 
   few-rows : length (rows orders) ≤ 1600
-  unfolding maxRows
   few-rows = rw length-rows (good-rows (length orders) rows-good .1)
 
   entries-few : Bytes symbols → Few 24000 (allEntries orders symbols)

@@ -10,7 +10,8 @@ use lib.Seq.{take-all, take-at, drop-at}
 use Rattle.facts.specs.Pick.{pick}
 use Rattle.facts.proofs.Picks.{pick-map}
 use Rattle.fields.specs.declared.AddOrder.{AddOrder}
-use Rattle.book.specs.Plan.{sideOf, rowFor}
+use Rattle.rows.specs.Keys.{sideOf}
+use Rattle.book.specs.Plan.{rowFor}
 use Rattle.views.specs.Ladder.{keyOf}
 use Rattle.views.specs.declared.Side.{Side}
 use Rattle.receiver.specs.declared.State.{State}

@@ -10,7 +10,7 @@ use Rattle.wire.specs.Le.{le, field, padded}
 use Rattle.rows.specs.Rows.{rowOf, rows, live}
 use Rattle.rows.specs.Find.{ofKey, countLive}
 use Rattle.ascend.specs.Ascend.{ins, places}
-use Rattle.symbols.specs.Entries.{entrySize, entries, used}
+use Rattle.symbols.specs.Entries.{entries, used}
 use Rattle.symbols.specs.Find.{countUsed}
 use Rattle.views.specs.Ladder.{keyOf, far, atPrice, placesOf, prices, levelOf, ladder}
 use Rattle.views.specs.Spread.{between, spreadOf}
@@ -68,7 +68,7 @@ thirteen =
 
 -- the sheet of those tables
 pub example-is : sheetOf Recording.Whole 0 after three symbol7 ≡ thirteen
-unfolding sheetOf linesOf headLines tableLines allEntries entryLines symbolLines recordingWord recordingKey wholeWord badKey nextKey stopKey secondKey symbolsKey ordersKey symbolKey tickerKey lotKey tickerOf trimOf trimCons shownOf countUsed countLive entries entrySize used field le padded bookLines spreadWord sideLines sideKey levelsShown levelLine levelValue markedOf lineText textOf plain lineOf spreadKey bidKey askKey noneWord decimalOf digitsOf signedOf spreadOf between ladder levelOf prices placesOf far atPrice keyOf places ins sumBy onlyIf countBy ofKey live rows rowOf pieces cut join pick both
+unfolding sheetOf linesOf headLines tableLines allEntries entryLines symbolLines recordingWord recordingKey wholeWord badKey nextKey stopKey secondKey symbolsKey ordersKey symbolKey tickerKey lotKey tickerOf trimOf trimCons shownOf countUsed countLive entries used field le padded bookLines spreadWord sideLines sideKey levelsShown levelLine levelValue markedOf lineText textOf plain lineOf spreadKey bidKey askKey noneWord decimalOf digitsOf signedOf spreadOf between ladder levelOf prices placesOf far atPrice keyOf places ins sumBy onlyIf countBy ofKey live rows rowOf pieces cut join pick both
 example-is = refl
 
 -- P9: "bid 10.020000, offer 10.000000: spread -20000"

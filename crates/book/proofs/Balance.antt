@@ -20,9 +20,11 @@ use Rattle.rows.specs.declared.Held.the-variants.{Live, Nowhere}
 use Rattle.rows.specs.Rows.{rows, live}
 use Rattle.rows.specs.Find.{findOrder, heldAt}
 use Rattle.rows.specs.Shares.{liveShares, under}
+use Rattle.rows.proofs.Shares.{under-none}
+use Rattle.orders.specs.Work.{moves}
 use Rattle.orders.proofs.Applied.{row}
 use Rattle.orders.proofs.Shares.{add-shares, modify-shares, delete-shares, execute-shares, clear-shares}
-use Rattle.book.specs.Plan.{moves, rowFor}
+use Rattle.book.specs.Plan.{rowFor}
 use Rattle.book.specs.Book.{Book, orderIn, applied}
 use Rattle.book.proofs.Steps.{Names, clear, add, modify, delete, execution}
 use Rattle.book.proofs.Theorems.{row-symbol, row-live, add-entered, modify-done, modify-live, delete-done, execution-done, execution-covered, clear-done}
@@ -103,14 +105,6 @@ held-is : (order : ℕ) (t : List ℕ) (i : ℕ) → findOrder order (rows t) �
 unfolding heldAt
 held-is order t i e = rw e
 
-under-none : (s own x y : ℕ) → y ≡ x → y ≡ x + under s own 0
-unfolding under pick
-under-none s own x y e = go (eqb own s)
-  where
-    go : (t : Bool) → y ≡ x + pick t 0 0
-    go true = omega arith
-    go false = omega arith
-
 under-own : (s own : ℕ) (f : ℕ → ℕ) → under s own (f own) ≡ under s own (f s)
 unfolding under pick
 under-own s own f = go (eqb own s) refl
@@ -141,7 +135,7 @@ module _ (s n : ℕ) (b : List ℕ) (k : Book) (ranked : 1 ≤ n) (bytes : Bytes
       let d = delete-done m n b k e z in
       let q = delete-shares s (m .order) (m .symbol) (k .orders) (applied n b k .after .orders) d in
       rw (held-is (m .order) (k .orders) (d .place) (d .lowest-live))
-      (resized-balanced s (m .symbol) before after (d .place) (row (k .orders) (d .place)) 0 (under-none s (m .symbol) before (after + under s (m .symbol) (row (k .orders) (d .place) .size)) q))
+      (resized-balanced s (m .symbol) before after (d .place) (row (k .orders) (d .place)) 0 (omega (arith, q, under-none s (m .symbol))))
   balance-by (execution m) e =
       let d = execution-done m n b k e z in
       gone-balanced s (m .symbol) before after (m .size) 0 (m .size) (omega arith)

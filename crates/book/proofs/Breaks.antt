@@ -26,10 +26,10 @@ use Rattle.book.specs.declared.Works.{Works}
 use Rattle.book.specs.declared.Plan.{Plan}
 use Rattle.book.specs.declared.Plan.the-variants.{Stop, Go}
 use Rattle.book.specs.declared.Target.the-variants.{Order, Rule}
-use Rattle.book.specs.Plan.{ofKnown, target, upon, rowFor, roomFor, addPlan, modified, modifyPlan, deleted, deletePlan, executed, executionPlan, clearPlan, updatePlan, Finds, planBy}
+use Rattle.book.specs.Plan.{ofKnown, target, upon, rowFor, roomFor, addPlan, modifyAt, modifyPlan, deleteAt, deletePlan, executeAt, executionPlan, clearPlan, updatePlan, Finds, planBy}
 use Rattle.book.specs.Book.{Book, scans, planned, carried, applied}
 use Rattle.book.proofs.Plans.{never-goes}
-use Rattle.book.proofs.Steps.{Names, clear, add, modify, delete, execution, Kind, time, update, names, other, refused, kind-of, other-idle}
+use Rattle.book.proofs.Steps.{Names, clear, add, modify, delete, execution, Group, time, update, names, other, refused, group-of, other-idle}
 
 pub data NamesOrder : Body → Type 0 where
   by-modify : (m : ModifyOrder) → NamesOrder (Body.Modify m)
@@ -39,7 +39,7 @@ pub data NamesOrder : Body → Type 0 where
 pub data Breaks : Body → ℕ → Type 0 where
   unknown : {m : Body} {s : ℕ} → Names m s → Breaks m 20
   already-live : (m : AddOrder) → Breaks (Body.Add m) 21
-  not-live : {m : Body} → NamesOrder m → Breaks m 22
+  order-not-live : {m : Body} → NamesOrder m → Breaks m 22
   elsewhere : {m : Body} → NamesOrder m → Breaks m 23
   above : (m : OrderExecution) → Breaks (Body.Execution m) 24
   no-row : (m : AddOrder) → Breaks (Body.Add m) 25
@@ -74,8 +74,8 @@ module _ (P : ℕ → Type 0) (q : ℕ) where
       go true h = g i r h
       go false h = subst P (same-stop h) b
 
-  executed-stop : (c : Clock) (m : OrderExecution) (i : ℕ) (r : Row) → P 24 → executed c m i r ≡ Stop q → P q
-  executed-stop c m i r a h = ⊎-elim (λ x. subst P (same-stop (x .1)) a) (λ x. never-stops (x .1)) (pick-cases h)
+  execute-stop : (c : Clock) (m : OrderExecution) (i : ℕ) (r : Row) → P 24 → executeAt c m i r ≡ Stop q → P q
+  execute-stop c m i r a h = ⊎-elim (λ x. subst P (same-stop (x .1)) a) (λ x. never-stops (x .1)) (pick-cases h)
 
   update-stop : (c : Clock) (place : Found) → P 26 → updatePlan c place ≡ Stop q → P q
   unfolding updatePlan
@@ -88,26 +88,26 @@ module _ (n : ℕ) (b : List ℕ) (c : Clock) (f : Finds) (q : ℕ) where
   unfolding planBy addPlan modifyPlan deletePlan executionPlan clearPlan
   names-breaks (clear m) = known-stop (Breaks (Body.SymbolClear m)) q (f .entry (m .symbol)) _ (unknown (clear m)) (λ e. never-stops)
   names-breaks (add m) =
-      known-stop (Breaks (Body.Add m)) q (f .entry (m .symbol)) (λ e. roomFor c (rowFor m n) (f .order (m .order)) (f .free)) (unknown (add m))
-      (λ e. room-stop (Breaks (Body.Add m)) q c (rowFor m n) (f .order (m .order)) (f .free) (already-live m) (no-row m))
+      known-stop (Breaks (Body.Add m)) q (f .entry (m .symbol)) (λ e. roomFor c (rowFor m n) (f .order (m .order)) (f .freeRow)) (unknown (add m))
+      (λ e. room-stop (Breaks (Body.Add m)) q c (rowFor m n) (f .order (m .order)) (f .freeRow) (already-live m) (no-row m))
   names-breaks (modify m) =
-      known-stop (Breaks (Body.Modify m)) q (f .entry (m .symbol)) (λ e. upon (target (f .order (m .order)) (m .symbol)) (modified c m n)) (unknown (modify m))
-      (λ e. owned-stop (Breaks (Body.Modify m)) q (f .order (m .order)) (m .symbol) (modified c m n) (not-live (by-modify m)) (elsewhere (by-modify m)) (λ i r. never-stops))
+      known-stop (Breaks (Body.Modify m)) q (f .entry (m .symbol)) (λ e. upon (target (f .order (m .order)) (m .symbol)) (modifyAt c m n)) (unknown (modify m))
+      (λ e. owned-stop (Breaks (Body.Modify m)) q (f .order (m .order)) (m .symbol) (modifyAt c m n) (order-not-live (by-modify m)) (elsewhere (by-modify m)) (λ i r. never-stops))
   names-breaks (delete m) =
-      known-stop (Breaks (Body.Delete m)) q (f .entry (m .symbol)) (λ e. upon (target (f .order (m .order)) (m .symbol)) (deleted c)) (unknown (delete m))
-      (λ e. owned-stop (Breaks (Body.Delete m)) q (f .order (m .order)) (m .symbol) (deleted c) (not-live (by-delete m)) (elsewhere (by-delete m)) (λ i r. never-stops))
+      known-stop (Breaks (Body.Delete m)) q (f .entry (m .symbol)) (λ e. upon (target (f .order (m .order)) (m .symbol)) (deleteAt c)) (unknown (delete m))
+      (λ e. owned-stop (Breaks (Body.Delete m)) q (f .order (m .order)) (m .symbol) (deleteAt c) (order-not-live (by-delete m)) (elsewhere (by-delete m)) (λ i r. never-stops))
   names-breaks (execution m) =
-      known-stop (Breaks (Body.Execution m)) q (f .entry (m .symbol)) (λ e. upon (target (f .order (m .order)) (m .symbol)) (executed c m)) (unknown (execution m))
-      (λ e. owned-stop (Breaks (Body.Execution m)) q (f .order (m .order)) (m .symbol) (executed c m) (not-live (by-execution m)) (elsewhere (by-execution m))
-      (λ i r. executed-stop (Breaks (Body.Execution m)) q c m i r (above m)))
+      known-stop (Breaks (Body.Execution m)) q (f .entry (m .symbol)) (λ e. upon (target (f .order (m .order)) (m .symbol)) (executeAt c m)) (unknown (execution m))
+      (λ e. owned-stop (Breaks (Body.Execution m)) q (f .order (m .order)) (m .symbol) (executeAt c m) (order-not-live (by-execution m)) (elsewhere (by-execution m))
+      (λ i r. execute-stop (Breaks (Body.Execution m)) q c m i r (above m)))
 
-  kind-breaks : {m : Body} → Kind m → planBy m n b c f ≡ Stop q → Breaks m q
+  group-breaks : {m : Body} → Group m → planBy m n b c f ≡ Stop q → Breaks m q
   unfolding planBy
-  kind-breaks (time s) h = never-stops h
-  kind-breaks update h = update-stop (Breaks Body.SymbolUpdate) q c _ no-entry h
-  kind-breaks (names x) h = names-breaks x h
-  kind-breaks (other x) h = never-stops (sym (other-idle n b c f x) ∙ h)
-  kind-breaks (refused r) h = subst (Breaks (Body.Refused r)) (same-stop h) (no-body r)
+  group-breaks (time s) h = never-stops h
+  group-breaks update h = update-stop (Breaks Body.SymbolUpdate) q c _ no-entry h
+  group-breaks (names x) h = names-breaks x h
+  group-breaks (other x) h = never-stops (sym (other-idle n b c f x) ∙ h)
+  group-breaks (refused r) h = subst (Breaks (Body.Refused r)) (same-stop h) (no-body r)
 
 -- "Each rule is tried in the order given, and the first broken one counts": a message that breaks one breaks one of its own
 pub breaks : (n : ℕ) (b : List ℕ) (k : Book) → (applied n b k .rule ≡ 0 → ⊥) → Breaks (readBody b) (applied n b k .rule)
@@ -115,5 +115,5 @@ unfolding applied planned carried
 breaks n b k h = go (planned n b k) refl h
   where
     go : (p : Plan) → planned n b k ≡ p → (carried p b k .rule ≡ 0 → ⊥) → Breaks (readBody b) (carried p b k .rule)
-    go (Stop q) e h = kind-breaks n b (k .clock) (scans k) q (kind-of (readBody b)) e
+    go (Stop q) e h = group-breaks n b (k .clock) (scans k) q (group-of (readBody b)) e
     go (Go w) e h = absurd (h refl)

@@ -3,11 +3,8 @@
 use mathlib.Core.Path.{_≡_, refl, sym, ap}
 use mathlib.Core.List.{List}
 use Prim.Native.Nat.{ℕ, _≤_, _<_}
-use native.Mathlib.Omega.{arith}
-use lib.Dec.{eqb}
 use borrow.Author.Tests.{lt-ltb, le-ltb, eq-eqb, ne-eqb}
 use Rattle.facts.specs.Pick.{pick}
-use Rattle.facts.proofs.Picks.{pick-ind}
 use Rattle.fields.specs.declared.Body.{Body}
 use Rattle.fields.specs.declared.OrderExecution.{OrderExecution}
 use Rattle.body.specs.Read.{readBody}
@@ -21,12 +18,8 @@ use Rattle.book.specs.declared.Plan.{Plan}
 use Rattle.book.specs.declared.Plan.the-variants.{Stop}
 use Rattle.book.specs.declared.Target.{Target}
 use Rattle.book.specs.declared.Target.the-variants.{Order, Rule}
-use Rattle.book.specs.Plan.{onRows, target, upon, sideOf, executed, Finds, planBy}
+use Rattle.book.specs.Plan.{onRows, target, upon, executeAt, Finds, planBy}
 use Rattle.book.specs.Book.{Book, scans, planned, carried, applied}
-
-pub side-small : (x : ℕ) → sideOf x ≤ 1
-unfolding sideOf
-side-small x = pick-ind (λ n. n ≤ 1) (eqb x 66) 0 1 (λ _. omega arith) (λ _. omega arith)
 
 -- ---- a message that names an order
 module _ (i : ℕ) (r : Row) (symbol : ℕ) where
@@ -48,13 +41,13 @@ module _ (g : Target) (f : ℕ → Row → Plan) where
   upon-order i r e = rw e refl
 
 module _ (c : Clock) (m : OrderExecution) (i : ℕ) (r : Row) where
-  pub executed-over : r .size < m .size → Stop 24 ≡ executed c m i r
+  pub execute-over : r .size < m .size → Stop 24 ≡ executeAt c m i r
   unfolding pick
-  executed-over h = rw (lt-ltb (r .size) (m .size) h) refl
+  execute-over h = rw (lt-ltb (r .size) (m .size) h) refl
 
-  pub executed-is : m .size ≤ r .size → onRows c (RowWork.Put i (reduced (m .size) r)) ≡ executed c m i r
+  pub execute-is : m .size ≤ r .size → onRows c (RowWork.Put i (reduced (m .size) r)) ≡ executeAt c m i r
   unfolding pick
-  executed-is h = rw (le-ltb (r .size) (m .size) h) refl
+  execute-is h = rw (le-ltb (r .size) (m .size) h) refl
 
 -- ---- a message by the case that reading its body gives
 pub planned-by : (m : Body) (n : ℕ) (b : List ℕ) (k : Book) → readBody b ≡ m → planBy m n b (k .clock) (scans k) ≡ planned n b k
@@ -68,9 +61,9 @@ carried-by p n b k e = ap (λ (x : Plan). carried x b k) (sym e)
 -- ---- another search with the same results gives the same plan
 pub record Agree (f g : Finds) : Type 0 where
   pub order : (id : ℕ) → f .order id ≡ g .order id
-  pub free : f .free ≡ g .free
+  pub freeRow : f .freeRow ≡ g .freeRow
   pub entry : (id : ℕ) → f .entry id ≡ g .entry id
   pub room : (id : ℕ) → f .room id ≡ g .room id
 
 pub plan-same : (f g : Finds) → Agree f g → (m : Body) (n : ℕ) (b : List ℕ) (c : Clock) → planBy m n b c f ≡ planBy m n b c g
-plan-same f g a m n b c i = planBy m n b c (record { order = λ id. a .order id i; free = a .free i; entry = λ id. a .entry id i; room = λ id. a .room id i })
+plan-same f g a m n b c i = planBy m n b c (record { order = λ id. a .order id i; freeRow = a .freeRow i; entry = λ id. a .entry id i; room = λ id. a .room id i })

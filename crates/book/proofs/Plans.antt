@@ -27,7 +27,7 @@ use Rattle.book.specs.declared.Works.{Works}
 use Rattle.book.specs.declared.Plan.{Plan}
 use Rattle.book.specs.declared.Plan.the-variants.{Stop, Go}
 use Rattle.book.specs.declared.Target.the-variants.{Order, Rule}
-use Rattle.book.specs.Plan.{works, onRows, ofKnown, target, upon, roomFor, executed, updatePlan}
+use Rattle.book.specs.Plan.{works, onRows, ofKnown, target, upon, roomFor, executeAt, updatePlan}
 
 pub never-goes : {B : Type 0} {n : ℕ} {w : Works} → Stop n ≡ Go w → B
 never-goes e = let z : _≡_ {A = ℕ} 0 1 = cc in absurd (omega arith)
@@ -42,8 +42,8 @@ goes-known Nothing f w h = never-goes h
 pub record Owned (order : Held) (symbol : ℕ) (p : Plan) (f : ℕ → Row → Plan) : Type 0 where
   pub place : ℕ
   pub held : Row
-  pub order-is : order ≡ Live place held
-  pub under : symbolOf held ≡ symbol
+  pub order-found : order ≡ Live place held
+  pub its-symbol : symbolOf held ≡ symbol
   pub goes : f place held ≡ p
 
 pub goes-owned : (order : Held) (symbol : ℕ) (f : ℕ → Row → Plan) (w : Works) → upon (target order symbol) f ≡ Go w → Owned order symbol (Go w) f
@@ -52,7 +52,7 @@ goes-owned Nowhere symbol f w h = never-goes h
 goes-owned (Live i r) symbol f w h = go (eqb (symbolOf r) symbol) refl h
   where
     go : (t : Bool) → eqb (symbolOf r) symbol ≡ t → upon (pick t (Order i r) (Rule 23)) f ≡ Go w → Owned (Live i r) symbol (Go w) f
-    go true e h = record { place = i; held = r; order-is = refl; under = eqb-true (symbolOf r) symbol e; goes = h }
+    go true e h = record { place = i; held = r; order-found = refl; its-symbol = eqb-true (symbolOf r) symbol e; goes = h }
     go false e h = never-goes h
 
 -- what the search for the order found
@@ -78,9 +78,9 @@ goes-room c new Nowhere Nothing w h = never-goes h
 goes-room c new Nowhere (At j) w h = (refl, (j, refl, cc))
 
 -- ---- 24
-pub goes-executed : (c : Clock) (m : OrderExecution) (i : ℕ) (r : Row) (w : Works) → executed c m i r ≡ Go w
+pub goes-execute : (c : Clock) (m : OrderExecution) (i : ℕ) (r : Row) (w : Works) → executeAt c m i r ≡ Go w
     → (m .size ≤ r .size) × (works c (RowWork.Put i (reduced (m .size) r)) EntryWork.Keep ≡ w)
-goes-executed c m i r w h = ⊎-elim (λ x. never-goes (x .1)) (λ x. (ltb-false (r .size) (m .size) (x .0), cc (x .1))) (pick-cases h)
+goes-execute c m i r w h = ⊎-elim (λ x. never-goes (x .1)) (λ x. (ltb-false (r .size) (m .size) (x .0), cc (x .1))) (pick-cases h)
 
 -- ---- 26
 pub goes-update : (c : Clock) (place : Found) (w : Works) → updatePlan c place ≡ Go w → (i : ℕ) × (place ≡ At i) × (works c RowWork.Keep (EntryWork.Put i) ≡ w)
@@ -122,7 +122,7 @@ module _ (c : Clock) where
       go true = h i r
       go false = stops-orders 23 (omega arith) (omega arith)
 
-  pub executed-orders : (m : OrderExecution) (i : ℕ) (r : Row) → OnOrders c (executed c m i r)
-  executed-orders m i r =
+  pub execute-orders : (m : OrderExecution) (i : ℕ) (r : Row) → OnOrders c (executeAt c m i r)
+  execute-orders m i r =
       pick-ind (OnOrders c) (ltb (r .size) (m .size)) (Stop 24) (onRows c (RowWork.Put i (reduced (m .size) r)))
       (λ e. stops-orders 24 (omega arith) (omega arith)) (λ e. goes-orders (RowWork.Put i (reduced (m .size) r)))

@@ -12,10 +12,10 @@ use Rattle.body.proofs.Laws.{read-sound}
 use Rattle.rows.specs.Rows.{rows, zeroRow, live}
 use Rattle.rows.specs.Tidy.{Unspoiled}
 use Rattle.rows.proofs.Judged.{zero-free}
-use Rattle.orders.specs.Work.{remade, reduced}
+use Rattle.orders.specs.Work.{moves, remade, reduced}
 use Rattle.orders.proofs.Applied.{row}
 use Rattle.orders.proofs.Spoils.{Sane, sane-unspoiled, unspoiled-sane, add-sane, named-sane, clear-sane, reduced-sane}
-use Rattle.book.specs.Plan.{moves, rowFor}
+use Rattle.book.specs.Plan.{rowFor}
 use Rattle.book.specs.Book.{Book, applied}
 use Rattle.book.proofs.Steps.{broken-keeps, Names, orders-named}
 use Rattle.book.proofs.Theorems.{row-live, add-entered, modify-done, modify-live, delete-done, execution-done, clear-done}

@@ -24,7 +24,6 @@ use Rattle.fields.specs.declared.Trade.{Trade}
 use Rattle.fields.specs.declared.TradeCancel.{TradeCancel}
 use Rattle.fields.specs.declared.Refusal.{Refusal}
 use Rattle.body.specs.Read.{readBody, goodBody}
-use Rattle.rows.specs.Rows.{zeroRow}
 use Rattle.symbols.specs.declared.EntryWork.{EntryWork}
 use Rattle.symbols.specs.Entries.{entries, idOf}
 use Rattle.symbols.specs.Find.{knownSymbol}
@@ -32,17 +31,17 @@ use Rattle.symbols.proofs.FindLaws.{unknown-nowhere}
 use Rattle.symbols.specs.Work.{entered}
 use Rattle.symbols.proofs.UpdateLaws.{entered-length}
 use Rattle.orders.specs.declared.RowWork.{RowWork}
-use Rattle.orders.specs.Work.{committed, remade}
+use Rattle.orders.specs.Work.{committed}
 use Rattle.orders.proofs.Commits.{committed-length}
 use Rattle.book.specs.declared.Clock.{Clock}
 use Rattle.book.specs.declared.Works.{Works}
 use Rattle.book.specs.declared.Plan.{Plan}
 use Rattle.book.specs.declared.Plan.the-variants.{Stop, Go}
-use Rattle.book.specs.Plan.{clock, works, onRows, idle, ofKnown, target, upon, moves, rowFor, roomFor, addPlan, modified, modifyPlan, deleted, deletePlan, executed, executionPlan, clearPlan, updatePlan, Finds, planBy}
+use Rattle.book.specs.Plan.{clock, works, onRows, idle, ofKnown, target, upon, rowFor, roomFor, addPlan, modifyAt, modifyPlan, deleteAt, deletePlan, executeAt, executionPlan, clearPlan, updatePlan, Finds, planBy}
 use Rattle.book.specs.Parts.{the-second, the-symbols, the-orders, no-part, partOf}
 use Rattle.book.specs.Book.{Book, book, effect, scans, planned, carried, applied}
 use Rattle.book.proofs.Laws.{planned-by, carried-by}
-use Rattle.book.proofs.Plans.{Ruled, stops, goes, OnOrders, stops-orders, goes-orders, ruled, known-orders, room-orders, named-orders, executed-orders}
+use Rattle.book.proofs.Plans.{Ruled, stops, goes, OnOrders, stops-orders, goes-orders, ruled, known-orders, room-orders, named-orders, execute-orders}
 
 -- ---- any plan
 -- the numbers of the book rules
@@ -91,26 +90,26 @@ pub data Other : Body → Type 0 where
   cancel : (m : TradeCancel) → Other (Body.TradeCancel m)
 
 -- what a body is, as far as the tables go
-pub data Kind : Body → Type 0 where
-  time : (s : ℕ) → Kind (Body.SystemTime s)
-  update : Kind Body.SymbolUpdate
-  names : {m : Body} {s : ℕ} → Names m s → Kind m
-  other : {m : Body} → Other m → Kind m
-  refused : (r : Refusal) → Kind (Body.Refused r)
+pub data Group : Body → Type 0 where
+  time : (s : ℕ) → Group (Body.SystemTime s)
+  update : Group Body.SymbolUpdate
+  names : {m : Body} {s : ℕ} → Names m s → Group m
+  other : {m : Body} → Other m → Group m
+  refused : (r : Refusal) → Group (Body.Refused r)
 
-pub kind-of : (m : Body) → Kind m
-kind-of (Body.SystemTime s) = time s
-kind-of Body.SymbolUpdate = update
-kind-of (Body.SymbolClear m) = names (clear m)
-kind-of (Body.Add m) = names (add m)
-kind-of (Body.Modify m) = names (modify m)
-kind-of (Body.Delete m) = names (delete m)
-kind-of (Body.Execution m) = names (execution m)
-kind-of Body.SystemState = other state
-kind-of (Body.TradingStatus m) = other (status m)
-kind-of (Body.Trade m) = other (trade m)
-kind-of (Body.TradeCancel m) = other (cancel m)
-kind-of (Body.Refused r) = refused r
+pub group-of : (m : Body) → Group m
+group-of (Body.SystemTime s) = time s
+group-of Body.SymbolUpdate = update
+group-of (Body.SymbolClear m) = names (clear m)
+group-of (Body.Add m) = names (add m)
+group-of (Body.Modify m) = names (modify m)
+group-of (Body.Delete m) = names (delete m)
+group-of (Body.Execution m) = names (execution m)
+group-of Body.SystemState = other state
+group-of (Body.TradingStatus m) = other (status m)
+group-of (Body.Trade m) = other (trade m)
+group-of (Body.TradeCancel m) = other (cancel m)
+group-of (Body.Refused r) = refused r
 
 names-good : {m : Body} {s : ℕ} → Names m s → bodyNumber m ≡ 0
 names-good (clear m) = refl
@@ -141,7 +140,7 @@ other-part (trade m) = refl
 other-part (cancel m) = refl
 
 -- a Symbol Update alone may change the symbol table
-pub part-update : {m : Body} → Kind m → partOf m ≡ the-symbols → m ≡ Body.SymbolUpdate
+pub part-update : {m : Body} → Group m → partOf m ≡ the-symbols → m ≡ Body.SymbolUpdate
 unfolding partOf
 part-update update q = refl
 part-update (time s) q = let z : _≡_ {A = ℕ} 0 1 = cc in absurd (omega arith)
@@ -154,16 +153,16 @@ module _ (n : ℕ) (b : List ℕ) (c : Clock) (f : Finds) where
   names-orders : {m : Body} {s : ℕ} → Names m s → OnOrders c (planBy m n b c f)
   unfolding planBy addPlan modifyPlan deletePlan executionPlan clearPlan
   names-orders (clear m) = known-orders c (f .entry (m .symbol)) (λ e. onRows c (RowWork.Clear (m .symbol))) (λ e. goes-orders (RowWork.Clear (m .symbol)))
-  names-orders (add m) = known-orders c (f .entry (m .symbol)) (λ e. roomFor c (rowFor m n) (f .order (m .order)) (f .free)) (λ e. room-orders c (rowFor m n) (f .order (m .order)) (f .free))
+  names-orders (add m) = known-orders c (f .entry (m .symbol)) (λ e. roomFor c (rowFor m n) (f .order (m .order)) (f .freeRow)) (λ e. room-orders c (rowFor m n) (f .order (m .order)) (f .freeRow))
   names-orders (modify m) =
-      known-orders c (f .entry (m .symbol)) (λ e. upon (target (f .order (m .order)) (m .symbol)) (modified c m n))
-      (λ e. named-orders c (f .order (m .order)) (m .symbol) (modified c m n) (λ i r. goes-orders (RowWork.Put i (remade (m .price) (m .size) (moves (m .flags)) n r))))
+      known-orders c (f .entry (m .symbol)) (λ e. upon (target (f .order (m .order)) (m .symbol)) (modifyAt c m n))
+      (λ e. named-orders c (f .order (m .order)) (m .symbol) (modifyAt c m n) (λ i r. goes-orders _))
   names-orders (delete m) =
-      known-orders c (f .entry (m .symbol)) (λ e. upon (target (f .order (m .order)) (m .symbol)) (deleted c))
-      (λ e. named-orders c (f .order (m .order)) (m .symbol) (deleted c) (λ i r. goes-orders (RowWork.Put i zeroRow)))
+      known-orders c (f .entry (m .symbol)) (λ e. upon (target (f .order (m .order)) (m .symbol)) (deleteAt c))
+      (λ e. named-orders c (f .order (m .order)) (m .symbol) (deleteAt c) (λ i r. goes-orders _))
   names-orders (execution m) =
-      known-orders c (f .entry (m .symbol)) (λ e. upon (target (f .order (m .order)) (m .symbol)) (executed c m))
-      (λ e. named-orders c (f .order (m .order)) (m .symbol) (executed c m) (executed-orders c m))
+      known-orders c (f .entry (m .symbol)) (λ e. upon (target (f .order (m .order)) (m .symbol)) (executeAt c m))
+      (λ e. named-orders c (f .order (m .order)) (m .symbol) (executeAt c m) (execute-orders c m))
 
   names-unknown : {m : Body} {s : ℕ} → Names m s → f .entry s ≡ Nothing → planBy m n b c f ≡ Stop 20
   unfolding planBy addPlan modifyPlan deletePlan executionPlan clearPlan ofKnown
@@ -185,21 +184,21 @@ module _ (n : ℕ) (b : List ℕ) (c : Clock) (f : Finds) where
   update-ruled (At i) = goes (works c RowWork.Keep (EntryWork.Put i))
   update-ruled Nothing = stops 26 (omega arith) (omega arith)
 
-  kind-ruled : {m : Body} → Kind m → Ruled (planBy m n b c f)
+  group-ruled : {m : Body} → Group m → Ruled (planBy m n b c f)
   unfolding planBy
-  kind-ruled (time s) = goes (works (clock s) RowWork.Keep EntryWork.Keep)
-  kind-ruled update = update-ruled (f .room (idOf b))
-  kind-ruled (names h) = ruled (names-orders h)
-  kind-ruled (other h) = subst Ruled (sym (other-idle h)) (goes (works c RowWork.Keep EntryWork.Keep))
-  kind-ruled (refused r) = stops 27 (omega arith) (omega arith)
+  group-ruled (time s) = goes (works (clock s) RowWork.Keep EntryWork.Keep)
+  group-ruled update = update-ruled (f .room (idOf b))
+  group-ruled (names h) = ruled (names-orders h)
+  group-ruled (other h) = subst Ruled (sym (other-idle h)) (goes (works c RowWork.Keep EntryWork.Keep))
+  group-ruled (refused r) = stops 27 (omega arith) (omega arith)
 
-  kind-bad : {m : Body} → Kind m → (bodyNumber m ≡ 0 → ⊥) → planBy m n b c f ≡ Stop 27
+  group-bad : {m : Body} → Group m → (bodyNumber m ≡ 0 → ⊥) → planBy m n b c f ≡ Stop 27
   unfolding planBy
-  kind-bad (time s) h = absurd (h refl)
-  kind-bad update h = absurd (h refl)
-  kind-bad (names x) h = absurd (h (names-good x))
-  kind-bad (other x) h = absurd (h (other-good x))
-  kind-bad (refused r) h = refl
+  group-bad (time s) h = absurd (h refl)
+  group-bad update h = absurd (h refl)
+  group-bad (names x) h = absurd (h (names-good x))
+  group-bad (other x) h = absurd (h (other-good x))
+  group-bad (refused r) h = refl
 
 -- ---- the work of a plan on each part of the book: what is left to itself stays
 abbrev rowsOf : Plan → RowWork
@@ -229,35 +228,35 @@ module _ (n : ℕ) (b : List ℕ) (c : Clock) (f : Finds) where
   update-rows (At i) = (refl, refl)
   update-rows Nothing = (refl, refl)
 
-  kind-rows : {m : Body} → Kind m → ((s : ℕ) × Names m s) ⊎ (rowsOf (planBy m n b c f) ≡ RowWork.Keep)
+  group-rows : {m : Body} → Group m → ((s : ℕ) × Names m s) ⊎ (rowsOf (planBy m n b c f) ≡ RowWork.Keep)
   unfolding planBy
-  kind-rows (time s) = inr refl
-  kind-rows update = inr (update-rows (f .room (idOf b)) .0)
-  kind-rows (names {s = s} x) = inl (s, x)
-  kind-rows (other x) = inr (ap rowsOf (other-idle n b c f x))
-  kind-rows (refused r) = inr refl
+  group-rows (time s) = inr refl
+  group-rows update = inr (update-rows (f .room (idOf b)) .0)
+  group-rows (names {s = s} x) = inl (s, x)
+  group-rows (other x) = inr (ap rowsOf (other-idle n b c f x))
+  group-rows (refused r) = inr refl
 
-  kind-entries : {m : Body} → Kind m → (m ≡ Body.SymbolUpdate) ⊎ (entriesOf (planBy m n b c f) ≡ EntryWork.Keep)
+  group-entries : {m : Body} → Group m → (m ≡ Body.SymbolUpdate) ⊎ (entriesOf (planBy m n b c f) ≡ EntryWork.Keep)
   unfolding planBy
-  kind-entries (time s) = inr refl
-  kind-entries update = inl refl
-  kind-entries (names x) = inr (orders-entries (names-orders n b c f x) .0)
-  kind-entries (other x) = inr (ap entriesOf (other-idle n b c f x))
-  kind-entries (refused r) = inr refl
+  group-entries (time s) = inr refl
+  group-entries update = inl refl
+  group-entries (names x) = inr (orders-entries (names-orders n b c f x) .0)
+  group-entries (other x) = inr (ap entriesOf (other-idle n b c f x))
+  group-entries (refused r) = inr refl
 
-  kind-clock : {m : Body} → Kind m → ((s : ℕ) × (m ≡ Body.SystemTime s)) ⊎ (clockOf c (planBy m n b c f) ≡ c)
+  group-clock : {m : Body} → Group m → ((s : ℕ) × (m ≡ Body.SystemTime s)) ⊎ (clockOf c (planBy m n b c f) ≡ c)
   unfolding planBy
-  kind-clock (time s) = inl (s, refl)
-  kind-clock update = inr (update-rows (f .room (idOf b)) .1)
-  kind-clock (names x) = inr (orders-entries (names-orders n b c f x) .1)
-  kind-clock (other x) = inr (ap (clockOf c) (other-idle n b c f x))
-  kind-clock (refused r) = inr refl
+  group-clock (time s) = inl (s, refl)
+  group-clock update = inr (update-rows (f .room (idOf b)) .1)
+  group-clock (names x) = inr (orders-entries (names-orders n b c f x) .1)
+  group-clock (other x) = inr (ap (clockOf c) (other-idle n b c f x))
+  group-clock (refused r) = inr refl
 
 -- ---- any message
 module _ (n : ℕ) (b : List ℕ) (k : Book) where
   plan-ruled : Ruled (planned n b k)
   unfolding planned
-  plan-ruled = kind-ruled n b (k .clock) (scans k) (kind-of (readBody b))
+  plan-ruled = group-ruled n b (k .clock) (scans k) (group-of (readBody b))
 
   -- "the first broken one counts": and changes nothing
   pub broken-keeps : (applied n b k .rule ≡ 0 → ⊥) → applied n b k .after ≡ k
@@ -282,7 +281,7 @@ module _ (n : ℕ) (b : List ℕ) (k : Book) where
   -- "no good body stops with 27"
   pub bad-body : goodBody b ≡ false → applied n b k .rule ≡ 27
   unfolding goodBody carried
-  bad-body h = ap (λ o. o .rule) (sym (carried-by (Stop 27) n b k (sym (planned-by (readBody b) n b k refl) ∙ kind-bad n b (k .clock) (scans k) (kind-of (readBody b)) (eqb-false (bodyNumber (readBody b)) 0 h))))
+  bad-body h = ap (λ o. o .rule) (sym (carried-by (Stop 27) n b k (sym (planned-by (readBody b) n b k refl) ∙ group-bad n b (k .clock) (scans k) (group-of (readBody b)) (eqb-false (bodyNumber (readBody b)) 0 h))))
 
   pub rule-good : applied n b k .rule ≡ 0 → goodBody b ≡ true
   rule-good e = upheld (goodBody b) (λ g. omega (arith, bad-body g))
@@ -297,18 +296,18 @@ module _ (n : ℕ) (b : List ℕ) (k : Book) where
   unfolding committed planned
   orders-named =
       ⊎-elim inl (λ e. inr (ap (λ x. x .orders) applied-all ∙ ap (λ w. committed w (k .orders)) e))
-      (kind-rows n b (k .clock) (scans k) (kind-of (readBody b)))
+      (group-rows n b (k .clock) (scans k) (group-of (readBody b)))
 
   -- it is a Symbol Update, or the symbol table is as it was
   pub symbols-updated : (readBody b ≡ Body.SymbolUpdate) ⊎ (applied n b k .after .symbols ≡ k .symbols)
   unfolding entered planned
   symbols-updated =
       ⊎-elim inl (λ e. inr (ap (λ x. x .symbols) applied-all ∙ ap (λ w. entered w b (k .symbols)) e))
-      (kind-entries n b (k .clock) (scans k) (kind-of (readBody b)))
+      (group-entries n b (k .clock) (scans k) (group-of (readBody b)))
 
   clock-timed : ((s : ℕ) × (readBody b ≡ Body.SystemTime s)) ⊎ (applied n b k .after .clock ≡ k .clock)
   unfolding planned
-  clock-timed = ⊎-elim inl (λ e. inr (ap (λ x. x .clock) applied-all ∙ e)) (kind-clock n b (k .clock) (scans k) (kind-of (readBody b)))
+  clock-timed = ⊎-elim inl (λ e. inr (ap (λ x. x .clock) applied-all ∙ e)) (group-clock n b (k .clock) (scans k) (group-of (readBody b)))
 
   -- each part of the book is left by every message but those of that part
   pub orders-kept : (partOf (readBody b) ≡ the-orders → ⊥) → applied n b k .after .orders ≡ k .orders

@@ -8,7 +8,7 @@ use mathlib.Core.Logic.{⊎-elim}
 use Prim.Native.Nat.{ℕ, _%_, _≤_, _<_}
 use native.Mathlib.Omega.{arith}
 use native.Mathlib.Decide.{ℕ-discrete}
-use lib.ListN.{getD, set}
+use lib.ListN.{set}
 use borrow.Author.Tests.{eq-eqb, ne-eqb}
 use Rattle.facts.specs.declared.Found.the-variants.{At, Nothing}
 use Rattle.wire.specs.Le.{Bytes}
@@ -25,29 +25,29 @@ use Rattle.rows.specs.declared.Row.{Row}
 use Rattle.rows.specs.Rows.{rows, zeroRow, symbolOf, free, live}
 use Rattle.rows.specs.Find.{findOrder, findFree, heldAt, ofSymbol}
 use Rattle.rows.specs.Tidy.{Unique}
+use Rattle.rows.proofs.Keys.{side-small}
 use Rattle.rows.proofs.Judged.{ranges-live}
 use Rattle.symbols.specs.declared.EntryWork.{EntryWork}
 use Rattle.symbols.specs.Entries.{entries, entryOf, putEntry, used, idOf}
 use Rattle.symbols.specs.Find.{findSymbol, knownSymbol, placeFor}
 use Rattle.symbols.specs.Work.{entered}
-use Rattle.symbols.proofs.EntryLaws.{entries-put}
+use Rattle.symbols.proofs.EntryLaws.{used-body, entries-put}
 use Rattle.symbols.proofs.FindLaws.{known-found}
 use Rattle.symbols.proofs.UpdateLaws.{known-after, known-stays}
 use Rattle.orders.specs.declared.RowWork.{RowWork}
-use Rattle.orders.specs.Work.{remade, less, reduced, cleared, committed}
+use Rattle.orders.specs.Work.{moves, remade, less, reduced, cleared, committed}
 use Rattle.orders.proofs.Applied.{row, Added, Named, Remade, put-added, put-named, modify-row}
 use Rattle.orders.proofs.Clears.{clear-gone, clear-kept}
 use Rattle.orders.proofs.Unique.{add-unique, modify-unique, delete-unique, execute-unique, clear-unique}
 use Rattle.orders.proofs.Shares.{remade-live}
 use Rattle.orders.proofs.Again.{all-executed, part-executed, gone-free, gone-nowhere, room-again}
-use Rattle.book.specs.declared.Clock.{Clock}
 use Rattle.book.specs.declared.Works.{Works}
 use Rattle.book.specs.declared.Plan.{Plan}
 use Rattle.book.specs.declared.Plan.the-variants.{Go}
-use Rattle.book.specs.Plan.{works, onRows, ofKnown, target, upon, moves, rowFor, roomFor, addPlan, modified, modifyPlan, deleted, deletePlan, executed, executionPlan, clearPlan, planBy}
-use Rattle.book.specs.Book.{Book, book, orderIn, scans, planned, carried, applied}
-use Rattle.book.proofs.Laws.{side-small, planned-by, carried-by}
-use Rattle.book.proofs.Plans.{goes-known, Owned, goes-owned, held-live, held-nowhere, goes-room, goes-executed, goes-update}
+use Rattle.book.specs.Plan.{works, onRows, ofKnown, target, upon, rowFor, roomFor, addPlan, modifyAt, modifyPlan, deleteAt, deletePlan, executeAt, executionPlan, clearPlan, planBy}
+use Rattle.book.specs.Book.{Book, orderIn, scans, planned, carried, applied}
+use Rattle.book.proofs.Laws.{planned-by, carried-by}
+use Rattle.book.proofs.Plans.{goes-known, Owned, goes-owned, held-live, held-nowhere, goes-room, goes-execute, goes-update}
 use Rattle.book.proofs.Steps.{went, broken-keeps, Names, orders-named, symbols-updated}
 
 -- ---- a message that applied, by the case of its body: its plan, and the tables after it
@@ -65,7 +65,7 @@ done m n b k e z =
 -- a row put by a message that names an order
 owner : (order symbol : ℕ) (k : Book) (p : Plan) (f : ℕ → Row → Plan) (x : Owned (orderIn order (k .orders)) symbol p f)
     → (findOrder order (rows (k .orders)) ≡ At (x .place)) × (x .held ≡ row (k .orders) (x .place))
-owner order symbol k p f x = held-live (findOrder order (rows (k .orders))) (rows (k .orders)) (x .place) (x .held) (x .order-is)
+owner order symbol k p f x = held-live (findOrder order (rows (k .orders))) (rows (k .orders)) (x .place) (x .held) (x .order-found)
 
 named-by : (order symbol : ℕ) (g : Row → Row) (t u : List ℕ) (w : RowWork) (i : ℕ) (r : Row)
     → findOrder order (rows t) ≡ At i → r ≡ row t i → symbolOf r ≡ symbol → RowWork.Put i (g r) ≡ w → u ≡ committed w t → Named order symbol g t u
@@ -132,11 +132,11 @@ module _ (m : ModifyOrder) (n : ℕ) (b : List ℕ) (k : Book) (e : readBody b �
   modify-done =
       let d = done (Body.Modify m) n b k e z in
       let t = k .orders in
-      let g = goes-known (findSymbol (m .symbol) (entries (k .symbols))) (λ e. upon (target (orderIn (m .order) t) (m .symbol)) (modified (k .clock) m n)) (d .does) (d .plan-is) in
-      let x = goes-owned (orderIn (m .order) t) (m .symbol) (modified (k .clock) m n) (d .does) (g .2) in
-      let q = owner (m .order) (m .symbol) k (Go (d .does)) (modified (k .clock) m n) x in
+      let g = goes-known (findSymbol (m .symbol) (entries (k .symbols))) (λ e. upon (target (orderIn (m .order) t) (m .symbol)) (modifyAt (k .clock) m n)) (d .does) (d .plan-is) in
+      let x = goes-owned (orderIn (m .order) t) (m .symbol) (modifyAt (k .clock) m n) (d .does) (g .2) in
+      let q = owner (m .order) (m .symbol) k (Go (d .does)) (modifyAt (k .clock) m n) x in
       let y : works (k .clock) (RowWork.Put (x .place) (remade (m .price) (m .size) (moves (m .flags)) n (x .held))) EntryWork.Keep ≡ d .does = cc (x .goes) in
-      named-by (m .order) (m .symbol) (remade (m .price) (m .size) (moves (m .flags)) n) t (applied n b k .after .orders) (d .does .orders) (x .place) (x .held) (q .0) (q .1) (x .under) (ap (λ (o : Works). o .orders) y) (d .orders-are)
+      named-by (m .order) (m .symbol) (remade (m .price) (m .size) (moves (m .flags)) n) t (applied n b k .after .orders) (d .does .orders) (x .place) (x .held) (q .0) (q .1) (x .its-symbol) (ap (λ (o : Works). o .orders) y) (d .orders-are)
 
   modify-made : Remade (row (k .orders) (modify-done .place)) (row (applied n b k .after .orders) (modify-done .place)) (m .price) (m .size) (moves (m .flags)) n
   modify-made = modify-row (m .order) (m .symbol) (m .price) (m .size) (moves (m .flags)) n (k .orders) (applied n b k .after .orders) modify-done
@@ -144,12 +144,12 @@ module _ (m : ModifyOrder) (n : ℕ) (b : List ℕ) (k : Book) (e : readBody b �
   -- "Clear: the rank stays, whatever changed"
   pub rank-stays : m .flags % 2 ≡ 0 → row (applied n b k .after .orders) (modify-done .place) .rank ≡ row (k .orders) (modify-done .place) .rank
   unfolding moves
-  rank-stays f = modify-made .stays (ne-eqb (m .flags % 2) 1 (λ q. omega arith))
+  rank-stays f = modify-made .kept-rank (ne-eqb (m .flags % 2) 1 (λ q. omega arith))
 
   -- "Flag bit 0 set: rank becomes this sequence number"
   pub rank-moves : m .flags % 2 ≡ 1 → row (applied n b k .after .orders) (modify-done .place) .rank ≡ n
   unfolding moves
-  rank-moves f = modify-made .moves (eq-eqb (m .flags % 2) 1 f)
+  rank-moves f = modify-made .new-rank (eq-eqb (m .flags % 2) 1 f)
 
   -- and the order stays live
   pub modify-live : Bytes b → 1 ≤ n → live (row (applied n b k .after .orders) (modify-done .place)) ≡ true
@@ -168,11 +168,11 @@ module _ (m : DeleteOrder) (n : ℕ) (b : List ℕ) (k : Book) (e : readBody b �
   delete-done =
       let d = done (Body.Delete m) n b k e z in
       let t = k .orders in
-      let g = goes-known (findSymbol (m .symbol) (entries (k .symbols))) (λ e. upon (target (orderIn (m .order) t) (m .symbol)) (deleted (k .clock))) (d .does) (d .plan-is) in
-      let x = goes-owned (orderIn (m .order) t) (m .symbol) (deleted (k .clock)) (d .does) (g .2) in
-      let q = owner (m .order) (m .symbol) k (Go (d .does)) (deleted (k .clock)) x in
+      let g = goes-known (findSymbol (m .symbol) (entries (k .symbols))) (λ e. upon (target (orderIn (m .order) t) (m .symbol)) (deleteAt (k .clock))) (d .does) (d .plan-is) in
+      let x = goes-owned (orderIn (m .order) t) (m .symbol) (deleteAt (k .clock)) (d .does) (g .2) in
+      let q = owner (m .order) (m .symbol) k (Go (d .does)) (deleteAt (k .clock)) x in
       let y : works (k .clock) (RowWork.Put (x .place) zeroRow) EntryWork.Keep ≡ d .does = cc (x .goes) in
-      named-by (m .order) (m .symbol) (λ r. zeroRow) t (applied n b k .after .orders) (d .does .orders) (x .place) (x .held) (q .0) (q .1) (x .under) (ap (λ (o : Works). o .orders) y) (d .orders-are)
+      named-by (m .order) (m .symbol) (λ r. zeroRow) t (applied n b k .after .orders) (d .does .orders) (x .place) (x .held) (q .0) (q .1) (x .its-symbol) (ap (λ (o : Works). o .orders) y) (d .orders-are)
 
   pub delete-frees : free (row (applied n b k .after .orders) (delete-done .place)) ≡ true
   delete-frees = gone-free (m .order) (m .symbol) (λ r. zeroRow) (k .orders) (applied n b k .after .orders) delete-done refl
@@ -184,11 +184,11 @@ module _ (m : OrderExecution) (n : ℕ) (b : List ℕ) (k : Book) (e : readBody 
   execution-both =
       let d = done (Body.Execution m) n b k e z in
       let t = k .orders in
-      let g = goes-known (findSymbol (m .symbol) (entries (k .symbols))) (λ e. upon (target (orderIn (m .order) t) (m .symbol)) (executed (k .clock) m)) (d .does) (d .plan-is) in
-      let x = goes-owned (orderIn (m .order) t) (m .symbol) (executed (k .clock) m) (d .does) (g .2) in
-      let q = owner (m .order) (m .symbol) k (Go (d .does)) (executed (k .clock) m) x in
-      let y = goes-executed (k .clock) m (x .place) (x .held) (d .does) (x .goes) in
-      let v = named-by (m .order) (m .symbol) (reduced (m .size)) t (applied n b k .after .orders) (d .does .orders) (x .place) (x .held) (q .0) (q .1) (x .under) (ap (λ (o : Works). o .orders) (y .1)) (d .orders-are) in
+      let g = goes-known (findSymbol (m .symbol) (entries (k .symbols))) (λ e. upon (target (orderIn (m .order) t) (m .symbol)) (executeAt (k .clock) m)) (d .does) (d .plan-is) in
+      let x = goes-owned (orderIn (m .order) t) (m .symbol) (executeAt (k .clock) m) (d .does) (g .2) in
+      let q = owner (m .order) (m .symbol) k (Go (d .does)) (executeAt (k .clock) m) x in
+      let y = goes-execute (k .clock) m (x .place) (x .held) (d .does) (x .goes) in
+      let v = named-by (m .order) (m .symbol) (reduced (m .size)) t (applied n b k .after .orders) (d .does .orders) (x .place) (x .held) (q .0) (q .1) (x .its-symbol) (ap (λ (o : Works). o .orders) (y .1)) (d .orders-are) in
       let i : v .place ≡ x .place = cc (v .lowest-live, q .0) in
       let j : x .held ≡ row t (v .place) = q .1 ∙ ap (row t) (sym i) in
       (v, rw (← j) (y .0))
@@ -231,8 +231,7 @@ module _ (m : SymbolClear) (n : ℕ) (b : List ℕ) (k : Book) (e : readBody b �
 -- ---- Symbol Update: its symbol is known afterwards
 -- its type byte marks an entry in use
 pub update-used : (b : List ℕ) → readBody b ≡ Body.SymbolUpdate → used b ≡ true
-unfolding used
-update-used b e = let w = rw e at (read-sound b) in eq-eqb (getD b 0 0) 1 (w .0 .type-is)
+update-used b e = let w = rw e at (read-sound b) in used-body b (w .0 .type-is)
 
 module _ (n : ℕ) (b : List ℕ) (k : Book) (e : readBody b ≡ Body.SymbolUpdate) (z : applied n b k .rule ≡ 0) where
   pub record Updated : Type 0 where

@@ -20,7 +20,7 @@ use Rattle.book.specs.declared.Clock.{Clock}
 use Rattle.book.specs.Parts.{Part, the-second, the-symbols, the-orders, no-part, partOf}
 use Rattle.book.specs.Book.{Book, book, applied}
 use Rattle.book.specs.Tidy.{Tidy, usedIds, firstUseBy, firstUse}
-use Rattle.book.proofs.Steps.{kind-of, part-update, symbols-kept}
+use Rattle.book.proofs.Steps.{group-of, part-update, symbols-kept}
 use Rattle.book.proofs.Theorems.{update-used, update-done, entries-kept, unique-kept}
 use Rattle.book.proofs.Spoils.{unspoiled-kept}
 
@@ -59,7 +59,7 @@ module _ (n : ℕ) (b : List ℕ) (k : Book) (ranked : 1 ≤ n) (bytes : Bytes b
 
       go : (p : Part) → partOf (readBody b) ≡ p → usedIds (applied n b k .after) ≡ firstUseBy p (idOf b) (usedIds k)
       go the-symbols q =
-          let e = part-update (kind-of (readBody b)) q in
+          let e = part-update (group-of (readBody b)) q in
           let w = update-done n b k e z in
           ap idsIn (ap entries (w .table-is) ∙ entries-put (k .symbols) (w .place) b) ∙ ids-kept b (entries (k .symbols)) (w .place) (w .found) (update-used b e) (t .packed)
       go the-orders q = same (λ e. let y : the-orders ≡ the-symbols = sym q ∙ e in let x : _≡_ {A = ℕ} 0 1 = cc in omega arith)

@@ -38,7 +38,7 @@ abbrev pub scans : Book → Finds
 scans k =
     record {
       order = λ id. orderIn id (k .orders);
-      free = findFree (rows (k .orders));
+      freeRow = findFree (rows (k .orders));
       entry = λ id. findSymbol id (entries (k .symbols));
       room = λ id. placeFor id (entries (k .symbols));
     }

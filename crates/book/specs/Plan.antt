@@ -1,8 +1,7 @@
 -- The book rules, message by message: from what the searches found to what is to be done (document 01: "Each rule is tried in the order given, and
 -- the first broken one counts"). A rule's number is the paper's. Nothing here looks into a table, so whoever searches, the plan is the same.
-use Prim.Native.Nat.{ℕ, _%_}
+use Prim.Native.Nat.{ℕ}
 use mathlib.Core.List.{List}
-use mathlib.Core.Bool.{Bool}
 use lib.Dec.{eqb, ltb}
 use Rattle.facts.specs.Pick.{pick}
 use Rattle.facts.specs.declared.Found.{Found}
@@ -16,12 +15,12 @@ use Rattle.fields.specs.declared.SymbolClear.{SymbolClear}
 use Rattle.rows.specs.declared.Row.{Row}
 use Rattle.rows.specs.declared.Held.{Held}
 use Rattle.rows.specs.declared.Held.the-variants.{Live, Nowhere}
-use Rattle.rows.specs.Keys.{keyFor}
+use Rattle.rows.specs.Keys.{keyFor, sideOf}
 use Rattle.rows.specs.Rows.{zeroRow, symbolOf}
 use Rattle.symbols.specs.declared.EntryWork.{EntryWork}
 use Rattle.symbols.specs.Entries.{idOf}
 use Rattle.orders.specs.declared.RowWork.{RowWork}
-use Rattle.orders.specs.Work.{remade, reduced}
+use Rattle.orders.specs.Work.{moves, remade, reduced}
 use Rattle.book.specs.declared.Clock.{Clock}
 use Rattle.book.specs.declared.Works.{Works}
 use Rattle.book.specs.declared.Plan.{Plan}
@@ -58,14 +57,6 @@ unfoldable pub upon : Target → (ℕ → Row → Plan) → Plan
 upon (Rule n) f = Stop n
 upon (Order i r) f = f i r
 
--- "side (buy 0, sell 1)"
-unfoldable pub sideOf : ℕ → ℕ
-sideOf x = pick (eqb x 66) 0 1
-
--- "Flag bit 0 set"
-unfoldable pub moves : ℕ → Bool
-moves flags = eqb (flags % 2) 1
-
 -- "order ID, symbol ID times 2 plus side (buy 0, sell 1), price, size, rank", "rank = sequence number"
 unfoldable pub rowFor : AddOrder → ℕ → Row
 rowFor m n = record { order = m .order; key = keyFor (m .symbol) (sideOf (m .side)); price = m .price; size = m .size; rank = n }
@@ -87,25 +78,25 @@ addPlan c m n entry order free = ofKnown entry (λ e. roomFor c (rowFor m n) ord
 
 -- "Modify: 20; order not live 22; live under another symbol 23. Price and size are replaced. Flag bit 0 set: rank becomes this sequence number.
 -- Clear: the rank stays, whatever changed."
-abbrev pub modified : Clock → ModifyOrder → ℕ → ℕ → Row → Plan
-modified c m n i r = onRows c (RowWork.Put i (remade (m .price) (m .size) (moves (m .flags)) n r))
+abbrev pub modifyAt : Clock → ModifyOrder → ℕ → ℕ → Row → Plan
+modifyAt c m n i r = onRows c (RowWork.Put i (remade (m .price) (m .size) (moves (m .flags)) n r))
 
 unfoldable pub modifyPlan : Clock → ModifyOrder → ℕ → Found → Held → Plan
-modifyPlan c m n entry order = ofKnown entry (λ e. upon (target order (m .symbol)) (modified c m n))
+modifyPlan c m n entry order = ofKnown entry (λ e. upon (target order (m .symbol)) (modifyAt c m n))
 
 -- "Delete: 20, 22, 23. The row becomes all zero and may be used again."
-abbrev pub deleted : Clock → ℕ → Row → Plan
-deleted c i r = onRows c (RowWork.Put i zeroRow)
+abbrev pub deleteAt : Clock → ℕ → Row → Plan
+deleteAt c i r = onRows c (RowWork.Put i zeroRow)
 
 unfoldable pub deletePlan : Clock → DeleteOrder → Found → Held → Plan
-deletePlan c m entry order = ofKnown entry (λ e. upon (target order (m .symbol)) (deleted c))
+deletePlan c m entry order = ofKnown entry (λ e. upon (target order (m .symbol)) (deleteAt c))
 
 -- "Order Execution: 20, 22, 23; executed size above the order's 24. The size falls; at zero the order leaves, because no Delete follows a trade (4.6)."
-abbrev pub executed : Clock → OrderExecution → ℕ → Row → Plan
-executed c m i r = pick (ltb (r .size) (m .size)) (Stop 24) (onRows c (RowWork.Put i (reduced (m .size) r)))
+abbrev pub executeAt : Clock → OrderExecution → ℕ → Row → Plan
+executeAt c m i r = pick (ltb (r .size) (m .size)) (Stop 24) (onRows c (RowWork.Put i (reduced (m .size) r)))
 
 unfoldable pub executionPlan : Clock → OrderExecution → Found → Held → Plan
-executionPlan c m entry order = ofKnown entry (λ e. upon (target order (m .symbol)) (executed c m))
+executionPlan c m entry order = ofKnown entry (λ e. upon (target order (m .symbol)) (executeAt c m))
 
 -- "Symbol Clear (4.5): 20. Every live row of that symbol becomes all zero."
 unfoldable pub clearPlan : Clock → SymbolClear → Found → Plan
@@ -115,7 +106,7 @@ clearPlan c m entry = ofKnown entry (λ e. onRows c (RowWork.Clear (m .symbol)))
 -- what the searches for it would find: the order of an ID, a free row, the entry of a symbol, and the entry that its update takes
 pub record Finds : Type 0 where
   pub order : ℕ → Held
-  pub free : Found
+  pub freeRow : Found
   pub entry : ℕ → Found
   pub room : ℕ → Found
 
@@ -123,7 +114,7 @@ unfoldable pub planBy : Body → ℕ → List ℕ → Clock → Finds → Plan
 -- "System Time sets the current second."
 planBy (Body.SystemTime s) n b c f = idle (clock s)
 planBy Body.SymbolUpdate n b c f = updatePlan c (f .room (idOf b))
-planBy (Body.Add m) n b c f = addPlan c m n (f .entry (m .symbol)) (f .order (m .order)) (f .free)
+planBy (Body.Add m) n b c f = addPlan c m n (f .entry (m .symbol)) (f .order (m .order)) (f .freeRow)
 planBy (Body.Modify m) n b c f = modifyPlan c m n (f .entry (m .symbol)) (f .order (m .order))
 planBy (Body.Delete m) n b c f = deletePlan c m (f .entry (m .symbol)) (f .order (m .order))
 planBy (Body.Execution m) n b c f = executionPlan c m (f .entry (m .symbol)) (f .order (m .order))

@@ -17,7 +17,7 @@ ghost use Rattle.rows.specs.Rows.{rows};
 ghost use Rattle.rows.specs.Find.{findFree};
 ghost use Rattle.symbols.specs.Entries.{entries, idOf};
 ghost use Rattle.symbols.specs.Find.{findSymbol, placeFor};
-ghost use Rattle.book.specs.Plan.{sideOf, moves, rowFor, onRows, idle, ofKnown, target, roomFor, addPlan, modifyPlan, deletePlan, executionPlan, clearPlan, updatePlan};
+ghost use Rattle.book.specs.Plan.{rowFor, onRows, idle, ofKnown, target, roomFor, addPlan, modifyPlan, deletePlan, executionPlan, clearPlan, updatePlan};
 ghost use Rattle.book.specs.Book.{orderIn, book, effect, planned, applied};
 
 // What a book has by value: the current second.
@@ -50,23 +50,11 @@ pub struct Applied {
     pub clock: Clock,
 }
 
-fn side_of(x: u8) -> u8
-    ensures { λ r. ⌜ r ≡ sideOf x ⌝ }
-{
-    if x == b'B' { 0 } else { 1 }
-}
-
-fn loses_place(flags: u8) -> bool
-    ensures { λ r. ⌜ r ≡ moves flags ⌝ }
-{
-    flags % 2 == 1
-}
-
 // The row of a new order; its rank is the message's sequence number.
 pub fn row_for(m: AddOrder, number: u64) -> Row
     ensures { λ r. ⌜ r ≡ rowFor m number ⌝ }
 {
-    let key = rows::key_for(m.symbol, side_of(m.side));
+    let key = rows::key_for(m.symbol, rows::side_of(m.side));
     Row {
         order: m.order,
         key,
@@ -149,7 +137,7 @@ pub fn modify_plan(clock: Clock, m: ModifyOrder, number: u64, entry: Found, orde
     match target_of(order, m.symbol) {
         Target::Rule(n) => of_known(entry, Plan::Stop(n)),
         Target::Order(i, r) => {
-            let moved = loses_place(m.flags);
+            let moved = orders::loses_place(m.flags);
             let new = orders::remake(r, m.price, m.size as u64, moved, number);
             of_known(entry, on_rows(clock, RowWork::Put(i, new)))
         }

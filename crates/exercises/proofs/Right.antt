@@ -15,6 +15,7 @@ use Rattle.body.specs.Faults as faults
 use Rattle.body.specs.Read as read
 use Rattle.packet.specs.Record as head
 use Rattle.packet.specs.Packet as packet
+use Rattle.rows.specs.Keys as keys
 use Rattle.rows.specs.Rows as rows
 use Rattle.rows.specs.Find as find-row
 use Rattle.ascend.specs.Ascend as ascend
@@ -55,14 +56,14 @@ unfolding table
     read.framed read.judged read.readBody read.goodBody
     head.numberOk head.bodyOf head.bodyJudged head.readRecord
     packet.before packet.behind packet.framesFrom packet.framing
-    rows.rowOf rows.numbersOf rows.rows rows.putRow rows.zeroRow rows.free rows.live rows.maxRows rows.goodRows
+    rows.rowOf rows.numbersOf rows.rows rows.putRow rows.zeroRow rows.free rows.live rows.goodRows
     find-row.isOrder find-row.findOrder find-row.heldAt find-row.findFree find-row.ofKey
     ascend.ins ascend.places
-    entries.entrySize entries.maxEntries entries.goodEntries entries.entries entries.entryOf entries.putEntry entries.used entries.freeEntry
+    entries.goodEntries entries.entries entries.entryOf entries.putEntry entries.used entries.freeEntry
     find-entry.isSymbol find-entry.findSymbol find-entry.findFreeEntry find-entry.knownSymbol find-entry.placeFor
     entry-work.entered
     row-work.remade row-work.reduced row-work.committed
-    plan.ofKnown plan.target plan.upon plan.sideOf plan.moves plan.rowFor plan.updatePlan plan.roomFor plan.addPlan plan.modifyPlan plan.executionPlan plan.planBy
+    plan.ofKnown plan.target plan.upon keys.sideOf row-work.moves plan.rowFor plan.updatePlan plan.roomFor plan.addPlan plan.modifyPlan plan.executionPlan plan.planBy
     book.planned book.carried book.applied
     ladder.keyOf ladder.far ladder.placesOf ladder.prices
     spread.between spread.spreadOf

@@ -14,7 +14,7 @@ use Rattle.fields.specs.Fields.{refusal}
 use Rattle.rows.specs.declared.Row.{Row}
 use Rattle.rows.specs.Rows.{rows, zeroRow}
 use Rattle.rows.specs.Find.{findOrder}
-use Rattle.symbols.specs.Entries.{entrySize}
+use Rattle.facts.specs.Limits.{entrySize}
 use Rattle.views.specs.declared.SpreadAnswer.{SpreadAnswer}
 use Rattle.views.specs.Views.{spreadView}
 use Rattle.arbitration.specs.Slots.{sameBytes}

@@ -22,10 +22,10 @@ module _ (n : ℕ) (r : Row) where
 
 -- ---- a Symbol Clear
 module _ (symbol : ℕ) (r : Row) where
-  pub wiped-yes : ofSymbol symbol r ≡ true → wiped symbol r ≡ zeroRow
-  unfolding wiped pick
-  wiped-yes e = rw e
-
   pub wiped-no : ofSymbol symbol r ≡ false → wiped symbol r ≡ r
   unfolding wiped pick
   wiped-no e = rw e
+
+  pub wiped-yes : ofSymbol symbol r ≡ true → wiped symbol r ≡ zeroRow
+  unfolding wiped pick
+  wiped-yes e = rw e

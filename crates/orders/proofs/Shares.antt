@@ -2,13 +2,13 @@
 -- Assumes nothing.
 use mathlib.Core.Path.{_≡_, refl, sym, ap, _∙_}
 use mathlib.Core.List.{List}
-use mathlib.Core.Bool.{Bool, true, false}
+use mathlib.Core.Bool.{Bool, true}
 use Prim.Native.Nat.{ℕ, _+_, _-_, _≤_}
 use native.Mathlib.Nat.{add-zero}
 use native.Mathlib.Omega.{arith}
 use lib.Dec.{eqb}
 use borrow.Author.Tests.{eqb-true, eqb-false}
-use Rattle.facts.specs.Pick.{pick}
+use Rattle.facts.specs.Limits.{mostPrice}
 use Rattle.facts.specs.Sums.{sumBy}
 use Rattle.facts.proofs.Picks.{pick-ind}
 use Rattle.facts.proofs.SumLaws.{sum-set, sum-map-as, sum-zero, only-no}
@@ -18,26 +18,13 @@ use Rattle.rows.specs.Find.{ofSymbol}
 use Rattle.rows.proofs.Judged.{free-not-live, symbol-is, other-symbol, live-ranges, ranges-live}
 use Rattle.orders.specs.Work.{remade, less, reduced, wiped, cleared}
 use Rattle.rows.specs.Shares.{shareOf, liveShares, under}
-use Rattle.rows.proofs.Shares.{share-dead, share-live, zero-share}
+use Rattle.rows.proofs.Shares.{share-dead, share-live, zero-share, under-none, under-split}
 use Rattle.orders.proofs.Applied.{row, Became, Added, Named}
 use Rattle.orders.proofs.Clears.{wiped-gone, clear-rows}
 
 -- ---- any measure of a row, summed
 pub became-sum : (f : Row → ℕ) (t u : List ℕ) (i : ℕ) (r : Row) → Became t u i r → sumBy f (rows u) + f (row t i) ≡ sumBy f (rows t) + f r
 became-sum f t u i r b = rw (b .all) (sum-set f (rows t) i r zeroRow (b .there))
-
--- ---- shares of a message's symbol
-under-none : (s own : ℕ) → under s own 0 ≡ 0
-unfolding under
-under-none s own = pick-ind (λ k. k ≡ 0) (eqb own s) 0 0 (λ e. refl) (λ e. refl)
-
-under-split : (s own a b : ℕ) → b ≤ a → under s own (a - b) + under s own b ≡ under s own a
-unfolding under pick
-under-split s own a b h = go (eqb own s)
-  where
-    go : (c : Bool) → pick c (a - b) 0 + pick c b 0 ≡ pick c a 0
-    go true = omega arith
-    go false = refl
 
 -- ---- Add: the new row's shares come
 pub add-shares : (s : ℕ) (new : Row) (t u : List ℕ) → Added new t u → live new ≡ true → liveShares s (rows u) ≡ liveShares s (rows t) + under s (symbolOf new) (new .size)
@@ -66,7 +53,7 @@ modify-shares s order symbol price size moved number t u n l =
     ∙ ap (λ k. liveShares s (rows t) + k) (share-live s (remade price size moved number (row t (n .place))) l ∙ ap (λ k. under s k size) (n .was-under))
 
 -- and it does, with a price, a size and a number in range
-pub remade-live : (price size : ℕ) (moved : Bool) (number : ℕ) (r : Row) → live r ≡ true → 1 ≤ price → price ≤ 1000000000000000 → 1 ≤ size → size ≤ 4294967295 → 1 ≤ number
+pub remade-live : (price size : ℕ) (moved : Bool) (number : ℕ) (r : Row) → live r ≡ true → 1 ≤ price → price ≤ mostPrice → 1 ≤ size → size ≤ 4294967295 → 1 ≤ number
     → live (remade price size moved number r) ≡ true
 unfolding remade
 remade-live price size moved number r l a b c d e =

@@ -12,7 +12,7 @@ use Rattle.facts.proofs.Picks.{pick-ind}
 use Rattle.rows.specs.declared.Row.{Row}
 use Rattle.rows.specs.Rows.{zeroRow, free, live, spoiled}
 use Rattle.rows.specs.Find.{ofSymbol}
-use Rattle.rows.proofs.Judged.{Kind, is-free, is-live, is-spoiled, one-kind, zero-free}
+use Rattle.rows.proofs.Judged.{RowState, row-is-free, row-is-live, row-is-spoiled, row-state, zero-free}
 use Rattle.orders.specs.Work.{less, reduced, wiped, cleared}
 use Rattle.orders.proofs.Applied.{row, Became, Added, Named}
 use Rattle.orders.proofs.Clears.{clear-row}
@@ -23,21 +23,21 @@ abbrev pub Sane : Row → Type 0
 Sane r = (live r ≡ true) ⊎ (free r ≡ true)
 
 pub sane-unspoiled : (r : Row) → Sane r → spoiled r ≡ false
-sane-unspoiled r s = go (one-kind r) s
+sane-unspoiled r s = go (row-state r) s
   where
-    go : Kind r → Sane r → spoiled r ≡ false
-    go (is-free p q x) s = x
-    go (is-live p q x) s = x
-    go (is-spoiled p q x) (inl l) = absurd (true≢false (sym l ∙ q))
-    go (is-spoiled p q x) (inr f) = absurd (true≢false (sym f ∙ p))
+    go : RowState r → Sane r → spoiled r ≡ false
+    go (row-is-free p q x) s = x
+    go (row-is-live p q x) s = x
+    go (row-is-spoiled p q x) (inl l) = absurd (true≢false (sym l ∙ q))
+    go (row-is-spoiled p q x) (inr f) = absurd (true≢false (sym f ∙ p))
 
 pub unspoiled-sane : (r : Row) → spoiled r ≡ false → Sane r
-unspoiled-sane r h = go (one-kind r)
+unspoiled-sane r h = go (row-state r)
   where
-    go : Kind r → Sane r
-    go (is-free p q x) = inr p
-    go (is-live p q x) = inl q
-    go (is-spoiled p q x) = absurd (true≢false (sym x ∙ h))
+    go : RowState r → Sane r
+    go (row-is-free p q x) = inr p
+    go (row-is-live p q x) = inl q
+    go (row-is-spoiled p q x) = absurd (true≢false (sym x ∙ h))
 
 -- ---- one row put
 pub became-sane : (t u : List ℕ) (i : ℕ) (r : Row) → Became t u i r → Sane r → (j : ℕ) → Sane (row t j) → Sane (row u j)

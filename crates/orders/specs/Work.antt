@@ -1,5 +1,5 @@
 -- What is done with the order table, and what becomes of a row (document 01, "Book rules"); which message asks for it is said in book's Plan.
-use Prim.Native.Nat.{ℕ, _-_}
+use Prim.Native.Nat.{ℕ, _-_, _%_}
 use mathlib.Core.List.{List, _++_, map}
 use mathlib.Core.Bool.{Bool}
 use lib.Dec.{eqb}
@@ -11,6 +11,10 @@ use Rattle.orders.specs.declared.RowWork.{RowWork}
 use Rattle.orders.specs.declared.RowWork.the-variants.{Keep, Put, Clear}
 
 -- ---- what becomes of a row
+-- "Flag bit 0 set"
+unfoldable pub moves : ℕ → Bool
+moves flags = eqb (flags % 2) 1
+
 -- Modify: "Price and size are replaced. Flag bit 0 set: rank becomes this sequence number. Clear: the rank stays, whatever changed"
 unfoldable pub remade : ℕ → ℕ → Bool → ℕ → Row → Row
 remade price size moved number r =

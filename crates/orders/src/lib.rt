@@ -4,13 +4,20 @@ use rows::Row;
 ghost use mathlib.Core.Path.{_≡_};
 ghost use lib.ListN.{getD};
 ghost use Rattle.rows.specs.Rows.{rows, putRow, zeroRow};
-ghost use Rattle.orders.specs.Work.{remade, reduced, wiped, cleared, committed};
+ghost use Rattle.orders.specs.Work.{moves, remade, reduced, wiped, cleared, committed};
 
 // The work of a message on the order table: a row at its place, or the symbol whose rows go.
 pub enum RowWork {
     Keep,
     Put(usize, Row),
     Clear(u32),
+}
+
+// Bit 0 of a Modify's flags.
+pub fn loses_place(flags: u8) -> bool
+    ensures { λ r. ⌜ r ≡ moves flags ⌝ }
+{
+    flags % 2 == 1
 }
 
 // Whoever moves to the back takes the sequence number as rank.

@@ -6,13 +6,13 @@ use Prim.Native.Nat.{ℕ, _≤_, _<_}
 use native.Mathlib.Omega.{arith}
 use lib.Dec.{eqb}
 use borrow.Author.Tests.{le-leb, lt-ltb, eq-eqb, ne-eqb, leb-true, ltb-true, eqb-true}
+use Rattle.facts.specs.Limits.{mostPrice, mostRows}
 use Rattle.facts.specs.Pick.{both, either}
 use Rattle.facts.proofs.Picks.{refuted, both-true}
 use Rattle.facts.proofs.TableLaws.{Fits, good-fits, fits-good}
 use Rattle.rows.specs.declared.Row.{Row}
-use Rattle.rows.specs.Rows.{zeroRow, symbolOf, free, live, spoiled, maxRows, goodRows}
+use Rattle.rows.specs.Rows.{zeroRow, symbolOf, free, live, spoiled, goodRows}
 use Rattle.rows.specs.Find.{isOrder, ofSymbol, ofKey}
-use Rattle.rows.proofs.Tables.{row-eq}
 
 -- ---- free
 pub record Zeros (r : Row) : Type 0 where
@@ -38,10 +38,6 @@ zeros-free r z = simp (z .order, z .key, z .price, z .size, z .rank)
 pub not-free : (r : Row) → (Zeros r → ⊥) → false ≡ free r
 not-free r h = refuted (free r) (λ e. h (free-zeros r e))
 
-pub free-is-zero : (r : Row) → free r ≡ true → r ≡ zeroRow
-unfolding zeroRow
-free-is-zero r e = let z = free-zeros r e in row-eq _ _ (z .order) (z .key) (z .price) (z .size) (z .rank)
-
 pub zero-free : free zeroRow ≡ true
 unfolding free zeroRow both
 zero-free = refl
@@ -51,7 +47,7 @@ pub record Ranges (r : Row) : Type 0 where
   pub ranked : 1 ≤ r .rank
   pub symbol : symbolOf r < 4294967296
   pub priced : 1 ≤ r .price
-  pub price-top : r .price ≤ 1000000000000000
+  pub price-top : r .price ≤ mostPrice
   pub sized : 1 ≤ r .size
   pub size-top : r .size ≤ 4294967295
 
@@ -86,19 +82,19 @@ live-not-free r l = sym (not-free r (λ z. omega (arith, live-ranges r l .ranked
 pub free-not-live : (r : Row) → free r ≡ true → live r ≡ false
 free-not-live r f = sym (not-live r (λ w. omega (arith, w .ranked, free-zeros r f .rank)))
 
-pub data Kind (r : Row) : Type 0 where
-  is-free : free r ≡ true → live r ≡ false → spoiled r ≡ false → Kind r
-  is-live : free r ≡ false → live r ≡ true → spoiled r ≡ false → Kind r
-  is-spoiled : free r ≡ false → live r ≡ false → spoiled r ≡ true → Kind r
+pub data RowState (r : Row) : Type 0 where
+  row-is-free : free r ≡ true → live r ≡ false → spoiled r ≡ false → RowState r
+  row-is-live : free r ≡ false → live r ≡ true → spoiled r ≡ false → RowState r
+  row-is-spoiled : free r ≡ false → live r ≡ false → spoiled r ≡ true → RowState r
 
-pub one-kind : (r : Row) → Kind r
+pub row-state : (r : Row) → RowState r
 unfolding spoiled either
-one-kind r = go (free r) refl (live r) refl
+row-state r = go (free r) refl (live r) refl
   where
-    go : (f : Bool) → free r ≡ f → (l : Bool) → live r ≡ l → Kind r
-    go true p l q = is-free p (free-not-live r p) (rw p)
-    go false p true q = is-live p q (rw (p, q))
-    go false p false q = is-spoiled p q (rw (p, q))
+    go : (f : Bool) → free r ≡ f → (l : Bool) → live r ≡ l → RowState r
+    go true p l q = row-is-free p (free-not-live r p) (rw p)
+    go false p true q = row-is-live p q (rw (p, q))
+    go false p false q = row-is-spoiled p q (rw (p, q))
 
 pub zero-not-live : live zeroRow ≡ false
 zero-not-live = free-not-live zeroRow zero-free
@@ -108,31 +104,30 @@ unfolding spoiled either
 zero-unspoiled = rw zero-free refl
 
 pub spoiled-not-live : (r : Row) → spoiled r ≡ true → live r ≡ false
-spoiled-not-live r e = go (one-kind r)
+spoiled-not-live r e = go (row-state r)
   where
-    go : Kind r → live r ≡ false
-    go (is-free p q s) = q
-    go (is-live p q s) = absurd (true≢false (sym e ∙ s))
-    go (is-spoiled p q s) = q
+    go : RowState r → live r ≡ false
+    go (row-is-free p q s) = q
+    go (row-is-live p q s) = absurd (true≢false (sym e ∙ s))
+    go (row-is-spoiled p q s) = q
 
 -- ---- sizes of tables
-abbrev pub Good : ℕ → Type 0
-Good = Fits 5 maxRows
+abbrev pub RowsFit : ℕ → Type 0
+RowsFit = Fits 5 mostRows
 
-pub good-rows : (n : ℕ) → goodRows n ≡ true → Good n
+pub good-rows : (n : ℕ) → goodRows n ≡ true → RowsFit n
 unfolding goodRows
-good-rows n e = good-fits 5 maxRows n e
+good-rows n e = good-fits 5 mostRows n e
 
-pub rows-good : (n : ℕ) → Good n → goodRows n ≡ true
+pub rows-good : (n : ℕ) → RowsFit n → goodRows n ≡ true
 unfolding goodRows
-rows-good n h = fits-good 5 maxRows n h
+rows-good n h = fits-good 5 mostRows n h
 
-pub not-good : (n : ℕ) → (Good n → ⊥) → false ≡ goodRows n
-not-good n h = refuted (goodRows n) (λ e. h (good-rows n e))
+pub rows-not-good : (n : ℕ) → (RowsFit n → ⊥) → false ≡ goodRows n
+rows-not-good n h = refuted (goodRows n) (λ e. h (good-rows n e))
 
 -- the most rows there may be, for bounds of sums and places
-pub rows-fit : maxRows ≤ 16384
-unfolding maxRows
+pub rows-fit : mostRows ≤ 16384
 rows-fit = omega arith
 
 -- ---- a number that decides before the row is judged

@@ -1,11 +1,13 @@
 -- A number is twice its half and what is left of it, so a key gives back its symbol and side, and no other pair with a side of 0 or 1 has that key.
 -- Assumes nothing.
-use mathlib.Core.Path.{_≡_, refl, sym, _∙_}
-use mathlib.Core.Bool.{Bool, true, false}
+use mathlib.Core.Path.{_≡_, sym}
+use mathlib.Core.Bool.{true}
 use Prim.Native.Nat.{ℕ, _≤_, _<_}
 use native.Mathlib.Omega.{arith}
+use lib.Dec.{eqb}
+use Rattle.facts.proofs.Picks.{pick-ind}
 use Rattle.rows.specs.declared.Row.{Row}
-use Rattle.rows.specs.Keys.{keyFor, symbolIn, sideIn}
+use Rattle.rows.specs.Keys.{keyFor, symbolIn, sideIn, sideOf}
 use Rattle.rows.specs.Rows.{live}
 use Rattle.rows.specs.Find.{ofKey}
 use Rattle.rows.proofs.Judged.{live-ranges, key-is, of-key}
@@ -20,6 +22,10 @@ module _ (s d : ℕ) (h : d ≤ 1) where
 
 pub key-back : (k : ℕ) → keyFor (symbolIn k) (sideIn k) ≡ k
 key-back k = omega arith
+
+pub side-small : (x : ℕ) → sideOf x ≤ 1
+unfolding sideOf
+side-small x = pick-ind (λ n. n ≤ 1) (eqb x 66) 0 1 (λ _. omega arith) (λ _. omega arith)
 
 pub side-most : (k : ℕ) → sideIn k ≤ 1
 side-most k = omega arith

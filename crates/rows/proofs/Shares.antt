@@ -1,15 +1,16 @@
 -- A live row counts for its own symbol and its own key, so a symbol's shares are those of its two keys.
 -- Assumes nothing.
-use mathlib.Core.Path.{_≡_, refl, sym, _∙_}
-use mathlib.Core.List.{List, [], _∷_}
+use mathlib.Core.Path.{_≡_, refl, _∙_}
+use mathlib.Core.List.{List}
 use mathlib.Core.Bool.{Bool, true, false}
-use Prim.Native.Nat.{ℕ, _+_}
+use Prim.Native.Nat.{ℕ, _+_, _-_, _≤_}
 use native.Mathlib.Omega.{arith}
 use native.Mathlib.Decide.{ℕ-discrete}
 use lib.Dec.{eqb}
 use borrow.Author.Tests.{eq-eqb, ne-eqb}
 use Rattle.facts.specs.Pick.{pick, both}
 use Rattle.facts.specs.Sums.{sumBy, onlyIf}
+use Rattle.facts.proofs.Picks.{pick-ind}
 use Rattle.facts.proofs.SumLaws.{sum-add, only-no}
 use Rattle.rows.specs.declared.Row.{Row}
 use Rattle.rows.specs.Keys.{keyFor, symbolIn}
@@ -40,6 +41,20 @@ module _ (s : ℕ) (r : Row) where
 
 pub zero-share : (s : ℕ) → shareOf s zeroRow ≡ 0
 zero-share s = share-dead s zeroRow zero-not-live
+
+-- ---- shares of a message's symbol, as any symbol counts them
+module _ (s own : ℕ) where
+  pub under-none : under s own 0 ≡ 0
+  unfolding under
+  under-none = pick-ind (λ k. k ≡ 0) (eqb own s) 0 0 (λ e. refl) (λ e. refl)
+
+  pub under-split : (a b : ℕ) → b ≤ a → under s own (a - b) + under s own b ≡ under s own a
+  unfolding under pick
+  under-split a b h = go (eqb own s)
+    where
+      go : (c : Bool) → pick c (a - b) 0 + pick c b 0 ≡ pick c a 0
+      go true = omega arith
+      go false = refl
 
 -- ---- live shares of a symbol are those under its two keys
 pub shares-split : (s : ℕ) (rs : List Row) → liveShares s rs ≡ keyShares (keyFor s 0) rs + keyShares (keyFor s 1) rs

@@ -3,15 +3,15 @@
 use mathlib.Core.Path.{_≡_, refl, sym, ap, _∙_}
 use mathlib.Core.List.{List, [], _∷_, _++_, map}
 use mathlib.Core.Bool.{Bool, true, false}
-use Prim.Native.Nat.{ℕ, suc, _+_, _*_, _/_, _%_, _≤_, _<_}
+use Prim.Native.Nat.{ℕ, suc, _+_, _*_, _/_, _≤_, _<_}
 use native.Mathlib.Nat.{add-zero, mod-lt, mod-def}
 use native.Mathlib.Omega.{arith}
 use lib.ListN.{length, getD, set, take, drop, replicate, length-replicate, getD-replicate, length-drop, length-map, List·getD-map, List·getD-eq-default}
-use lib.Seq.{drop-at, getD-set-same, getD-set-other}
+use lib.Seq.{getD-set-same, getD-set-other}
 use lib.Dec.{ltb}
 use borrow.Author.Tests.{ltb-true, ltb-false}
 use Rattle.facts.specs.Pieces.{pieces}
-use Rattle.facts.proofs.PieceLaws.{length-pieces, getD-pieces, getD-piece, put-in, put-out, length-put, put-self, pieces-replicate, map-replicate, length-piece, length-join, wide-map, values-put, values-join, join-values, rest-put, rest-values, values-rest}
+use Rattle.facts.proofs.PieceLaws.{length-pieces, getD-pieces, getD-piece, put-in, put-out, length-put, put-self, pieces-replicate, map-replicate, length-piece, length-join, wide-map, values-put, values-join, rest-put, rest-values, values-rest}
 use Rattle.rows.specs.declared.Row.{Row}
 use Rattle.rows.specs.Rows.{rowOf, numbersOf, rows, rowCount, rest, flat, putRow, zeroRow}
 
@@ -50,10 +50,6 @@ pub rows-flat : (rs : List Row) → rows (flat rs) ≡ rs
 unfolding rows flat
 rows-flat rs = values-join 5 rowOf numbersOf (omega arith) length-numbers row-numbers rs
 
-pub flat-rows : (t : List ℕ) → length t % 5 ≡ 0 → flat (rows t) ≡ t
-unfolding rows flat
-flat-rows t h = join-values 5 rowOf numbersOf numbers-row t h
-
 pub length-put-row : (t : List ℕ) (i : ℕ) (r : Row) → length (putRow t i r) ≡ length t
 unfolding putRow
 length-put-row t i r = length-put 5 t i (numbersOf r)
@@ -61,9 +57,6 @@ length-put-row t i r = length-put 5 t i (numbersOf r)
 pub rows-put : (t : List ℕ) (i : ℕ) (r : Row) → rows (putRow t i r) ≡ set (rows t) i r
 unfolding rows putRow
 rows-put t i r = values-put 5 rowOf numbersOf length-numbers row-numbers t i r
-
-pub put-flat : (t : List ℕ) (i : ℕ) (r : Row) → length t % 5 ≡ 0 → putRow t i r ≡ flat (set (rows t) i r)
-put-flat t i r h = sym (flat-rows (putRow t i r) (rw length-put-row h)) ∙ ap flat (rows-put t i r)
 
 pub rows-zero : (n : ℕ) → rows (replicate n 0) ≡ replicate (n / 5) zeroRow
 unfolding rows rowOf zeroRow
@@ -89,12 +82,6 @@ flat-rest t = values-rest 5 rowOf numbersOf numbers-row t
 pub rows-rest : (rs : List Row) (x : List ℕ) → length x < 5 → rows (flat rs ++ x) ≡ rs
 unfolding rows flat
 rows-rest rs x h = rest-values 5 rowOf numbersOf length-numbers row-numbers rs x h
-
-pub rest-rest : (rs : List Row) (x : List ℕ) → length x < 5 → rest (flat rs ++ x) ≡ x
-unfolding rest
-rest-rest rs x h =
-    let n : length (flat rs ++ x) / 5 ≡ length rs = sym (length-rows (flat rs ++ x)) ∙ ap length (rows-rest rs x h) in
-    rw n (drop-at (flat rs) x (5 * length rs) (length-flat rs))
 
 pub rest-put-row : (t : List ℕ) (i : ℕ) (r : Row) → rest (putRow t i r) ≡ rest t
 unfolding rest putRow
@@ -138,9 +125,9 @@ row-written t i r h =
     let e4 : 5 * i + 4 ≡ suc (suc (suc (suc (5 * i)))) = omega arith in
     rw (put-in 5 t i (numbersOf r) h, e1, e2, e3, e4)
 
-pub put-past : (t : List ℕ) (i : ℕ) (r : Row) → rowCount t ≤ i → putRow t i r ≡ t
+pub put-row-past : (t : List ℕ) (i : ℕ) (r : Row) → rowCount t ≤ i → putRow t i r ≡ t
 unfolding putRow
-put-past t i r h = put-out 5 t i (numbersOf r) h
+put-row-past t i r h = put-out 5 t i (numbersOf r) h
 
 -- a row put where it lies already
 pub put-row-self : (t : List ℕ) (i : ℕ) → putRow t i (getD (rows t) i zeroRow) ≡ t
@@ -151,4 +138,4 @@ put-row-self t i = go (ltb i (rowCount t)) refl
     go true e =
         let h : i < rowCount t = ltb-true i (rowCount t) e in
         rw (getD-rows t i, getD-pieces 5 t i [] h, numbers-row (take 5 (drop (5 * i) t)) (length-piece 5 t i h)) (put-self 5 t i)
-    go false e = put-past t i (getD (rows t) i zeroRow) (ltb-false i (rowCount t) e)
+    go false e = put-row-past t i (getD (rows t) i zeroRow) (ltb-false i (rowCount t) e)

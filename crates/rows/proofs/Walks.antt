@@ -38,9 +38,9 @@ pub order-below : (id : ℕ) (t : List ℕ) (i : ℕ) → findOrder id (rows t) 
 unfolding findOrder
 order-below id t i e = row-below (isOrder id) t i e
 
-pub free-below : (t : List ℕ) (i : ℕ) → findFree (rows t) ≡ At i → (i < rowCount t) × (free (getD (rows t) i zeroRow) ≡ true)
+pub free-row-below : (t : List ℕ) (i : ℕ) → findFree (rows t) ≡ At i → (i < rowCount t) × (free (getD (rows t) i zeroRow) ≡ true)
 unfolding findFree
-free-below t i e = row-below free t i e
+free-row-below t i e = row-below free t i e
 
 -- ---- sums and counts: a walk at row i
 module _ (f : Row → ℕ) (t : List ℕ) (i : ℕ) where

@@ -4,6 +4,7 @@ use mathlib.Core.List.{List, [], _∷_, map}
 use mathlib.Core.Bool.{Bool, not}
 use lib.ListN.{length, getD, drop}
 use lib.Dec.{ltb, leb, eqb}
+use Rattle.facts.specs.Limits.{mostPrice, mostRows}
 use Rattle.facts.specs.Pick.{both, either}
 use Rattle.facts.specs.Pieces.{pieces, join, putPiece}
 use Rattle.rows.specs.declared.Row.{Row}
@@ -52,16 +53,12 @@ unfoldable pub live : Row → Bool
 live r =
     both (leb 1 (r .rank))
     (both (ltb (symbolOf r) 4294967296)
-    (both (leb 1 (r .price)) (both (leb (r .price) 1000000000000000) (both (leb 1 (r .size)) (leb (r .size) 4294967295)))))
+    (both (leb 1 (r .price)) (both (leb (r .price) mostPrice) (both (leb 1 (r .size)) (leb (r .size) 4294967295)))))
 
 -- "Any other is spoiled, neither free nor live"
 unfoldable pub spoiled : Row → Bool
 spoiled r = not (either (free r) (live r))
 
--- "Capacity 1 to 1,600 rows"
-unfoldable pub maxRows : ℕ
-maxRows = 1600
-
--- no refusal 6 for a table of n numbers ("a table size outside these limits or not in whole rows")
+-- no refusal 6 for a table of n numbers ("Capacity 1 to 1,600 rows"; "a table size outside these limits or not in whole rows")
 unfoldable pub goodRows : ℕ → Bool
-goodRows n = both (eqb (n % 5) 0) (both (leb 1 (n / 5)) (leb (n / 5) maxRows))
+goodRows n = both (eqb (n % 5) 0) (both (leb 1 (n / 5)) (leb (n / 5) mostRows))

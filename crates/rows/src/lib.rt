@@ -2,13 +2,10 @@
 ghost use mathlib.Core.Path.{_≡_};
 ghost use Prim.Native.Nat.{_<_};
 ghost use lib.ListN.{length, getD, replicate};
-ghost use Rattle.rows.specs.Keys.{keyFor, symbolIn, sideIn};
+ghost use Rattle.rows.specs.Keys.{keyFor, symbolIn, sideIn, sideOf};
 ghost use Rattle.rows.specs.Rows.{rows, rowCount, putRow, zeroRow, free, live, goodRows};
 ghost use Rattle.rows.specs.Find.{isOrder, findOrder, findFree, heldAt, ofSymbol, ofKey, countLive};
 use facts::Found;
-
-// The most rows of a table.
-const MAX_ROWS: usize = 1600;
 
 // key: the symbol and the side, by `key_for`.
 pub struct Row {
@@ -42,6 +39,13 @@ pub fn side_in(key: u64) -> u64
     ensures { λ r. ⌜ r ≡ sideIn key ⌝ }
 {
     key % 2
+}
+
+// The side that a message's letter tells.
+pub fn side_of(letter: u8) -> u8
+    ensures { λ r. ⌜ r ≡ sideOf letter ⌝ }
+{
+    if letter == b'B' { 0 } else { 1 }
 }
 
 pub fn zero_row() -> Row
@@ -134,7 +138,7 @@ pub fn is_live(r: Row) -> bool
     if r.price < 1 {
         return false;
     }
-    if r.price > 1000000000000000 {
+    if r.price > facts::MOST_PRICE {
         return false;
     }
     if r.size < 1 {
@@ -184,7 +188,7 @@ pub fn good_rows(n: usize) -> bool
     if k < 1 {
         return false;
     }
-    if k > MAX_ROWS {
+    if k > facts::MOST_ROWS {
         return false;
     }
     true

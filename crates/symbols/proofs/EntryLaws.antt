@@ -3,55 +3,49 @@
 use mathlib.Core.Path.{_≡_, refl, sym, _∙_}
 use mathlib.Core.List.{List, [], _++_}
 use mathlib.Core.Bool.{Bool, true, false}
-use Prim.Native.Nat.{ℕ, _+_, _-_, _*_, _/_, _%_, _≤_, _<_}
+use Prim.Native.Nat.{ℕ, _+_, _-_, _*_, _/_, _≤_, _<_}
 use native.Mathlib.Omega.{arith}
 use lib.ListN.{length, getD, set, take, drop, replicate, length-replicate, getD-replicate, List·getD-eq-default}
 use lib.Dec.{ltb}
 use borrow.Author.Tests.{eq-eqb, ne-eqb, eqb-true, ltb-true, ltb-false}
+use Rattle.facts.specs.Limits.{entrySize, mostEntries}
 use Rattle.facts.specs.Pick.{pick, either}
 use Rattle.facts.specs.Pieces.{join}
 use Rattle.facts.proofs.Picks.{refuted}
-use Rattle.facts.proofs.PieceLaws.{Wide, length-pieces, getD-pieces, piece-fits, length-piece, length-put, put-out, pieces-put, join-pieces, wide-pieces, pieces-join, pieces-replicate, join-rest}
-use Rattle.facts.proofs.TableLaws.{no-rest, put-join-rest, part-put, Fits, good-fits, fits-good}
+use Rattle.facts.proofs.PieceLaws.{Wide, length-pieces, getD-pieces, piece-fits, length-piece, length-put, put-out, pieces-put, wide-pieces, pieces-replicate, join-rest}
+use Rattle.facts.proofs.TableLaws.{put-join-rest, part-put, Fits, good-fits, fits-good}
 use Rattle.wire.specs.Le.{padded}
 use Rattle.wire.proofs.Laws.{length-padded, getD-padded, field-padded, padded-whole}
 use Rattle.kinds.specs.Table.{table, lookup, lengthOf, typeOf, kindLength}
 use Rattle.kinds.specs.declared.Kind.{Kind}
-use Rattle.symbols.specs.Entries.{entrySize, maxEntries, goodEntries, entries, rest, entryOf, putEntry, used, freeEntry, spoiledEntry, idOf}
+use Rattle.symbols.specs.Entries.{goodEntries, entries, entriesRest, entryOf, putEntry, used, freeEntry, spoiledEntry, idOf}
 
 -- ---- the two numbers: what the laws need of them
 pub size-some : 0 < entrySize
-unfolding entrySize
 size-some = omega arith
 
 id-inside : 5 + 4 ≤ entrySize
-unfolding entrySize
 id-inside = omega arith
 
 -- "each the last Symbol Update body"
 pub size-is : kindLength Kind.SymbolUpdate ≡ entrySize
-unfolding entrySize kindLength lengthOf lookup table pick
+unfolding kindLength lengthOf lookup table pick
 size-is = refl
 
--- the most entries there may be, for bounds of counts and places
-pub entries-fit : maxEntries ≤ 16384
-unfolding maxEntries
-entries-fit = omega arith
-
 -- ---- sizes of tables
-abbrev pub Good : ℕ → Type 0
-Good = Fits entrySize maxEntries
+abbrev pub EntriesFit : ℕ → Type 0
+EntriesFit = Fits entrySize mostEntries
 
-pub good-entries : (n : ℕ) → goodEntries n ≡ true → Good n
+pub good-entries : (n : ℕ) → goodEntries n ≡ true → EntriesFit n
 unfolding goodEntries
-good-entries n e = good-fits entrySize maxEntries n e
+good-entries n e = good-fits entrySize mostEntries n e
 
-pub entries-good : (n : ℕ) → Good n → goodEntries n ≡ true
+pub entries-good : (n : ℕ) → EntriesFit n → goodEntries n ≡ true
 unfolding goodEntries
-entries-good n h = fits-good entrySize maxEntries n h
+entries-good n h = fits-good entrySize mostEntries n h
 
-pub not-good : (n : ℕ) → (Good n → ⊥) → false ≡ goodEntries n
-not-good n h = refuted (goodEntries n) (λ e. h (good-entries n e))
+pub entries-not-good : (n : ℕ) → (EntriesFit n → ⊥) → false ≡ goodEntries n
+entries-not-good n h = refuted (goodEntries n) (λ e. h (good-entries n e))
 
 -- ---- tables and their entries
 pub length-entries : (t : List ℕ) → length (entries t) ≡ length t / entrySize
@@ -80,22 +74,10 @@ pub wide-entries : (t : List ℕ) → Wide entrySize (entries t)
 unfolding entries
 wide-entries t = wide-pieces entrySize t
 
-pub entries-join : (es : List (List ℕ)) → Wide entrySize es → entries (join es) ≡ es
-unfolding entries
-entries-join es w = pieces-join entrySize es size-some w
-
-pub join-entries : (t : List ℕ) → length t % entrySize ≡ 0 → join (entries t) ≡ t
-unfolding entries
-join-entries t h = join-pieces entrySize t h
-
 -- bytes behind the last whole entry belong to the table as well
-pub entries-rest : (t : List ℕ) → join (entries t) ++ rest t ≡ t
-unfolding entries rest
+pub entries-rest : (t : List ℕ) → join (entries t) ++ entriesRest t ≡ t
+unfolding entries entriesRest
 entries-rest t = join-rest entrySize t
-
-pub rest-none : (t : List ℕ) → length t % entrySize ≡ 0 → rest t ≡ []
-unfolding rest
-rest-none t h = no-rest entrySize t h
 
 -- ---- a body as an entry
 pub length-entry-of : (b : List ℕ) → length (entryOf b) ≡ entrySize
@@ -132,9 +114,9 @@ pub entries-put : (t : List ℕ) (i : ℕ) (b : List ℕ) → entries (putEntry 
 unfolding entries putEntry
 entries-put t i b = pieces-put entrySize t i (entryOf b) (length-entry-of b)
 
-pub put-past : (t : List ℕ) (i : ℕ) (b : List ℕ) → length (entries t) ≤ i → putEntry t i b ≡ t
+pub put-entry-past : (t : List ℕ) (i : ℕ) (b : List ℕ) → length (entries t) ≤ i → putEntry t i b ≡ t
 unfolding entries putEntry
-put-past t i b h = put-out entrySize t i (entryOf b) (rw length-pieces at h)
+put-entry-past t i b h = put-out entrySize t i (entryOf b) (rw length-pieces at h)
 
 -- what a copy of the body into the part of an entry leaves
 pub entry-written : (t : List ℕ) (i : ℕ) (b y : List ℕ) → i < length (entries t)
@@ -148,8 +130,8 @@ entry-written t i b y h e =
     rw (k, f) (part-put entrySize t i (padded b 0 entrySize) g (length-padded b 0 entrySize))
 
 -- every byte of it
-pub put-bytes : (t : List ℕ) (i : ℕ) (b : List ℕ) → putEntry t i b ≡ join (set (entries t) i (entryOf b)) ++ rest t
-unfolding entries putEntry rest
+pub put-bytes : (t : List ℕ) (i : ℕ) (b : List ℕ) → putEntry t i b ≡ join (set (entries t) i (entryOf b)) ++ entriesRest t
+unfolding entries putEntry entriesRest
 put-bytes t i b = put-join-rest entrySize t i (entryOf b) (length-entry-of b)
 
 -- ---- exactly one of used, free and spoiled
@@ -169,19 +151,19 @@ pub free-not-used : (e : List ℕ) → freeEntry e ≡ true → used e ≡ false
 unfolding used
 free-not-used e h = ne-eqb (getD e 0 0) 1 (λ z. omega (arith, type-free e h))
 
-pub data State (e : List ℕ) : Type 0 where
-  is-used : used e ≡ true → freeEntry e ≡ false → spoiledEntry e ≡ false → State e
-  is-free : used e ≡ false → freeEntry e ≡ true → spoiledEntry e ≡ false → State e
-  is-spoiled : used e ≡ false → freeEntry e ≡ false → spoiledEntry e ≡ true → State e
+pub data EntryState (e : List ℕ) : Type 0 where
+  entry-is-used : used e ≡ true → freeEntry e ≡ false → spoiledEntry e ≡ false → EntryState e
+  entry-is-free : used e ≡ false → freeEntry e ≡ true → spoiledEntry e ≡ false → EntryState e
+  entry-is-spoiled : used e ≡ false → freeEntry e ≡ false → spoiledEntry e ≡ true → EntryState e
 
-pub one-state : (e : List ℕ) → State e
+pub entry-state : (e : List ℕ) → EntryState e
 unfolding spoiledEntry either
-one-state e = go (used e) refl (freeEntry e) refl
+entry-state e = go (used e) refl (freeEntry e) refl
   where
-    go : (u : Bool) → used e ≡ u → (f : Bool) → freeEntry e ≡ f → State e
-    go true p f q = is-used p (used-not-free e p) (rw p)
-    go false p true q = is-free p q (rw (p, q))
-    go false p false q = is-spoiled p q (rw (p, q))
+    go : (u : Bool) → used e ≡ u → (f : Bool) → freeEntry e ≡ f → EntryState e
+    go true p f q = entry-is-used p (used-not-free e p) (rw p)
+    go false p true q = entry-is-free p q (rw (p, q))
+    go false p false q = entry-is-spoiled p q (rw (p, q))
 
 -- ---- a wiped table
 wiped-entries : (n : ℕ) → entries (replicate n 0) ≡ replicate (n / entrySize) (replicate entrySize 0)

@@ -19,9 +19,9 @@ use Rattle.symbols.specs.Entries.{used, freeEntry, idOf}
 use Rattle.symbols.specs.Find.{isSymbol, findSymbol, findFreeEntry, knownSymbol, placeFor}
 
 -- ---- a symbol's entry
-pub symbol-is : (id : ℕ) (e : List ℕ) → isSymbol id e ≡ true → (used e ≡ true) × (idOf e ≡ id)
+pub entry-is : (id : ℕ) (e : List ℕ) → isSymbol id e ≡ true → (used e ≡ true) × (idOf e ≡ id)
 unfolding isSymbol
-symbol-is id e h = let w = both-true h in (w .0, eqb-true _ _ (w .1))
+entry-is id e h = let w = both-true h in (w .0, eqb-true _ _ (w .1))
 
 pub is-symbol : (id : ℕ) (e : List ℕ) → used e ≡ true → idOf e ≡ id → isSymbol id e ≡ true
 unfolding isSymbol both
@@ -36,8 +36,8 @@ pub unused-symbol : (id : ℕ) (e : List ℕ) → used e ≡ false → isSymbol 
 unfolding isSymbol both
 unused-symbol id e u = rw u
 
-pub other-symbol : (id : ℕ) (e : List ℕ) → (idOf e ≡ id → ⊥) → isSymbol id e ≡ false
-other-symbol id e n = go (used e) refl
+pub other-entry : (id : ℕ) (e : List ℕ) → (idOf e ≡ id → ⊥) → isSymbol id e ≡ false
+other-entry id e n = go (used e) refl
   where
     go : (b : Bool) → used e ≡ b → isSymbol id e ≡ false
     go true u = used-symbol id e u ∙ ne-eqb _ _ n
@@ -53,13 +53,13 @@ module _ (es : List (List ℕ)) (i : ℕ) where
   below : (p : List ℕ → Bool) → first p 0 es ≡ At i → (i < length es) × (p (getD es i []) ≡ true)
   below p e = let w = first-at p 0 es i [] e in (omega (arith, w .1), rw (sub-zero i) at (w .2))
 
-  pub symbol-below : (id : ℕ) → findSymbol id es ≡ At i → (i < length es) × (isSymbol id (getD es i []) ≡ true)
+  pub entry-below : (id : ℕ) → findSymbol id es ≡ At i → (i < length es) × (isSymbol id (getD es i []) ≡ true)
   unfolding findSymbol
-  symbol-below id e = below (isSymbol id) e
+  entry-below id e = below (isSymbol id) e
 
-  pub free-below : findFreeEntry es ≡ At i → (i < length es) × (freeEntry (getD es i []) ≡ true)
+  pub free-entry-below : findFreeEntry es ≡ At i → (i < length es) × (freeEntry (getD es i []) ≡ true)
   unfolding findFreeEntry
-  free-below e = below freeEntry e
+  free-entry-below e = below freeEntry e
 
 -- a symbol that is nowhere found has no entry
 pub nowhere : (id : ℕ) (es : List (List ℕ)) → findSymbol id es ≡ Nothing → (i : ℕ) → isSymbol id (getD es i []) ≡ false
@@ -86,7 +86,7 @@ unfolding knownSymbol
 known-found id es = go (findSymbol id es) refl
   where
     go : (f : Found) → findSymbol id es ≡ f → isFound f ≡ true → Known id es
-    go (Found.At i) e h = let w = symbol-below es i id e in record { place = i; found = e; inside = w .0; its = w .1 }
+    go (Found.At i) e h = let w = entry-below es i id e in record { place = i; found = e; inside = w .0; its = w .1 }
     go Found.Nothing e h = let z : _≡_ {A = ℕ} 0 1 = cc in absurd (omega arith)
 
 pub nowhere-unknown : (id : ℕ) (es : List (List ℕ)) → findSymbol id es ≡ Nothing → knownSymbol id es ≡ false
@@ -134,8 +134,8 @@ pub place-below : (id : ℕ) (es : List (List ℕ)) (i : ℕ) → placeFor id es
 place-below id es i h = go (place-is id es i h)
   where
     go : Place id es i → i < length es
-    go (own e) = symbol-below es i id e .0
-    go (fresh n e) = free-below es i e .0
+    go (own e) = entry-below es i id e .0
+    go (fresh n e) = free-entry-below es i e .0
 
 -- no place: an unknown symbol, and no free entry
 pub no-place : (id : ℕ) (es : List (List ℕ)) → placeFor id es ≡ Nothing → (findSymbol id es ≡ Nothing) × (findFreeEntry es ≡ Nothing)

@@ -16,7 +16,7 @@ use Rattle.symbols.specs.Entries.{entries, entryOf, used, idOf}
 use Rattle.symbols.specs.Find.{isSymbol, findSymbol, knownSymbol, placeFor, countUsed}
 use Rattle.symbols.specs.Tidy.{Packed, idsIn, joined}
 use Rattle.symbols.proofs.EntryLaws.{id-entry-of, used-entry-of, free-not-used, wiped-unused}
-use Rattle.symbols.proofs.FindLaws.{symbol-is, known-found, place-own, place-below}
+use Rattle.symbols.proofs.FindLaws.{entry-is, known-found, place-own, place-below}
 use Rattle.symbols.proofs.StartLaws.{new-behind}
 
 -- ---- known is: among the IDs of the table
@@ -71,7 +71,7 @@ ids-kept b es i e u p = go (knownSymbol (idOf b) es) refl ∙ ap (λ t. pick t (
         let w = known-found (idOf b) es k in
         let o : At (w .place) ≡ At i = sym (place-own (idOf b) es (w .place) (w .found)) ∙ e in
         let y : w .place ≡ i = cc in
-        let s : (used (getD es i []) ≡ true) × (idOf (getD es i []) ≡ idOf b) = rw (← y) (symbol-is (idOf b) (getD es (w .place) []) (w .its)) in
+        let s : (used (getD es i []) ≡ true) × (idOf (getD es i []) ≡ idOf b) = rw (← y) (entry-is (idOf b) (getD es (w .place) []) (w .its)) in
         rw k (ids-same es i (entryOf b) (s .0) (used-entry-of b ∙ u) (s .1 ∙ sym (id-entry-of b)))
     go false k =
         let x : i ≡ countUsed es = new-behind b es p k i e in

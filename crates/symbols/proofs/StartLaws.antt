@@ -4,7 +4,7 @@
 use mathlib.Core.Path.{_≡_, refl, sym, ap, _∙_}
 use mathlib.Core.List.{List, []}
 use mathlib.Core.Bool.{Bool, true, false}
-use Prim.Native.Nat.{ℕ, _+_, _≤_, _<_}
+use Prim.Native.Nat.{ℕ, _+_, _<_}
 use native.Mathlib.Omega.{arith}
 use lib.ListN.{getD, set, replicate}
 use lib.Dec.{eqb}
@@ -16,7 +16,7 @@ use Rattle.symbols.specs.Entries.{entries, entryOf, used, freeEntry, idO
 use Rattle.symbols.specs.Find.{isSymbol, findSymbol, findFreeEntry, knownSymbol, placeFor, countUsed}
 use Rattle.symbols.specs.Tidy.{Distinct, Packed}
 use Rattle.symbols.proofs.EntryLaws.{id-entry-of, used-entry-of, used-not-free, wiped-free, wiped-unused}
-use Rattle.symbols.proofs.FindLaws.{Known, Place, own, fresh, symbol-is, is-symbol, unused-symbol, free-below, some-known, known-found, found-known, nowhere-unknown, place-is, place-own}
+use Rattle.symbols.proofs.FindLaws.{Known, Place, own, fresh, entry-is, is-symbol, unused-symbol, free-entry-below, some-known, known-found, found-known, nowhere-unknown, place-is, place-own}
 use Rattle.symbols.proofs.UpdateLaws.{others-kept, own-is, find-others, find-own, count-known, count-new}
 
 -- ---- a wiped table
@@ -40,7 +40,7 @@ distinct-found es d i u = go (known-found id es (some-known id es i (is-symbol i
 
     go : Known id es → findSymbol id es ≡ At i
     go k =
-        let s = symbol-is id (getD es (k .place) []) (k .its) in
+        let s = entry-is id (getD es (k .place) []) (k .its) in
         k .found ∙ ap At (d (k .place) i (s .0) u (s .1))
 
 pub found-distinct : (es : List (List ℕ)) → ((i : ℕ) → used (getD es i []) ≡ true → findSymbol (idOf (getD es i [])) es ≡ At i) → Distinct es
@@ -82,7 +82,7 @@ never-both e u f = let n = used-not-free e u in let z : _≡_ {A = ℕ} 0 1 = cc
 pub next-free : (es : List (List ℕ)) → Packed es → (i : ℕ) → findFreeEntry es ≡ At i → i ≡ countUsed es
 unfolding findFreeEntry
 next-free es p i e =
-    let w = free-below es i e in
+    let w = free-entry-below es i e in
     let a : i < countUsed es → ⊥ = λ l. never-both (getD es i []) (p .front i l) (w .1) in
     let b : countUsed es < i → ⊥ = λ l.
     let f = first-lowest freeEntry 0 es i (countUsed es) [] e (omega arith) in
@@ -118,7 +118,7 @@ packed-kept b es i e u p = go (knownSymbol (idOf b) es) refl
         let c : countUsed after ≡ countUsed es = count-known b es i e u k in
         let o : At (w .place) ≡ At i = sym (place-own (idOf b) es (w .place) (w .found)) ∙ e in
         let y : w .place ≡ i = cc in
-        let x : used (getD es i []) ≡ true = rw (← y) (symbol-is (idOf b) (getD es (w .place) []) (w .its) .0) in
+        let x : used (getD es i []) ≡ true = rw (← y) (entry-is (idOf b) (getD es (w .place) []) (w .its) .0) in
         record {
           front = λ j l. front j (eqb j i) refl (λ n. p .front j (omega arith));
           back = λ j l.

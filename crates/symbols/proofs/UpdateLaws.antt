@@ -3,7 +3,6 @@
 use mathlib.Core.Path.{_≡_, refl, sym, ap, _∙_}
 use mathlib.Core.List.{List, []}
 use mathlib.Core.Bool.{Bool, true, false}
-use mathlib.Core.Logic.{_⊎_, inl, inr}
 use Prim.Native.Nat.{ℕ, _+_}
 use native.Mathlib.Omega.{arith}
 use lib.ListN.{length, getD, set}
@@ -18,7 +17,7 @@ use Rattle.symbols.specs.Entries.{entryOf, used, idOf}
 use Rattle.symbols.specs.Find.{isSymbol, findSymbol, knownSymbol, placeFor, countUsed}
 use Rattle.symbols.specs.Work.{entered}
 use Rattle.symbols.proofs.EntryLaws.{id-entry-of, used-entry-of, free-not-used, length-put-entry}
-use Rattle.symbols.proofs.FindLaws.{Place, own, fresh, symbol-is, is-symbol, other-symbol, unused-symbol, symbol-below, free-below, known-found, found-known, unknown-nowhere, place-is, place-own, place-below}
+use Rattle.symbols.proofs.FindLaws.{Place, own, fresh, entry-is, is-symbol, other-entry, unused-symbol, entry-below, free-entry-below, known-found, found-known, unknown-nowhere, place-is, place-own, place-below}
 
 pub entered-length : (w : EntryWork) (b t : List ℕ) → length (entered w b t) ≡ length t
 unfolding entered
@@ -28,11 +27,11 @@ entered-length (EntryWork.Put i) b t = length-put-entry t i b
 -- ---- what stood at the place: that symbol's entry or a free one, so no other symbol's
 was-other : (b : List ℕ) (es : List (List ℕ)) (i : ℕ) → Place (idOf b) es i → (id : ℕ) → (id ≡ idOf b → ⊥) → isSymbol id (getD es i []) ≡ false
 was-other b es i (own e) id n =
-    other-symbol id (getD es i []) (λ z. n (sym z ∙ symbol-is (idOf b) (getD es i []) (symbol-below es i (idOf b) e .1) .1))
-was-other b es i (fresh m e) id n = unused-symbol id (getD es i []) (free-not-used (getD es i []) (free-below es i e .1))
+    other-entry id (getD es i []) (λ z. n (sym z ∙ entry-is (idOf b) (getD es i []) (entry-below es i (idOf b) e .1) .1))
+was-other b es i (fresh m e) id n = unused-symbol id (getD es i []) (free-not-used (getD es i []) (free-entry-below es i e .1))
 
 now-other : (b : List ℕ) (id : ℕ) → (id ≡ idOf b → ⊥) → isSymbol id (entryOf b) ≡ false
-now-other b id n = other-symbol id (entryOf b) (λ z. n (sym z ∙ id-entry-of b))
+now-other b id n = other-entry id (entryOf b) (λ z. n (sym z ∙ id-entry-of b))
 
 now-own : (b : List ℕ) → used b ≡ true → isSymbol (idOf b) (entryOf b) ≡ true
 now-own b u = is-symbol (idOf b) (entryOf b) (used-entry-of b ∙ u) (id-entry-of b)
@@ -63,8 +62,8 @@ module _ (b : List ℕ) (es : List (List ℕ)) (i : ℕ) (e : placeFor (idOf b) 
     find-own = at (place-is (idOf b) es i e)
       where
         at : Place (idOf b) es i → findSymbol (idOf b) (set es i (entryOf b)) ≡ At i
-        at (own f) = first-set-same (isSymbol (idOf b)) 0 es i (entryOf b) [] (symbol-below es i (idOf b) f .1 ∙ sym (now-own b u)) ∙ f
-        at (fresh m f) = first-set-new (isSymbol (idOf b)) 0 es i (entryOf b) (free-below es i f .0) m (now-own b u) ∙ ap At (omega arith)
+        at (own f) = first-set-same (isSymbol (idOf b)) 0 es i (entryOf b) [] (entry-below es i (idOf b) f .1 ∙ sym (now-own b u)) ∙ f
+        at (fresh m f) = first-set-new (isSymbol (idOf b)) 0 es i (entryOf b) (free-entry-below es i f .0) m (now-own b u) ∙ ap At (omega arith)
 
     -- its symbol is known afterwards, and what was known stays known
     pub known-after : knownSymbol (idOf b) after ≡ true
@@ -84,7 +83,7 @@ module _ (b : List ℕ) (es : List (List ℕ)) (i : ℕ) (e : placeFor (idOf b) 
         let w = known-found (idOf b) es k in
         let o : At (w .place) ≡ At i = sym (place-own (idOf b) es (w .place) (w .found)) ∙ e in
         let j : w .place ≡ i = cc in
-        let x : used (getD es i []) ≡ true = rw (← j) (symbol-is (idOf b) (getD es (w .place) []) (w .its) .0) in
+        let x : used (getD es i []) ≡ true = rw (← j) (entry-is (idOf b) (getD es (w .place) []) (w .its) .0) in
         count-set-same used es i (entryOf b) [] (x ∙ sym (used-entry-of b ∙ u))
 
     pub count-new : knownSymbol (idOf b) es ≡ false → countUsed after ≡ countUsed es + 1
@@ -94,12 +93,5 @@ module _ (b : List ℕ) (es : List (List ℕ)) (i : ℕ) (e : placeFor (idOf b) 
         go : Place (idOf b) es i → countUsed (set es i (entryOf b)) ≡ countUsed es + 1
         go (own f) = let n = unknown-nowhere (idOf b) es k in let z : _≡_ {A = ℕ} 0 1 = cc in absurd (omega arith)
         go (fresh m f) =
-            let w = free-below es i f in
+            let w = free-entry-below es i f in
             count-set-new used es i (entryOf b) [] (w .0) (free-not-used (getD es i []) (w .1)) (used-entry-of b ∙ u)
-
-    pub count-steps : (countUsed after ≡ countUsed es) ⊎ (countUsed after ≡ countUsed es + 1)
-    count-steps = go (knownSymbol (idOf b) es) refl
-      where
-        go : (t : Bool) → knownSymbol (idOf b) es ≡ t → (countUsed after ≡ countUsed es) ⊎ (countUsed after ≡ countUsed es + 1)
-        go true k = inl (count-known k)
-        go false k = inr (count-new k)

@@ -4,29 +4,22 @@ use mathlib.Core.List.{List}
 use mathlib.Core.Bool.{Bool, not}
 use lib.ListN.{length, getD, drop}
 use lib.Dec.{leb, eqb}
+use Rattle.facts.specs.Limits.{entrySize, mostEntries}
 use Rattle.facts.specs.Pick.{both, either}
 use Rattle.facts.specs.Pieces.{pieces, putPiece}
 use Rattle.wire.specs.Le.{field, padded}
 
--- "entries of 42 bytes"
-unfoldable pub entrySize : ℕ
-entrySize = 42
-
--- "1 to 1,000 entries"
-unfoldable pub maxEntries : ℕ
-maxEntries = 1000
-
--- no refusal 6 for a table of n bytes ("a table size outside these limits or not in whole rows")
+-- no refusal 6 for a table of n bytes ("1 to 1,000 entries of 42 bytes"; "a table size outside these limits or not in whole rows")
 unfoldable pub goodEntries : ℕ → Bool
-goodEntries n = both (eqb (n % entrySize) 0) (both (leb 1 (n / entrySize)) (leb (n / entrySize) maxEntries))
+goodEntries n = both (eqb (n % entrySize) 0) (both (leb 1 (n / entrySize)) (leb (n / entrySize) mostEntries))
 
 -- the entries of a table; bytes behind the last whole entry are none
 unfoldable pub entries : List ℕ → List (List ℕ)
 entries t = pieces entrySize t
 
 -- the bytes behind the last whole entry
-unfoldable pub rest : List ℕ → List ℕ
-rest t = drop (entrySize * (length t / entrySize)) t
+unfoldable pub entriesRest : List ℕ → List ℕ
+entriesRest t = drop (entrySize * (length t / entrySize)) t
 
 -- "each the last Symbol Update body for its symbol": a body as an entry, whole, whatever its length
 unfoldable pub entryOf : List ℕ → List ℕ

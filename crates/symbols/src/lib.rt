@@ -11,12 +11,6 @@ ghost use Rattle.symbols.specs.Work.{entered};
 use facts::Found;
 use fields::Symbol;
 
-// The bytes of an entry.
-const ENTRY_SIZE: usize = 42;
-
-// The most entries of a table.
-const MAX_ENTRIES: usize = 1000;
-
 // The type byte of an entry in use.
 const USED: u8 = 1;
 
@@ -33,14 +27,14 @@ pub enum EntryWork {
 pub fn good_entries(n: usize) -> bool
     ensures { λ b. ⌜ b ≡ goodEntries n ⌝ }
 {
-    if n % ENTRY_SIZE != 0 {
+    if n % facts::ENTRY_SIZE != 0 {
         return false;
     }
-    let k = n / ENTRY_SIZE;
+    let k = n / facts::ENTRY_SIZE;
     if k < 1 {
         return false;
     }
-    if k > MAX_ENTRIES {
+    if k > facts::MOST_ENTRIES {
         return false;
     }
     true
@@ -49,7 +43,7 @@ pub fn good_entries(n: usize) -> bool
 pub fn entry_count(t: &[u8]) -> usize
     ensures { λ r. ⌜ r ≡ length (entries (now (t .entry))) ⌝ }
 {
-    t.len() / ENTRY_SIZE
+    t.len() / facts::ENTRY_SIZE
 }
 
 // An entry that is there.
@@ -57,8 +51,8 @@ fn entry_in(t: &[u8], i: usize) -> &[u8]
     requires { ⌜ i < length (entries (now t)) ⌝ }
     ensures { λ r. ⌜ now r ≡ getD (entries (now (t .entry))) i [] ⌝ }
 {
-    let b = ENTRY_SIZE * i;
-    let e = b + ENTRY_SIZE;
+    let b = facts::ENTRY_SIZE * i;
+    let e = b + facts::ENTRY_SIZE;
     &t[b..e]
 }
 
@@ -160,8 +154,8 @@ fn put_entry(t: &mut [u8], i: usize, body: &[u8])
     if entry_count(t) <= i {
         return;
     }
-    let b = ENTRY_SIZE * i;
-    let e = b + ENTRY_SIZE;
+    let b = facts::ENTRY_SIZE * i;
+    let e = b + facts::ENTRY_SIZE;
     wire::copy_at(body, 0, &mut t[b..e]);
 }
 

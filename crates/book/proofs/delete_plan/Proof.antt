@@ -2,7 +2,7 @@
 -- Assumes nothing.
 use mathlib.Core.Path.{sym, ap, _∙_}
 use borrow.Author.Needs.{needs}
-use Rattle.book.specs.Plan.{ofKnown, deletePlan, deleted}
+use Rattle.book.specs.Plan.{ofKnown, deletePlan, deleteAt}
 use Rattle.book.proofs.Laws.{upon-rule, upon-order}
 use Rattle.book.proofs.delete_plan.Statement.{statement}
 use Rattle.book.proofs.delete_plan.Tie as tie
@@ -34,7 +34,7 @@ returns c = c .of-known .ensures ∙ ap (λ p. ofKnown (c .before .before .befor
 
 returns-2 : tie.Need-returns-2
 unfolding deletePlan
-returns-2 c = rw (c .of-known2 .ensures, c .before .on-rows .ensures, c .before .before .zero-row .ensures) (ap (λ p. ofKnown (c .before .before .before .before .before .before .before .args .entry) (λ e. p)) (upon-order _ (deleted (c .before .before .before .before .before .before .before .args .clock)) _ _ (sym (c .before .before .before .before .before .before .target-of .ensures) ∙ c .before .before .before .before .i .given .1)))
+returns-2 c = rw (c .of-known2 .ensures, c .before .on-rows .ensures, c .before .before .zero-row .ensures) (ap (λ p. ofKnown (c .before .before .before .before .before .before .before .args .entry) (λ e. p)) (upon-order _ (deleteAt (c .before .before .before .before .before .before .before .args .clock)) _ _ (sym (c .before .before .before .before .before .before .target-of .ensures) ∙ c .before .before .before .before .i .given .1)))
 
 pub delete-plan-spec : {M : Type 1} → statement M
 delete-plan-spec =

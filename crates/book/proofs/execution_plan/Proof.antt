@@ -2,8 +2,8 @@
 -- Assumes nothing.
 use mathlib.Core.Path.{sym, ap, _∙_}
 use borrow.Author.Needs.{needs}
-use Rattle.book.specs.Plan.{ofKnown, executionPlan, executed}
-use Rattle.book.proofs.Laws.{upon-rule, upon-order, executed-over, executed-is}
+use Rattle.book.specs.Plan.{ofKnown, executionPlan, executeAt}
+use Rattle.book.proofs.Laws.{upon-rule, upon-order, execute-over, execute-is}
 use Rattle.book.proofs.execution_plan.Statement.{statement}
 use Rattle.book.proofs.execution_plan.Tie as tie
 
@@ -27,7 +27,7 @@ of-known-requires-2 c κs = search needs
 
 returns : tie.Need-returns
 unfolding executionPlan
-returns c = c .of-known2 .ensures ∙ ap (λ p. ofKnown (c .before .before .before .before .before .before .before .before .args .entry) (λ e. p)) (executed-over (c .before .before .before .before .before .before .before .before .args .clock) (c .before .before .before .before .before .before .before .before .args .m) _ _ (c .before .if1 .taken) ∙ upon-order _ (executed (c .before .before .before .before .before .before .before .before .args .clock) (c .before .before .before .before .before .before .before .before .args .m)) _ _ (sym (c .before .before .before .before .before .before .before .target-of .ensures) ∙ c .before .before .before .before .before .i .given .1))
+returns c = c .of-known2 .ensures ∙ ap (λ p. ofKnown (c .before .before .before .before .before .before .before .before .args .entry) (λ e. p)) (execute-over (c .before .before .before .before .before .before .before .before .args .clock) (c .before .before .before .before .before .before .before .before .args .m) _ _ (c .before .if1 .taken) ∙ upon-order _ (executeAt (c .before .before .before .before .before .before .before .before .args .clock) (c .before .before .before .before .before .before .before .before .args .m)) _ _ (sym (c .before .before .before .before .before .before .before .target-of .ensures) ∙ c .before .before .before .before .before .i .given .1))
 
 cast-reduce : tie.Need-cast-reduce
 cast-reduce c = search needs
@@ -47,7 +47,7 @@ returns-2 c = c .of-known .ensures ∙ ap (λ p. ofKnown (c .before .before .bef
 
 returns-3 : tie.Need-returns-3
 unfolding executionPlan
-returns-3 c = rw (c .of-known3 .ensures, c .before .on-rows .ensures, c .before .before .reduce .ensures) (ap (λ p. ofKnown (c .before .before .before .before .before .before .before .before .before .before .before .args .entry) (λ e. p)) (executed-is (c .before .before .before .before .before .before .before .before .before .before .before .args .clock) (c .before .before .before .before .before .before .before .before .before .before .before .args .m) _ _ (c .before .before .before .before .if1 .left) ∙ upon-order _ (executed (c .before .before .before .before .before .before .before .before .before .before .before .args .clock) (c .before .before .before .before .before .before .before .before .before .before .before .args .m)) _ _ (sym (c .before .before .before .before .before .before .before .before .before .before .target-of .ensures) ∙ c .before .before .before .before .before .before .before .before .i .given .1)))
+returns-3 c = rw (c .of-known3 .ensures, c .before .on-rows .ensures, c .before .before .reduce .ensures) (ap (λ p. ofKnown (c .before .before .before .before .before .before .before .before .before .before .before .args .entry) (λ e. p)) (execute-is (c .before .before .before .before .before .before .before .before .before .before .before .args .clock) (c .before .before .before .before .before .before .before .before .before .before .before .args .m) _ _ (c .before .before .before .before .if1 .left) ∙ upon-order _ (executeAt (c .before .before .before .before .before .before .before .before .before .before .before .args .clock) (c .before .before .before .before .before .before .before .before .before .before .before .args .m)) _ _ (sym (c .before .before .before .before .before .before .before .before .before .before .target-of .ensures) ∙ c .before .before .before .before .before .before .before .before .i .given .1)))
 
 pub execution-plan-spec : {M : Type 1} → statement M
 execution-plan-spec =

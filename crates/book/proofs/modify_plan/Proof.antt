@@ -2,7 +2,7 @@
 -- Assumes nothing.
 use mathlib.Core.Path.{sym, ap, _∙_}
 use borrow.Author.Needs.{needs}
-use Rattle.book.specs.Plan.{ofKnown, modifyPlan, modified}
+use Rattle.book.specs.Plan.{ofKnown, modifyPlan, modifyAt}
 use Rattle.book.proofs.Laws.{upon-rule, upon-order}
 use Rattle.book.proofs.modify_plan.Statement.{statement}
 use Rattle.book.proofs.modify_plan.Tie as tie
@@ -40,7 +40,7 @@ returns c = c .of-known .ensures ∙ ap (λ p. ofKnown (c .before .before .befor
 
 returns-2 : tie.Need-returns-2
 unfolding modifyPlan
-returns-2 c = rw (c .of-known2 .ensures, c .before .on-rows .ensures, c .before .before .remake .ensures, c .before .before .before .before .loses-place .ensures) (ap (λ p. ofKnown (c .before .before .before .before .before .before .before .before .before .args .entry) (λ e. p)) (upon-order _ (modified (c .before .before .before .before .before .before .before .before .before .args .clock) (c .before .before .before .before .before .before .before .before .before .args .m) (c .before .before .before .before .before .before .before .before .before .args .number)) _ _ (sym (c .before .before .before .before .before .before .before .before .target-of .ensures) ∙ c .before .before .before .before .before .before .i .given .1)))
+returns-2 c = rw (c .of-known2 .ensures, c .before .on-rows .ensures, c .before .before .remake .ensures, c .before .before .before .before .loses-place .ensures) (ap (λ p. ofKnown (c .before .before .before .before .before .before .before .before .before .args .entry) (λ e. p)) (upon-order _ (modifyAt (c .before .before .before .before .before .before .before .before .before .args .clock) (c .before .before .before .before .before .before .before .before .before .args .m) (c .before .before .before .before .before .before .before .before .before .args .number)) _ _ (sym (c .before .before .before .before .before .before .before .before .target-of .ensures) ∙ c .before .before .before .before .before .before .i .given .1)))
 
 pub modify-plan-spec : {M : Type 1} → statement M
 modify-plan-spec =

@@ -2,23 +2,20 @@
 -- Assumes nothing.
 use mathlib.Core.Path.{sym}
 use native.Mathlib.Omega.{arith}
-use Rattle.rows.specs.Rows.{maxRows}
-use Rattle.rows.proofs.Judged.{not-good, rows-good}
+use Rattle.rows.proofs.Judged.{rows-not-good, rows-good}
 use Rattle.rows.proofs.good_rows.Statement.{statement}
 use Rattle.rows.proofs.good_rows.Tie as tie
 
 returns : tie.Need-returns
-returns c = not-good _ (λ w. omega arith)
+returns c = rows-not-good _ (λ w. omega arith)
 
 returns-2 : tie.Need-returns-2
-returns-2 c = not-good _ (λ w. omega arith)
+returns-2 c = rows-not-good _ (λ w. omega arith)
 
 returns-3 : tie.Need-returns-3
-unfolding maxRows
-returns-3 c = not-good _ (λ w. omega arith)
+returns-3 c = rows-not-good _ (λ w. omega arith)
 
 returns-4 : tie.Need-returns-4
-unfolding maxRows
 returns-4 c = sym (rows-good _ (omega arith, omega arith, omega arith))
 
 pub good-rows-spec : {M : Type 1} → statement M

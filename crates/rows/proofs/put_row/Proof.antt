@@ -4,7 +4,7 @@ use mathlib.Core.Path.{sym}
 use native.Mathlib.Omega.{arith}
 use lib.ListN.{length-set}
 use borrow.Author.Needs.{needs}
-use Rattle.rows.proofs.Tables.{row-written, put-past}
+use Rattle.rows.proofs.Tables.{row-written, put-row-past}
 use Rattle.rows.proofs.put_row.Statement.{statement}
 use Rattle.rows.proofs.put_row.Tie as tie
 
@@ -15,7 +15,7 @@ same-length : tie.Need-same-length
 same-length c = search needs
 
 returns : tie.Need-returns
-returns c = let a = c .before .before .before .before .args in sym (put-past (a .t .now) (a .i) (a .r) (omega arith))
+returns c = let a = c .before .before .before .before .args in sym (put-row-past (a .t .now) (a .i) (a .r) (omega arith))
 
 mul-b : tie.Need-mul-b
 mul-b c = search needs

@@ -1,13 +1,11 @@
 -- A table has as many entries as whole pieces (length-entries).
 -- Assumes nothing.
 use mathlib.Core.Path.{sym}
-use Rattle.symbols.specs.Entries.{entrySize}
 use Rattle.symbols.proofs.EntryLaws.{length-entries}
 use Rattle.symbols.proofs.entry_count.Statement.{statement}
 use Rattle.symbols.proofs.entry_count.Tie as tie
 
 returns : tie.Need-returns
-unfolding entrySize
 returns c = sym (length-entries (c .args .t .now))
 
 pub entry-count-spec : {M : Type 1} → statement M

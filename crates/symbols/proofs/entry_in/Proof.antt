@@ -2,19 +2,16 @@
 -- Assumes nothing.
 use native.Mathlib.Omega.{arith}
 use borrow.Author.Needs.{needs}
-use Rattle.symbols.specs.Entries.{entrySize}
 use Rattle.symbols.proofs.EntryLaws.{entry-fits, entry-part}
 use Rattle.symbols.proofs.entry_in.Statement.{statement}
 use Rattle.symbols.proofs.entry_in.Tie as tie
 
 mul-b : tie.Need-mul-b
-unfolding entrySize
 mul-b c =
     let a = c .args in
     omega (arith, entry-fits (a .t .now) (a .i) (c .pre))
 
 add-e : tie.Need-add-e
-unfolding entrySize
 add-e c =
     let a = c .args in
     omega (arith, entry-fits (a .t .now) (a .i) (c .pre))
@@ -26,13 +23,11 @@ part-result-start : tie.Need-part-result-start
 part-result-start c = search needs
 
 part-result-end : tie.Need-part-result-end
-unfolding entrySize
 part-result-end c =
     let a = c .args in
     omega (arith, entry-fits (a .t .now) (a .i) (c .pre))
 
 returns : tie.Need-returns
-unfolding entrySize
 returns c =
     let a = c .before .args in
     entry-part (a .t .now) (a .i) (c .before .pre)

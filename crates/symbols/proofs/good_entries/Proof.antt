@@ -2,25 +2,20 @@
 -- Assumes nothing.
 use mathlib.Core.Path.{sym}
 use native.Mathlib.Omega.{arith}
-use Rattle.symbols.specs.Entries.{entrySize, maxEntries}
-use Rattle.symbols.proofs.EntryLaws.{not-good, entries-good}
+use Rattle.symbols.proofs.EntryLaws.{entries-not-good, entries-good}
 use Rattle.symbols.proofs.good_entries.Statement.{statement}
 use Rattle.symbols.proofs.good_entries.Tie as tie
 
 returns : tie.Need-returns
-unfolding entrySize
-returns c = not-good _ (λ w. omega arith)
+returns c = entries-not-good _ (λ w. omega arith)
 
 returns-2 : tie.Need-returns-2
-unfolding entrySize
-returns-2 c = not-good _ (λ w. omega arith)
+returns-2 c = entries-not-good _ (λ w. omega arith)
 
 returns-3 : tie.Need-returns-3
-unfolding entrySize maxEntries
-returns-3 c = not-good _ (λ w. omega arith)
+returns-3 c = entries-not-good _ (λ w. omega arith)
 
 returns-4 : tie.Need-returns-4
-unfolding entrySize maxEntries
 returns-4 c = sym (entries-good _ (omega arith, omega arith, omega arith))
 
 pub good-entries-spec : {M : Type 1} → statement M

@@ -3,8 +3,7 @@
 use mathlib.Core.Path.{sym}
 use native.Mathlib.Omega.{arith}
 use borrow.Author.Needs.{needs}
-use Rattle.symbols.specs.Entries.{entrySize}
-use Rattle.symbols.proofs.EntryLaws.{entry-fits, entry-written, put-past}
+use Rattle.symbols.proofs.EntryLaws.{entry-fits, entry-written, put-entry-past}
 use Rattle.symbols.proofs.put_entry.Statement.{statement}
 use Rattle.symbols.proofs.put_entry.Tie as tie
 
@@ -17,16 +16,14 @@ same-length c = search needs
 returns : tie.Need-returns
 returns c =
     let a = c .before .before .before .before .before .args in
-    sym (put-past (a .t .now) (a .i) (a .body .now) (omega arith))
+    sym (put-entry-past (a .t .now) (a .i) (a .body .now) (omega arith))
 
 mul-b : tie.Need-mul-b
-unfolding entrySize
 mul-b c =
     let a = c .before .before .before .before .before .args in
     omega (arith, entry-fits (a .t .now) (a .i) (omega arith))
 
 add-e : tie.Need-add-e
-unfolding entrySize
 add-e c =
     let a = c .before .before .before .before .before .args in
     omega (arith, entry-fits (a .t .now) (a .i) (omega arith))
@@ -38,7 +35,6 @@ part-copy-at-start : tie.Need-part-copy-at-start
 part-copy-at-start c = search needs
 
 part-copy-at-end : tie.Need-part-copy-at-end
-unfolding entrySize
 part-copy-at-end c =
     let a = c .before .before .before .before .before .args in
     omega (arith, entry-fits (a .t .now) (a .i) (omega arith))
@@ -50,7 +46,6 @@ same-length-2 : tie.Need-same-length-2
 same-length-2 c = search needs
 
 returns-2 : tie.Need-returns-2
-unfolding entrySize
 returns-2 c =
     let a = c .before .before .before .before .before .before .before .before .before .args in
     entry-written (a .t .now) (a .i) (a .body .now) (c .before .before .copy-at .last .1 .1 .0) (omega arith) (c .before .before .copy-at .ensures)

@@ -2,9 +2,9 @@
 -- Assumes nothing.
 use borrow.Author.Tests.{eq-eqb, ne-eqb}
 use Rattle.facts.specs.Pick.{pick}
-use Rattle.book.specs.Plan.{sideOf}
-use Rattle.book.proofs.side_of.Statement.{statement}
-use Rattle.book.proofs.side_of.Tie as tie
+use Rattle.rows.specs.Keys.{sideOf}
+use Rattle.rows.proofs.side_of.Statement.{statement}
+use Rattle.rows.proofs.side_of.Tie as tie
 
 returns : tie.Need-returns
 unfolding sideOf pick
