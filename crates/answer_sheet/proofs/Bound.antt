@@ -8,7 +8,7 @@ use native.Mathlib.Nat.{suc-mul}
 use native.Mathlib.Omega.{arith}
 use lib.ListN.{length, take, drop, length-append, length-take, length-map}
 use lib.Seq.{getD-drop}
-use Rattle.facts.specs.Limits.{entrySize}
+use Rattle.facts.specs.Limits.{entrySize, mostRows, mostEntries}
 use Rattle.facts.specs.Pieces.{cut, pieces, join}
 use Rattle.facts.proofs.Picks.{pick-ind, both-true}
 use Rattle.facts.proofs.SumLaws.{count-bound}
@@ -44,7 +44,7 @@ use Rattle.text.proofs.TickerLaws.{ticker-length}
 use Rattle.answer_sheet.specs.declared.Recording.{Recording}
 use Rattle.answer_sheet.specs.Keys.{recordingKey, badKey, nextKey, stopKey, secondKey, symbolsKey, ordersKey, symbolKey, tickerKey, lotKey, spreadKey, bidKey, askKey, sideKey, wholeWord, cutWord, noneWord}
 use Rattle.answer_sheet.specs.Lines.{Line, plain, lineText, textOf}
-use Rattle.answer_sheet.specs.Sheet.{recordingWord, headLines, tableLines, markedOf, levelValue, levelLine, levelsShown, sideLines, spreadWord, symbolLines, bookLines, entryLines, allEntries, linesOf, sheetOf, sheetOk}
+use Rattle.answer_sheet.specs.Sheet.{recordingWord, headLines, tableLines, markedOf, levelValue, levelLine, levelsShown, sideLines, spreadWord, symbolLines, bookLines, entryLines, allEntries, linesOf, sheetOf, sheetOk, sheetMost}
 
 -- ---- lists
 all-take : {A : Type 0} (P : A → Type 0) (n : ℕ) (xs : List A) → All P xs → All P (take n xs)
@@ -107,10 +107,10 @@ number-short key n k h = plain-short key (decimalOf n) k (decimal-le n h)
 
 -- ---- levels
 -- a level of a table of good size
-abbrev Fits : Level → Type 0
-Fits l = (l .price < 10 ^ 16) × (l .shares < 2 ^ 64) × (l .orders < 10 ^ 5)
+abbrev ShortLevel : Level → Type 0
+ShortLevel l = (l .price < 10 ^ 16) × (l .shares < 2 ^ 64) × (l .orders < 10 ^ 5)
 
-level-le : (l : Level) → Fits l → length (levelValue l) ≤ 43
+level-le : (l : Level) → ShortLevel l → length (levelValue l) ≤ 43
 unfolding levelValue markedOf
 level-le l h =
     let p = decimalOf (l .price) ++ (32 ∷ []) in
@@ -131,14 +131,14 @@ unfolding sideKey bidKey askKey
 side-key-le Side.Buy = omega arith
 side-key-le Side.Sell = omega arith
 
-level-short : (side : Side) (id : ℕ) (l : Level) → Fits l → Short (levelLine side id l)
+level-short : (side : Side) (id : ℕ) (l : Level) → ShortLevel l → Short (levelLine side id l)
 unfolding lineText levelLine
 level-short side id l h = omega (arith, line-le (sideKey side) (levelValue l), side-key-le side, level-le l h)
 
-ladder-fits : (k : ℕ) (t : List ℕ) → goodRows (length t) ≡ true → All Fits (ladder k (rows t))
+ladder-short : (k : ℕ) (t : List ℕ) → goodRows (length t) ≡ true → All ShortLevel (ladder k (rows t))
 unfolding ladder levelOf
-ladder-fits k t g =
-    all-map Fits (levelOf k (rows t)) (prices k (rows t))
+ladder-short k t g =
+    all-map ShortLevel (levelOf k (rows t)) (prices k (rows t))
     (all-weaken (λ p h. (omega arith, omega (arith, shares-fit k p t g), omega (arith, orders-fit k p t g))) (prices k (rows t)) (prices-low k (rows t)))
 
 -- what a run of lines has: few of them, and each short
@@ -156,7 +156,7 @@ side-few side id t g =
     let ls = ladder (keyOf side id) (rows t) in
     record {
       count = omega (arith, length-map (take 10 ls) (levelLine side id), length-take 10 ls);
-      short = all-map Short (levelLine side id) (take 10 ls) (all-weaken (level-short side id) (take 10 ls) (all-take Fits 10 ls (ladder-fits (keyOf side id) t g)));
+      short = all-map Short (levelLine side id) (take 10 ls) (all-weaken (level-short side id) (take 10 ls) (all-take ShortLevel 10 ls (ladder-short (keyOf side id) t g)));
     }
 
 spread-short : (s : ℕ) (rs : List Row) → Short (plain spreadKey (spreadWord (spreadOf s rs)))
@@ -210,14 +210,14 @@ module _ (orders symbols : List ℕ) (g : goodTables orders symbols ≡ true) wh
   unfolding goodTables
   rows-good = both-true g .0
 
-  few-entries : length (entries symbols) ≤ 1000
+  few-entries : length (entries symbols) ≤ mostEntries
   unfolding goodTables
   few-entries = rw length-entries (good-entries (length symbols) (both-true {a = goodRows (length orders)} {b = goodEntries (length symbols)} g .1) .1)
 
-  few-rows : length (rows orders) ≤ 1600
+  few-rows : length (rows orders) ≤ mostRows
   few-rows = rw length-rows (good-rows (length orders) rows-good .1)
 
-  entries-few : Bytes symbols → Few 24000 (allEntries orders symbols)
+  entries-few : Bytes symbols → Few (mostEntries * 24) (allEntries orders symbols)
   unfolding allEntries
   entries-few h =
       let each-few : All (λ e. Few 24 (entryLines (rows orders) e)) (entries symbols) = all-weaken (λ e b. entry-few orders e rows-good b) (entries symbols) (bytes-entries symbols h) in
@@ -262,8 +262,8 @@ head-few word bad s b n p =
       );
     }
 
--- a sheet has at most 1,500,000 bytes
-pub sheet-le : (word : Recording) (bad : ℕ) (s : State) (orders symbols : List ℕ) → sheetOk s orders symbols ≡ true → Machine bad s symbols → length (sheetOf word bad s orders symbols) ≤ 1500000
+-- no sheet is longer than that
+pub sheet-le : (word : Recording) (bad : ℕ) (s : State) (orders symbols : List ℕ) → sheetOk s orders symbols ≡ true → Machine bad s symbols → length (sheetOf word bad s orders symbols) ≤ sheetMost
 unfolding sheetOf linesOf sheetOk
 sheet-le word bad s orders symbols ok m =
     let w = both-true {a = goodTables orders symbols} {b = nextOk (s .next)} ok in

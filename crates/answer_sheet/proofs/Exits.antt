@@ -23,7 +23,7 @@ use Rattle.text.proofs.Laws.{wrote-front}
 use Rattle.answer_sheet.specs.declared.Recording.{Recording}
 use Rattle.answer_sheet.specs.declared.SheetAnswer.{SheetAnswer}
 use Rattle.answer_sheet.specs.Lines.{textOf}
-use Rattle.answer_sheet.specs.Sheet.{tableLines, sheetOf, sheetOk, sheetAnd, stored, sheetView, Counted}
+use Rattle.answer_sheet.specs.Sheet.{tableLines, sheetOf, sheetOk, sheetAnd, stored, sheetView, AreSizes}
 use Rattle.answer_sheet.proofs.Bound.{Machine, sheet-le}
 
 -- ---- the counts
@@ -32,23 +32,23 @@ module _ (orders symbols : List ℕ) where
   abbrev tableSizes : Sizes
   tableSizes = record { orders = countLive (rows orders); symbols = countUsed (entries symbols) }
 
-  counted-is : (z : Sizes) → Counted z orders symbols → (goodTables orders symbols ≡ true) × (z ≡ tableSizes)
+  sizes-is : (z : Sizes) → AreSizes z orders symbols → (goodTables orders symbols ≡ true) × (z ≡ tableSizes)
   unfolding countsView pick
-  counted-is z e = go (goodTables orders symbols) e
+  sizes-is z e = go (goodTables orders symbols) e
     where
       go : (g : Bool) → CountsAnswer.Are z ≡ pick g (CountsAnswer.Are tableSizes) (CountsAnswer.Refused (refusal 6)) → (g ≡ true) × (z ≡ tableSizes)
       go true e = (refl, cc)
       go false e = let x : _≡_ {A = ℕ} 0 1 = cc in absurd (omega arith)
 
-  pub counted-good : (z : Sizes) → Counted z orders symbols → goodTables orders symbols ≡ true
-  counted-good z e = counted-is z e .0
+  pub sizes-good : (z : Sizes) → AreSizes z orders symbols → goodTables orders symbols ≡ true
+  sizes-good z e = sizes-is z e .0
 
-  pub counted-lines : (second : ℕ) (z : Sizes) → Counted z orders symbols → textOf (tableLines second (z .symbols) (z .orders)) ≡ textOf (tableLines second (countUsed (entries symbols)) (countLive (rows orders)))
-  counted-lines second z e = ap (λ (x : Sizes). textOf (tableLines second (x .symbols) (x .orders))) (counted-is z e .1)
+  pub sizes-lines : (second : ℕ) (z : Sizes) → AreSizes z orders symbols → textOf (tableLines second (z .symbols) (z .orders)) ≡ textOf (tableLines second (countUsed (entries symbols)) (countLive (rows orders)))
+  sizes-lines second z e = ap (λ (x : Sizes). textOf (tableLines second (x .symbols) (x .orders))) (sizes-is z e .1)
 
-  pub uncounted-bad : (r : Refusal) → CountsAnswer.Refused r ≡ countsView orders symbols → goodTables orders symbols ≡ false
+  pub sizes-bad : (r : Refusal) → CountsAnswer.Refused r ≡ countsView orders symbols → goodTables orders symbols ≡ false
   unfolding countsView pick
-  uncounted-bad r e = go (goodTables orders symbols) e
+  sizes-bad r e = go (goodTables orders symbols) e
     where
       go : (g : Bool) → CountsAnswer.Refused r ≡ pick g (CountsAnswer.Are tableSizes) (CountsAnswer.Refused (refusal 6)) → g ≡ false
       go true e = let x : _≡_ {A = ℕ} 0 1 = cc in absurd (omega arith)

@@ -8,7 +8,7 @@ use lib.ListN.{length, getD, take}
 use lib.Seq.{take-suc, take-all}
 use Rattle.facts.specs.Pieces.{join}
 use Rattle.views.specs.declared.Level.{Level}
-use Rattle.text.specs.Text.{Wrote, decimalOf, lineOf, each}
+use Rattle.text.specs.Text.{Wrote, decimalOf, lineOf, firstTexts}
 use Rattle.text.proofs.Laws.{wrote-as, wrote-then}
 use Rattle.answer_sheet.specs.Lines.{Line, lineText, textOf}
 use Rattle.answer_sheet.specs.Sheet.{markedOf, levelValue}
@@ -21,15 +21,15 @@ module _ {A : Type 0} (f : A → List ℕ) where
   join-snoc (y ∷ xs) x = ap (λ (l : List ℕ). f y ++ l) (join-snoc xs x) ∙ sym (append-assoc (f y) (join (map f xs)) (f x))
 
   -- where g i is f of element i, the first n of each are f of the first n elements
-  pub each-is : (g : ℕ → List ℕ) (xs : List A) (d : A) (n : ℕ) → n ≤ length xs → ((i : ℕ) → i < n → g i ≡ f (getD xs i d)) → each g n ≡ join (map f (take n xs))
-  unfolding each join
-  each-is g xs d zero l h = refl
-  each-is g xs d (suc n) l h =
+  pub texts-of : (g : ℕ → List ℕ) (xs : List A) (d : A) (n : ℕ) → n ≤ length xs → ((i : ℕ) → i < n → g i ≡ f (getD xs i d)) → firstTexts g n ≡ join (map f (take n xs))
+  unfolding firstTexts join
+  texts-of g xs d zero l h = refl
+  texts-of g xs d (suc n) l h =
       let t : take (suc n) xs ≡ take n xs ++ (getD xs n d ∷ []) = take-suc xs n d (omega arith) in
-      rw t (ap (λ (x : List ℕ). x ++ g n) (each-is g xs d n (omega arith) (λ i s. h i (omega arith))) ∙ (ap (λ (x : List ℕ). join (map f (take n xs)) ++ x) (h n (omega arith)) ∙ sym (join-snoc (take n xs) (getD xs n d))))
+      rw t (ap (λ (x : List ℕ). x ++ g n) (texts-of g xs d n (omega arith) (λ i s. h i (omega arith))) ∙ (ap (λ (x : List ℕ). join (map f (take n xs)) ++ x) (h n (omega arith)) ∙ sym (join-snoc (take n xs) (getD xs n d))))
 
-  pub each-all-is : (g : ℕ → List ℕ) (xs : List A) (d : A) → ((i : ℕ) → i < length xs → g i ≡ f (getD xs i d)) → each g (length xs) ≡ join (map f xs)
-  each-all-is g xs d h = each-is g xs d (length xs) (omega arith) h ∙ ap (λ (l : List A). join (map f l)) (take-all (length xs) xs (omega arith))
+  pub texts-of-all : (g : ℕ → List ℕ) (xs : List A) (d : A) → ((i : ℕ) → i < length xs → g i ≡ f (getD xs i d)) → firstTexts g (length xs) ≡ join (map f xs)
+  texts-of-all g xs d h = texts-of g xs d (length xs) (omega arith) h ∙ ap (λ (l : List A). join (map f l)) (take-all (length xs) xs (omega arith))
 
 -- ---- lines joined
 pub text-then : (a c : List Line) → textOf (a ++ c) ≡ textOf a ++ textOf c

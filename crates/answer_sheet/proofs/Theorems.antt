@@ -17,7 +17,7 @@ use Rattle.views.specs.declared.Side.{Side}
 use Rattle.receiver.specs.declared.State.{State}
 use Rattle.answer_sheet.specs.declared.Recording.{Recording}
 use Rattle.answer_sheet.specs.declared.SheetAnswer.{SheetAnswer}
-use Rattle.answer_sheet.specs.Sheet.{sheetOf, sheetOk, Sheet, sheetAnd, stored, sheetView, sheetNumber}
+use Rattle.answer_sheet.specs.Sheet.{sheetOf, sheetOk, sheetMost, Sheet, sheetAnd, stored, sheetView, sheetNumber}
 use Rattle.answer_sheet.proofs.Bound.{Machine, sheet-le}
 
 -- a text that stands whole at the front of a buffer, with the rest as it was
@@ -61,8 +61,8 @@ module _ (word : Recording) (bad : ℕ) (s : State) (orders symbols b : List ℕ
         let w = sheet-told ok in
         (ap (λ (y : Sheet). y .answer) w, ap (λ (y : Sheet). y .buf) w ∙ (rw (drop-of-length-le b {i = length x} h) (append-nil (take (length b) x))))
 
-    -- a buffer of 1,500,000 bytes or more holds every sheet whole
-    pub sheet-whole : sheetOk s orders symbols ≡ true → Machine bad s symbols → 1500000 ≤ length b → Stands (sheetOf word bad s orders symbols) b a b'
+    -- a buffer of that many bytes holds every sheet whole
+    pub sheet-whole : sheetOk s orders symbols ≡ true → Machine bad s symbols → sheetMost ≤ length b → Stands (sheetOf word bad s orders symbols) b a b'
     sheet-whole ok m l = sheet-fits ok (omega (arith, sheet-le word bad s orders symbols ok m))
 
 -- ---- the key of a row

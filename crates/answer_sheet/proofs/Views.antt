@@ -17,17 +17,17 @@ use Rattle.fields.specs.Fields.{symbolOf}
 use Rattle.symbols.specs.Entries.{entries, used, idOf}
 use Rattle.symbols.proofs.FindLaws.{is-symbol, some-known}
 use Rattle.views.specs.Ladder.{keyOf, ladder, threeOf, written}
-use Rattle.views.specs.Views.{goodTables, viewFault, Shown, shown, ladderView}
+use Rattle.views.specs.Views.{goodTables, viewFault, LadderOut, ladderOut, ladderView}
 use Rattle.views.specs.declared.Level.{Level}
 use Rattle.views.specs.declared.Side.{Side}
 use Rattle.views.specs.declared.LadderAnswer.{LadderAnswer}
 use Rattle.views.proofs.Theorems.{level-stands, run-length}
 use Rattle.views.proofs.ViewLaws.{no-fault}
-use Rattle.text.specs.Text.{lineOf, each}
+use Rattle.text.specs.Text.{lineOf, firstTexts}
 use Rattle.answer_sheet.specs.Keys.{sideKey}
 use Rattle.answer_sheet.specs.Lines.{lineText, textOf}
 use Rattle.answer_sheet.specs.Sheet.{levelValue, levelLine, levelsShown, sideLines, symbolLines, bookLines, entryLines, allEntries, levelCount, levelAt}
-use Rattle.answer_sheet.proofs.Lines.{each-is, each-all-is, text-join, text-map}
+use Rattle.answer_sheet.proofs.Lines.{texts-of, texts-of-all, text-join, text-map}
 
 -- no view of a used entry's symbol is refused
 pub used-shown : (orders symbols : List ℕ) (i : ℕ) → goodTables orders symbols ≡ true → used (getD (entries symbols) i []) ≡ true → viewFault (idOf (getD (entries symbols) i [])) orders symbols ≡ 0
@@ -44,10 +44,10 @@ pub used-lines : (rs : List Row) (e : List ℕ) → used e ≡ true → textOf (
 unfolding entryLines pick
 used-lines rs e u = rw u
 
-pub entries-are : (orders symbols : List ℕ) (n : ℕ) → n ≡ length (entries symbols) → each (λ i. textOf (entryLines (rows orders) (getD (entries symbols) i []))) n ≡ textOf (allEntries orders symbols)
+pub entries-are : (orders symbols : List ℕ) (n : ℕ) → n ≡ length (entries symbols) → firstTexts (λ i. textOf (entryLines (rows orders) (getD (entries symbols) i []))) n ≡ textOf (allEntries orders symbols)
 unfolding allEntries
 entries-are orders symbols n e =
-    rw e (each-all-is (λ x. textOf (entryLines (rows orders) x)) (λ i. textOf (entryLines (rows orders) (getD (entries symbols) i []))) (entries symbols) [] (λ i h. refl) ∙ sym (text-join (entryLines (rows orders)) (entries symbols)))
+    rw e (texts-of-all (λ x. textOf (entryLines (rows orders) x)) (λ i. textOf (entryLines (rows orders) (getD (entries symbols) i []))) (entries symbols) [] (λ i h. refl) ∙ sym (text-join (entryLines (rows orders)) (entries symbols)))
 
 -- ---- a run of thirty numbers
 module _ (ls : List Level) (o : List ℕ) (l : length o ≡ 30) where
@@ -72,29 +72,29 @@ noLevel = record { price = 0; shares = 0; orders = 0 }
 -- the first levels of a run, each under the side's key
 module _ (side : Side) (id : ℕ) (key : List ℕ) (k : key ≡ sideKey side) where
   run-lines : (ls : List Level) (o : List ℕ) (n : ℕ) → length o ≡ 30 → n ≡ min levelsShown (length ls)
-      → each (λ i. lineOf key (levelValue (levelAt (written ls o) i))) n ≡ textOf (map (levelLine side id) (take levelsShown ls))
+      → firstTexts (λ i. lineOf key (levelValue (levelAt (written ls o) i))) n ≡ textOf (map (levelLine side id) (take levelsShown ls))
   unfolding levelsShown levelLine lineText
   run-lines ls o n l e =
-      each-is (λ x. lineOf key (levelValue x)) (λ i. lineOf key (levelValue (levelAt (written ls o) i))) ls noLevel n (omega arith) (λ i h. ap (λ (x : Level). lineOf key (levelValue x)) (stands ls o l i noLevel (omega arith) (omega arith)))
+      texts-of (λ x. lineOf key (levelValue x)) (λ i. lineOf key (levelValue (levelAt (written ls o) i))) ls noLevel n (omega arith) (λ i h. ap (λ (x : Level). lineOf key (levelValue x)) (stands ls o l i noLevel (omega arith) (omega arith)))
       ∙ ap (λ (x : List Level). join (map (λ y. lineOf key (levelValue y)) x)) (ap (λ (m : ℕ). take m ls) e ∙ shown-take ls 10)
       ∙ ap (λ (q : List ℕ). join (map (λ y. lineOf q (levelValue y)) (take 10 ls))) k
       ∙ sym (text-map (levelLine side id) (take 10 ls))
 
 -- ---- the ladder of a symbol whose views are not refused
-module _ (side : Side) (id : ℕ) (orders symbols o : List ℕ) (f : viewFault id orders symbols ≡ 0) (a : LadderAnswer) (u : List ℕ) (e : shown a u ≡ ladderView side id orders symbols o) where
-  told : shown a u ≡ shown (LadderAnswer.Levels (length (ladder (keyOf side id) (rows orders)))) (written (ladder (keyOf side id) (rows orders)) o)
+module _ (side : Side) (id : ℕ) (orders symbols o : List ℕ) (f : viewFault id orders symbols ≡ 0) (a : LadderAnswer) (u : List ℕ) (e : ladderOut a u ≡ ladderView side id orders symbols o) where
+  told : ladderOut a u ≡ ladderOut (LadderAnswer.Levels (length (ladder (keyOf side id) (rows orders)))) (written (ladder (keyOf side id) (rows orders)) o)
   unfolding ladderView pick
   told = e ∙ rw (eq-eqb (viewFault id orders symbols) 0 f)
 
   pub ladder-lines : (key : List ℕ) → key ≡ sideKey side → (n : ℕ) → length o ≡ 30 → n ≡ min levelsShown (levelCount a)
-      → each (λ i. lineOf key (levelValue (levelAt u i))) n ≡ textOf (sideLines side id (rows orders))
+      → firstTexts (λ i. lineOf key (levelValue (levelAt u i))) n ≡ textOf (sideLines side id (rows orders))
   unfolding levelCount sideLines
   ladder-lines key k n l m =
-      ap (λ (x : Shown). each (λ i. lineOf key (levelValue (levelAt (x .run) i))) n) told
-      ∙ run-lines side id key k (ladder (keyOf side id) (rows orders)) o n l (m ∙ ap (λ (x : Shown). min levelsShown (levelCount (x .answer))) told)
+      ap (λ (x : LadderOut). firstTexts (λ i. lineOf key (levelValue (levelAt (x .run) i))) n) told
+      ∙ run-lines side id key k (ladder (keyOf side id) (rows orders)) o n l (m ∙ ap (λ (x : LadderOut). min levelsShown (levelCount (x .answer))) told)
 
-  pub ladder-fits : (n : ℕ) → length o ≡ 30 → n ≡ min levelsShown (levelCount a) → 3 * n ≤ length u
+  pub run-fits : (n : ℕ) → length o ≡ 30 → n ≡ min levelsShown (levelCount a) → 3 * n ≤ length u
   unfolding levelsShown
-  ladder-fits n l m =
-      let r : length u ≡ 30 = ap (λ (x : Shown). length (x .run)) told ∙ (run-length (ladder (keyOf side id) (rows orders)) o ∙ l) in
+  run-fits n l m =
+      let r : length u ≡ 30 = ap (λ (x : LadderOut). length (x .run)) told ∙ (run-length (ladder (keyOf side id) (rows orders)) o ∙ l) in
       omega arith

@@ -111,6 +111,10 @@ linesOf word bad s orders symbols =
 unfoldable pub sheetOf : Recording → ℕ → State → List ℕ → List ℕ → List ℕ
 sheetOf word bad s orders symbols = textOf (linesOf word bad s orders symbols)
 
+-- as many bytes as the longest sheet may have, or more: 7 lines and 24 for each of 1,000 symbols, each of at most 60 bytes
+abbrev pub sheetMost : ℕ
+sheetMost = 1500000
+
 -- no refusal 6: "a table size outside these limits or not in whole rows, or a next number outside 1 to 10^12 + 1"
 unfoldable pub sheetOk : State → List ℕ → List ℕ → Bool
 sheetOk s orders symbols = both (goodTables orders symbols) (nextOk (s .next))
@@ -144,8 +148,8 @@ levelCount (LadderAnswer.Levels n) = n
 levelCount (LadderAnswer.Refused r) = 0
 
 -- what a view of good tables counted
-abbrev pub Counted : Sizes → List ℕ → List ℕ → Type 0
-Counted z orders symbols = CountsAnswer.Are z ≡ countsView orders symbols
+abbrev pub AreSizes : Sizes → List ℕ → List ℕ → Type 0
+AreSizes z orders symbols = CountsAnswer.Are z ≡ countsView orders symbols
 
 -- level i of a run of numbers, three to a level
 unfoldable pub levelAt : List ℕ → ℕ → Level

@@ -7,10 +7,10 @@ ghost use mathlib.Core.List.{[]};
 ghost use Rattle.rows.specs.Rows.{rows};
 ghost use Rattle.symbols.specs.Entries.{entries};
 ghost use Rattle.views.specs.Views.{goodTables, viewFault};
-ghost use Rattle.text.specs.Text.{Wrote, tickerOf, lineOf, each};
+ghost use Rattle.text.specs.Text.{Wrote, tickerOf, lineOf, firstTexts};
 ghost use Rattle.answer_sheet.specs.Keys.{recordingKey, tickerKey, spreadKey, sideKey};
 ghost use Rattle.answer_sheet.specs.Lines.{textOf};
-ghost use Rattle.answer_sheet.specs.Sheet.{recordingWord, headLines, tableLines, markedOf, levelValue, levelsShown, levelAt, levelCount, sideLines, spreadWord, symbolLines, bookLines, entryLines, allEntries, sheetOf, sheetAnd, sheetView, Counted};
+ghost use Rattle.answer_sheet.specs.Sheet.{recordingWord, headLines, tableLines, markedOf, levelValue, levelsShown, levelAt, levelCount, sideLines, spreadWord, symbolLines, bookLines, entryLines, allEntries, sheetOf, sheetAnd, sheetView, AreSizes};
 use fields::Refusal;
 use fields::Symbol;
 use receiver::State;
@@ -21,11 +21,14 @@ use views::Side;
 use views::Sizes;
 use views::SpreadAnswer;
 
+// A buffer of this many bytes holds any sheet whole (`sheet-whole`).
+pub const SHEET_MOST: usize = 1_500_000;
+
 // The most levels of a side on a sheet.
 const LEVELS_SHOWN: usize = 10;
 
 // Three numbers for each of them.
-const RUN_SIZE: usize = 30;
+const RUN_SIZE: usize = 3 * LEVELS_SHOWN;
 
 // A recording that ends inside a length or packet is cut.
 pub enum Recording {
@@ -100,7 +103,7 @@ fn level_in(run: &[u64], i: usize) -> Level
 // The first n levels of a run.
 fn levels(buf: &mut [u8], at: usize, key: &[u8], run: &[u64], n: usize) -> usize
     requires { ⌜ 3 * n ≤ length (now run) ⌝ }
-    ensures { λ r. ⌜ Wrote (now (buf .entry)) at (each (λ i. lineOf (now (key .entry)) (levelValue (levelAt (now (run .entry)) i))) n) (now (buf .exit)) r ⌝ }
+    ensures { λ r. ⌜ Wrote (now (buf .entry)) at (firstTexts (λ i. lineOf (now (key .entry)) (levelValue (levelAt (now (run .entry)) i))) n) (now (buf .exit)) r ⌝ }
 {
     let mut i = 0;
     let mut o = at;
@@ -221,7 +224,7 @@ fn all_lines(
     word: Recording,
     sizes: Sizes,
 ) -> usize
-    requires { ⌜ Counted sizes (now orders) (now symbols) ⌝ }
+    requires { ⌜ AreSizes sizes (now orders) (now symbols) ⌝ }
     ensures { λ r. ⌜ Wrote (now (buf .entry)) 0 (sheetOf word bad state (now (orders .entry)) (now (symbols .entry))) (now (buf .exit)) r × (state .stop < 2 ^ 8) × (state .clock .second < 2 ^ 32) ⌝ }
 {
     let clock = state.clock;

@@ -20,7 +20,7 @@ use Rattle.packet.specs.declared.Record.{Record}
 use Rattle.views.specs.declared.LadderAnswer.{LadderAnswer}
 use Rattle.views.specs.declared.SpreadAnswer.{SpreadAnswer}
 use Rattle.views.specs.declared.CountsAnswer.{CountsAnswer}
-use Rattle.views.specs.Views.{Shown, shown, spreadNumber}
+use Rattle.views.specs.Views.{LadderOut, ladderOut, spreadNumber}
 use Rattle.receiver.specs.declared.State.{State}
 use Rattle.receiver.specs.declared.Account.{Account}
 use Rattle.receiver.specs.declared.Received.{Received}
@@ -39,8 +39,8 @@ handed f g x k b q e = ap f (ap g (sym q) ∙ e)
 pub start-handed : (x k : Started) → x ≡ k → (o s h : List ℕ) (b : Begun) → begun x o s h ≡ b → (l : List ℕ) → startAnswer (begun k o s h) l ≡ startAnswer b l
 start-handed x k q o s h b e l = handed (λ y. startAnswer y l) (λ y. begun y o s h) x k b q e
 
-pub ladder-handed : (x k : LadderAnswer) → x ≡ k → (o : List ℕ) (v : Shown) → shown x o ≡ v → (l : List ℕ) → ladderAnswer (shown k o) l ≡ ladderAnswer v l
-ladder-handed x k q o v e l = handed (λ y. ladderAnswer y l) (λ y. shown y o) x k v q e
+pub ladder-handed : (x k : LadderAnswer) → x ≡ k → (o : List ℕ) (v : LadderOut) → ladderOut x o ≡ v → (l : List ℕ) → ladderAnswer (ladderOut k o) l ≡ ladderAnswer v l
+ladder-handed x k q o v e l = handed (λ y. ladderAnswer y l) (λ y. ladderOut y o) x k v q e
 
 pub counts-handed : (x k v : CountsAnswer) → x ≡ k → x ≡ v → (l : List ℕ) → countsAnswer k l ≡ countsAnswer v l
 counts-handed x k v q e l = handed (λ y. countsAnswer y l) (λ y. y) x k v q e

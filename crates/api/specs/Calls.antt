@@ -18,7 +18,7 @@ use Rattle.views.specs.declared.Side.{Side}
 use Rattle.views.specs.declared.LadderAnswer.{LadderAnswer}
 use Rattle.views.specs.declared.SpreadAnswer.{SpreadAnswer}
 use Rattle.views.specs.declared.CountsAnswer.{CountsAnswer}
-use Rattle.views.specs.Views.{Shown, ladderNumber, spreadNumber, countsNumber}
+use Rattle.views.specs.Views.{LadderOut, ladderNumber, spreadNumber, countsNumber}
 use Rattle.answer_sheet.specs.declared.Recording.{Recording}
 use Rattle.answer_sheet.specs.declared.SheetAnswer.{SheetAnswer}
 use Rattle.answer_sheet.specs.Sheet.{Sheet, sheetNumber}
@@ -103,7 +103,7 @@ abbrev pub levelsTold : LadderAnswer → List ℕ → List ℕ
 levelsTold (LadderAnswer.Levels n) l = n ∷ []
 levelsTold (LadderAnswer.Refused r) l = l
 
-unfoldable pub ladderAnswer : Shown → List ℕ → FillCall
+unfoldable pub ladderAnswer : LadderOut → List ℕ → FillCall
 ladderAnswer v l = fillCall (ladderNumber (v .answer)) (levelsTold (v .answer) l) (v .run)
 
 -- a number, and the one thing lent for writing

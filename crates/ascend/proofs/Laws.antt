@@ -28,10 +28,6 @@ pub rising-ascends : (T b : ℕ) (xs : List ℕ) → Rising T b xs → Ascends b
 rising-ascends T b [] r = tt
 rising-ascends T b (x ∷ xs) r = (r .0, rising-ascends T (suc x) xs (r .1))
 
-pub rising-down : (T b c : ℕ) (xs : List ℕ) → c ≤ b → Rising T b xs → Rising T c xs
-rising-down T b c [] h r = omega arith
-rising-down T b c (x ∷ xs) h r = (omega arith, r .1)
-
 -- ---- an insertion
 ins-run : (E : ℕ → Type 0) (d b : ℕ) (xs : List ℕ) → E (suc d) → b ≤ d → Run E b xs → Run E b (ins d xs)
 unfolding ins

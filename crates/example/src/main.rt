@@ -12,9 +12,9 @@ use recording::Stream;
 // Three rows and one entry: what document 01's example needs.
 fn main() {
     let mut orders = [0u64; 15];
-    let mut symbols = [0u8; 42];
-    let mut shelf = [0u8; 4736];
-    let mut hold = [0u8; 1502];
+    let mut symbols = [0u8; facts::ENTRY_SIZE];
+    let mut shelf = [0u8; facts::SHELF_SIZE];
+    let mut hold = [0u8; facts::HOLD_LEAST];
     let mut block = [0u8; 4096];
     let mut text = [0u8; 4096];
     play(

@@ -14,8 +14,11 @@ use libc::STDIN_FILENO;
 use libc::STDOUT_FILENO;
 use packet::Packet;
 
+// The longest packet that a two-byte length can announce.
+const LONGEST: usize = 65535;
+
 fn main() {
-    let mut held = [0u8; 65535];
+    let mut held = [0u8; LONGEST];
     read_all(&mut held);
 }
 

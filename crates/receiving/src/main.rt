@@ -11,12 +11,23 @@ use views::LadderAnswer;
 use views::Side;
 use views::SpreadAnswer;
 
+// Full capacities: five numbers a row.
+const ORDERS: usize = 5 * facts::MOST_ROWS;
+
+const SYMBOLS: usize = facts::ENTRY_SIZE * facts::MOST_ENTRIES;
+
+// Every row may make a level, of three numbers.
+const LEVELS: usize = 3 * facts::MOST_ROWS;
+
+// The longest packet that a two-byte length can announce.
+const LONGEST: usize = 65535;
+
 fn main() {
-    let mut orders = [0u64; 8000];
-    let mut symbols = [0u8; 42000];
-    let mut shelf = [0u8; 4736];
-    let mut held = [0u8; 65535];
-    let mut levels = [0u64; 4800];
+    let mut orders = [0u64; ORDERS];
+    let mut symbols = [0u8; SYMBOLS];
+    let mut shelf = [0u8; facts::SHELF_SIZE];
+    let mut held = [0u8; LONGEST];
+    let mut levels = [0u64; LEVELS];
     play(
         &mut orders,
         &mut symbols,

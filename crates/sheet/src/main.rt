@@ -10,6 +10,14 @@ use receiver::State;
 use recording::Fed;
 use recording::Stream;
 
+// "It uses full capacities": five numbers a row.
+const ORDERS: usize = 5 * facts::MOST_ROWS;
+
+const SYMBOLS: usize = facts::ENTRY_SIZE * facts::MOST_ENTRIES;
+
+// What is read at a time.
+const BLOCK: usize = 65536;
+
 // What the program is asked for.
 pub enum Task {
     Sheet,
@@ -28,12 +36,12 @@ pub enum Outcome {
 
 // Each array is lent once, and no element of one is read or stored here.
 fn main() {
-    let mut orders = [0u64; 8000];
-    let mut symbols = [0u8; 42000];
-    let mut shelf = [0u8; 4736];
-    let mut hold = [0u8; 1502];
-    let mut block = [0u8; 65536];
-    let mut text = [0u8; 1500000];
+    let mut orders = [0u64; ORDERS];
+    let mut symbols = [0u8; SYMBOLS];
+    let mut shelf = [0u8; facts::SHELF_SIZE];
+    let mut hold = [0u8; facts::HOLD_LEAST];
+    let mut block = [0u8; BLOCK];
+    let mut text = [0u8; answer_sheet::SHEET_MOST];
     lend(
         &mut orders,
         &mut symbols,
@@ -46,12 +54,12 @@ fn main() {
 
 // The arrays become slices here: at an array's reference no length is asked, however long it is.
 fn lend(
-    orders: &mut [u64; 8000],
-    symbols: &mut [u8; 42000],
-    shelf: &mut [u8; 4736],
-    hold: &mut [u8; 1502],
-    block: &mut [u8; 65536],
-    text: &mut [u8; 1500000],
+    orders: &mut [u64; ORDERS],
+    symbols: &mut [u8; SYMBOLS],
+    shelf: &mut [u8; facts::SHELF_SIZE],
+    hold: &mut [u8; facts::HOLD_LEAST],
+    block: &mut [u8; BLOCK],
+    text: &mut [u8; answer_sheet::SHEET_MOST],
 ) {
     answer(orders, symbols, shelf, hold, block, text);
 }

@@ -10,7 +10,7 @@ use native.Mathlib.Numerals.{add-one}
 use lib.ListN.{length, getD, take, drop, set, length-set, length-append, length-take, take-append-drop, drop-of-length-le}
 use lib.Seq.{sets, length-sets, sets-eq, set-out, take-suc, take-all}
 use Rattle.facts.proofs.Picks.{no-second}
-use Rattle.text.specs.Text.{lastPlace, Wrote, each}
+use Rattle.text.specs.Text.{lastPlace, Wrote, firstTexts}
 
 -- ---- stores
 -- past the end nothing is stored
@@ -77,16 +77,16 @@ map-more f s i h p q = rw (add-one, take-suc s i 0, map-snoc) (wrote-then p q)
 pub map-all : (f : ℕ → ℕ) (s : List ℕ) (i : ℕ) {b b' : List ℕ} {at r : ℕ} → length s ≤ i → Wrote b at (map f (take i s)) b' r → Wrote b at (map f s) b' r
 map-all f s i h p = wrote-as (ap (map f) (take-all i s h)) p
 
-pub each-none : (f : ℕ → List ℕ) {b : List ℕ} {at : ℕ} → length b ≤ lastPlace → Wrote b at (each f 0) b at
-unfolding each
-each-none f l = wrote-none l
+pub texts-none : (f : ℕ → List ℕ) {b : List ℕ} {at : ℕ} → length b ≤ lastPlace → Wrote b at (firstTexts f 0) b at
+unfolding firstTexts
+texts-none f l = wrote-none l
 
-pub each-more : (f : ℕ → List ℕ) {i : ℕ} {b b' b'' : List ℕ} {at r r' : ℕ} → Wrote b at (each f i) b' r → Wrote b' r (f i) b'' r' → Wrote b at (each f (i + 1)) b'' r'
-unfolding each
-each-more f {i} p q = rw add-one (wrote-then p q)
+pub texts-more : (f : ℕ → List ℕ) {i : ℕ} {b b' b'' : List ℕ} {at r r' : ℕ} → Wrote b at (firstTexts f i) b' r → Wrote b' r (f i) b'' r' → Wrote b at (firstTexts f (i + 1)) b'' r'
+unfolding firstTexts
+texts-more f {i} p q = rw add-one (wrote-then p q)
 
-pub each-all : (f : ℕ → List ℕ) {i n : ℕ} {b b' : List ℕ} {at r : ℕ} → i ≤ n → n ≤ i → Wrote b at (each f i) b' r → Wrote b at (each f n) b' r
-each-all f {i} {n} h h' p = let e : i ≡ n = omega arith in rw e at p
+pub texts-all : (f : ℕ → List ℕ) {i n : ℕ} {b b' : List ℕ} {at r : ℕ} → i ≤ n → n ≤ i → Wrote b at (firstTexts f i) b' r → Wrote b at (firstTexts f n) b' r
+texts-all f {i} {n} h h' p = let e : i ≡ n = omega arith in rw e at p
 
 -- ---- what an append says
 -- no second outcome fits

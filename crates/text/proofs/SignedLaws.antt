@@ -14,6 +14,7 @@ use borrow.Author.Tests.{ltb-true}
 use mir.Syntax.{w64}
 use mir.Val.{Fits, SFits, toZ, ofZ}
 use mir.ValLaws.{toZ-ofZ}
+use Rattle.facts.specs.Limits.{mostPrice}
 use Rattle.text.specs.Text.{decimalOf, signedOf}
 use Rattle.text.proofs.DecimalLaws.{decimal-length, decimal-digits, decimal-some, decimal-same}
 
@@ -84,8 +85,8 @@ unfolding signedOf
 signed-length k (pos n) h = omega (arith, decimal-length k n h)
 signed-length k (negsuc n) h = omega (arith, length-append (45 ∷ []) (decimalOf (suc n)), decimal-length k (suc n) h)
 
--- a spread: the difference of two prices, which are at most 10^15
-pub spread-le : (z : ℤ) → natAbs z ≤ 1000000000000000 → length (signedOf z) ≤ 17
+-- a spread: the difference of two prices
+pub spread-le : (z : ℤ) → natAbs z ≤ mostPrice → length (signedOf z) ≤ 17
 spread-le z h = signed-length 15 z (omega arith)
 
 -- ---- no two numbers are shown alike

@@ -21,9 +21,9 @@ unfolding decimalOf digitsOf pick
 largest-is = refl
 
 -- P9: "spread -20000"
-pub crossed-is : signedOf (negsuc 19999) ≡ 45 ∷ 50 ∷ 48 ∷ 48 ∷ 48 ∷ 48 ∷ []
+pub negative-is : signedOf (negsuc 19999) ≡ 45 ∷ 50 ∷ 48 ∷ 48 ∷ 48 ∷ 48 ∷ []
 unfolding signedOf decimalOf digitsOf pick
-crossed-is = refl
+negative-is = refl
 
 -- "ticker=ABC", from eleven bytes
 pub ticker-is : tickerOf (65 ∷ 66 ∷ 67 ∷ 32 ∷ 32 ∷ 32 ∷ 32 ∷ 32 ∷ 32 ∷ 32 ∷ 32 ∷ []) ≡ 65 ∷ 66 ∷ 67 ∷ []

@@ -56,6 +56,6 @@ unfoldable pub lineOf : List ℕ → List ℕ → List ℕ
 lineOf key value = key ++ (value ++ (10 ∷ []))
 
 -- "up to ten levels a side, .. symbols in table order": f 0, then f 1, up to f (n - 1)
-unfoldable pub each : (ℕ → List ℕ) → ℕ → List ℕ
-each f zero = []
-each f (suc n) = each f n ++ f n
+unfoldable pub firstTexts : (ℕ → List ℕ) → ℕ → List ℕ
+firstTexts f zero = []
+firstTexts f (suc n) = firstTexts f n ++ f n

@@ -10,17 +10,17 @@ use lib.ListN.{length, getD, drop, drop-of-length-le, length-map}
 use lib.Seq.{drop-cons}
 use lib.Dec.{leb, eqb}
 use borrow.Author.Tests.{eq-eqb, ne-eqb, le-leb, lt-leb}
-use Rattle.facts.specs.Limits.{mostPrice}
+use Rattle.facts.specs.Limits.{mostPrice, mostRows}
 use Rattle.facts.specs.Pick.{pick}
 use Rattle.facts.specs.Sums.{sumBy, countBy}
 use Rattle.facts.proofs.Picks.{pick-ind, both-true}
 use Rattle.facts.proofs.SumLaws.{count-bound}
 use Rattle.rows.specs.declared.Row.{Row}
 use Rattle.rows.specs.Keys.{keyFor, sideIn}
-use Rattle.rows.specs.Rows.{rows, rowCount, zeroRow, live, goodRows}
+use Rattle.rows.specs.Rows.{rows, rowCount, zeroRow, live, maxRows, goodRows}
 use Rattle.rows.specs.Find.{ofKey}
 use Rattle.rows.proofs.Tables.{length-rows}
-use Rattle.rows.proofs.Judged.{live-ranges, key-is, good-rows, rows-fit}
+use Rattle.rows.proofs.Judged.{live-ranges, key-is, good-rows}
 use Rattle.rows.proofs.Walks.{shares-bound}
 use Rattle.ascend.specs.Ascend.{ins, leastFrom, fromOn, places}
 use Rattle.ascend.proofs.Laws.{Rising, ins-least, least-top, from-all, from-none, from-some}
@@ -165,11 +165,12 @@ module _ (k : ℕ) (rs : List Row) where
 
 -- ---- sums of a table of good size
 module _ (k p : ℕ) (t : List ℕ) (g : goodRows (length t) ≡ true) where
-  rows-few : length (rows t) ≤ 16384
-  rows-few = rw length-rows (omega (arith, good-rows (length t) g .1, rows-fit))
+  rows-few : length (rows t) ≤ mostRows
+  unfolding maxRows
+  rows-few = rw length-rows (good-rows (length t) g .1)
 
-  pub shares-fit : sumBy (sizeAt k p) (rows t) ≤ 4294967295 * 16384
+  pub shares-fit : sumBy (sizeAt k p) (rows t) ≤ 4294967295 * mostRows
   shares-fit = omega (arith, shares-bound (atPrice k p) (at-price-live k p) (rows t), rows-few)
 
-  pub orders-fit : countBy (atPrice k p) (rows t) ≤ 16384
+  pub orders-fit : countBy (atPrice k p) (rows t) ≤ mostRows
   orders-fit = omega (arith, count-bound (atPrice k p) (rows t), rows-few)

@@ -97,10 +97,10 @@ module _ (k : ℕ) (rs : List Row) where
   price-sums f = sum-prices k f rs (placesOf k rs) (places-low k rs) ∙ sum-places (ofKey k) (λ r. far k (r .price)) f rs
 
 -- what holds of every price holds of the one that a row counted in stands at
-pub counted : (k : ℕ) (r : Row) (P : ℕ → Type 0) (ps : List ℕ) → All P ps → 1 ≤ countBy (λ p. atPrice k p r) ps → P (r .price)
+pub stands-at : (k : ℕ) (r : Row) (P : ℕ → Type 0) (ps : List ℕ) → All P ps → 1 ≤ countBy (λ p. atPrice k p r) ps → P (r .price)
 unfolding countBy sumBy
-counted k r P [] a h = absurd (omega arith)
-counted k r P (p ∷ ps) a h = go (λ l. counted k r P ps (a .1) l) (atPrice k p r) refl
+stands-at k r P [] a h = absurd (omega arith)
+stands-at k r P (p ∷ ps) a h = go (λ l. stands-at k r P ps (a .1) l) (atPrice k p r) refl
   where
     go : (1 ≤ countBy (λ p. atPrice k p r) ps → P (r .price)) → (b : Bool) → atPrice k p r ≡ b → P (r .price)
     go rec true e = let q : r .price ≡ p = eqb-true (r .price) p (at-price-is k p r e .1) in rw q (a .0)

@@ -67,9 +67,9 @@ some-price k rs a = go (prices k rs) refl
     go [] e = absurd (omega (arith, no-levels k rs e, any-sum (ofKey k) (λ r. 1) (λ r h. omega arith) rs a))
     go (p ∷ ps) e = (p, (ps, e))
 
-no-price : (k : ℕ) (rs : List Row) → anyBy (ofKey k) rs ≡ false → prices k rs ≡ []
+side-empty : (k : ℕ) (rs : List Row) → anyBy (ofKey k) rs ≡ false → prices k rs ≡ []
 unfolding countBy
-no-price k rs a = no-orders k rs (none-sum (ofKey k) (λ r. 1) rs a)
+side-empty k rs a = no-orders k rs (none-sum (ofKey k) (λ r. 1) rs a)
 
 -- best offer less best bid, where each is the price of a live order and no live order of its side is better
 pub record Quoted (s : ℕ) (rs : List Row) (a : SpreadAnswer) : Type 0 where
@@ -102,10 +102,10 @@ module _ (s : ℕ) (rs : List Row) where
 
   -- "with a side empty the answer is none"
   pub no-buys-none : anyBy (ofKey (keyOf Side.Buy s)) rs ≡ false → spreadOf s rs ≡ SpreadAnswer.Empty
-  no-buys-none e = no-bids-empty s rs (no-price (keyOf Side.Buy s) rs e)
+  no-buys-none e = no-bids-empty s rs (side-empty (keyOf Side.Buy s) rs e)
 
   pub no-sells-none : anyBy (ofKey (keyOf Side.Sell s)) rs ≡ false → spreadOf s rs ≡ SpreadAnswer.Empty
-  no-sells-none e = no-offers-empty s rs (no-price (keyOf Side.Sell s) rs e)
+  no-sells-none e = no-offers-empty s rs (side-empty (keyOf Side.Sell s) rs e)
 
 -- a view that is not refused, of a symbol with a live buy and a live sell row, answers best offer less best bid
 pub spread-quoted : (s : ℕ) (orders symbols : List ℕ) → viewFault s orders symbols ≡ 0 → anyBy (ofKey (keyOf Side.Buy s)) (rows orders) ≡ true → anyBy (ofKey (keyOf Side.Sell s)) (rows orders) ≡ true

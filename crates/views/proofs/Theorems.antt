@@ -32,10 +32,10 @@ use Rattle.views.specs.declared.SpreadAnswer.{SpreadAnswer}
 use Rattle.views.specs.declared.CountsAnswer.{CountsAnswer}
 use Rattle.views.specs.Ladder.{keyOf, far, atPrice, placesOf, prices, levelOf, ladder, threeOf, fitting, written}
 use Rattle.views.specs.Nearest.{beyond}
-use Rattle.views.specs.Views.{goodTables, viewFault, Shown, ladderView, spreadView, countsView, ladderNumber, spreadNumber, countsNumber}
+use Rattle.views.specs.Views.{goodTables, viewFault, LadderOut, ladderView, spreadView, countsView, ladderNumber, spreadNumber, countsNumber}
 use Rattle.views.specs.Spread.{between, spreadOf}
 use Rattle.views.proofs.Laws.{at-price-live, rising}
-use Rattle.views.proofs.Levels.{counted, falls-below, ascends-above, Falls, bid-prices-fall, offer-prices, prices-low, places-low, any-in-place, sum-prices, alone, mine-once, price-sums}
+use Rattle.views.proofs.Levels.{stands-at, falls-below, ascends-above, Falls, bid-prices-fall, offer-prices, prices-low, places-low, any-in-place, sum-prices, alone, mine-once, price-sums}
 use Rattle.views.proofs.Runs.{fitting-length, fitting-at}
 use Rattle.views.proofs.Spreads.{Sides, sides, between-none, spread-told}
 
@@ -123,14 +123,14 @@ pub bid-highest : (s : ℕ) (rs : List Row) (b : ℕ) (bs : List ℕ) → prices
 bid-highest s rs b bs e =
     let f : Falls (mostPrice + 1) (b ∷ bs) = rw e at (bids-fall s rs) in
     let l : All (λ p. p ≤ b) (prices (keyOf Side.Buy s) rs) = rw e (omega arith, all-weaken (λ x h. omega arith) bs (falls-below b bs (f .1))) in
-    all-weaken (λ r h m. counted (keyOf Side.Buy s) r (λ p. p ≤ b) (prices (keyOf Side.Buy s) rs) l (omega (arith, h m))) rs (at-one-price (keyOf Side.Buy s) rs)
+    all-weaken (λ r h m. stands-at (keyOf Side.Buy s) r (λ p. p ≤ b) (prices (keyOf Side.Buy s) rs) l (omega (arith, h m))) rs (at-one-price (keyOf Side.Buy s) rs)
 
 -- and no live offer below the best
 pub offer-lowest : (s : ℕ) (rs : List Row) (a : ℕ) (os : List ℕ) → prices (keyOf Side.Sell s) rs ≡ a ∷ os → All (λ r. ofKey (keyOf Side.Sell s) r ≡ true → a ≤ r .price) rs
 offer-lowest s rs a os e =
     let f : Ascends 0 (a ∷ os) = rw e at (offers-rise s rs) in
     let l : All (λ p. a ≤ p) (prices (keyOf Side.Sell s) rs) = rw e (omega arith, all-weaken (λ x h. omega arith) os (ascends-above (suc a) os (f .1))) in
-    all-weaken (λ r h m. counted (keyOf Side.Sell s) r (λ p. a ≤ p) (prices (keyOf Side.Sell s) rs) l (omega (arith, h m))) rs (at-one-price (keyOf Side.Sell s) rs)
+    all-weaken (λ r h m. stands-at (keyOf Side.Sell s) r (λ p. a ≤ p) (prices (keyOf Side.Sell s) rs) l (omega (arith, h m))) rs (at-one-price (keyOf Side.Sell s) rs)
 
 -- ---- by index
 module _ (ls : List Level) (o : List ℕ) where
@@ -179,7 +179,7 @@ module _ (s : ℕ) (orders symbols : List ℕ) where
   pub ladder-number : (side : Side) (out : List ℕ) → ladderNumber (ladderView side s orders symbols out .answer) ≡ viewFault s orders symbols
   unfolding ladderView ladderNumber
   ladder-number side out =
-      pick-ind (λ (x : Shown). ladderNumber (x .answer) ≡ viewFault s orders symbols) (eqb (viewFault s orders symbols) 0) _ _
+      pick-ind (λ (x : LadderOut). ladderNumber (x .answer) ≡ viewFault s orders symbols) (eqb (viewFault s orders symbols) 0) _ _
       (λ e. sym (eqb-true (viewFault s orders symbols) 0 e))
       (λ e. refl)
 

@@ -18,7 +18,7 @@ use Rattle.views.specs.declared.LadderAnswer.{LadderAnswer}
 use Rattle.views.specs.declared.SpreadAnswer.{SpreadAnswer}
 use Rattle.views.specs.Ladder.{keyOf, ladder, written, Laid, laidOut, ladderRun}
 use Rattle.views.specs.Spread.{spreadOf}
-use Rattle.views.specs.Views.{goodTables, viewFault, shown, ladderView, spreadView}
+use Rattle.views.specs.Views.{goodTables, viewFault, ladderOut, ladderView, spreadView}
 
 module _ (s : ℕ) (orders symbols : List ℕ) where
   -- ---- the fault
@@ -45,17 +45,17 @@ module _ (s : ℕ) (orders symbols : List ℕ) where
 
   -- ---- the ladder
   module _ (side : Side) (out : List ℕ) where
-    pub ladder-refused : (viewFault s orders symbols ≡ 0 → ⊥) → shown (LadderAnswer.Refused (refusal (viewFault s orders symbols))) out ≡ ladderView side s orders symbols out
+    pub ladder-refused : (viewFault s orders symbols ≡ 0 → ⊥) → ladderOut (LadderAnswer.Refused (refusal (viewFault s orders symbols))) out ≡ ladderView side s orders symbols out
     unfolding ladderView pick
     ladder-refused n = rw (ne-eqb (viewFault s orders symbols) 0 n)
 
     pub ladder-shown : viewFault s orders symbols ≡ 0 → (n : ℕ) (u : List ℕ) → laidOut n u ≡ ladderRun (keyOf side s) orders out
-        → shown (LadderAnswer.Levels n) u ≡ ladderView side s orders symbols out
+        → ladderOut (LadderAnswer.Levels n) u ≡ ladderView side s orders symbols out
     unfolding ladderView ladderRun goodTables pick
     ladder-shown e n u f =
         let g : goodRows (length orders) ≡ true = both-true (fault-none e .0) .0 in
         let w : laidOut n u ≡ laidOut (length (ladder (keyOf side s) (rows orders))) (written (ladder (keyOf side s) (rows orders)) out) = f ∙ rw g in
-        rw (eq-eqb (viewFault s orders symbols) 0 e) (ap (λ (x : Laid). shown (LadderAnswer.Levels (x .count)) (x .run)) w)
+        rw (eq-eqb (viewFault s orders symbols) 0 e) (ap (λ (x : Laid). ladderOut (LadderAnswer.Levels (x .count)) (x .run)) w)
 
   -- ---- the spread
   pub spread-refused : (viewFault s orders symbols ≡ 0 → ⊥) → SpreadAnswer.Refused (refusal (viewFault s orders symbols)) ≡ spreadView s orders symbols

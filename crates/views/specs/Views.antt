@@ -26,19 +26,19 @@ unfoldable pub viewFault : ℕ → List ℕ → List ℕ → ℕ
 viewFault s orders symbols = pick (goodTables orders symbols) (pick (knownSymbol s (entries symbols)) 0 30) 6
 
 -- an answer, and the lent run behind it
-pub record Shown : Type 0 where
+pub record LadderOut : Type 0 where
   pub answer : LadderAnswer
   pub run : List ℕ
 
-abbrev pub shown : LadderAnswer → List ℕ → Shown
-shown a o = record { answer = a; run = o }
+abbrev pub ladderOut : LadderAnswer → List ℕ → LadderOut
+ladderOut a o = record { answer = a; run = o }
 
 -- "written into a lent run while a whole level fits .. The answer is the number of all levels, written or not"; "Each refusal returns its number alone; tables, output and state keep every byte"
-unfoldable pub ladderView : Side → ℕ → List ℕ → List ℕ → List ℕ → Shown
+unfoldable pub ladderView : Side → ℕ → List ℕ → List ℕ → List ℕ → LadderOut
 ladderView side s orders symbols out =
     pick (eqb (viewFault s orders symbols) 0)
-    (shown (LadderAnswer.Levels (length (ladder (keyOf side s) (rows orders)))) (written (ladder (keyOf side s) (rows orders)) out))
-    (shown (LadderAnswer.Refused (refusal (viewFault s orders symbols))) out)
+    (ladderOut (LadderAnswer.Levels (length (ladder (keyOf side s) (rows orders)))) (written (ladder (keyOf side s) (rows orders)) out))
+    (ladderOut (LadderAnswer.Refused (refusal (viewFault s orders symbols))) out)
 
 -- "best offer less best bid in millionths, signed .. with a side empty the answer is none"
 unfoldable pub spreadView : ℕ → List ℕ → List ℕ → SpreadAnswer

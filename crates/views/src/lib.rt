@@ -10,7 +10,7 @@ ghost use Rattle.ascend.specs.Ascend.{leastFrom};
 ghost use Rattle.views.specs.Ladder.{keyOf, far, atPrice, placesOf, levelOf, putLevel, laidOut, ladderRun};
 ghost use Rattle.views.specs.Nearest.{beyond, near};
 ghost use Rattle.views.specs.Spread.{spreadOf};
-ghost use Rattle.views.specs.Views.{goodTables, viewFault, shown, ladderView, spreadView, countsView};
+ghost use Rattle.views.specs.Views.{goodTables, viewFault, ladderOut, ladderView, spreadView, countsView};
 use fields::Refusal;
 use rows::Row;
 
@@ -222,7 +222,7 @@ pub fn ladder(
     side: Side,
     out: &mut [u64],
 ) -> LadderAnswer
-    ensures { λ r. ⌜ shown r (now (out .exit)) ≡ ladderView side symbol (now (orders .entry)) (now (symbols .entry)) (now (out .entry)) ⌝ }
+    ensures { λ r. ⌜ ladderOut r (now (out .exit)) ≡ ladderView side symbol (now (orders .entry)) (now (symbols .entry)) (now (out .entry)) ⌝ }
 {
     let fault = view_fault(orders, symbols, symbol);
     if fault != 0 {

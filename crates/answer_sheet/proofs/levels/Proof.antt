@@ -5,19 +5,19 @@ use borrow.Author.Needs.{needs}
 use mathlib.Core.Path.{ap}
 use Rattle.views.specs.declared.Level.{Level}
 use Rattle.answer_sheet.specs.Sheet.{levelValue, levelAt}
-use Rattle.text.specs.Text.{Wrote, lineOf, each}
-use Rattle.text.proofs.Laws.{wrote-as, wrote-kept, each-none, each-more, each-all}
+use Rattle.text.specs.Text.{Wrote, lineOf, firstTexts}
+use Rattle.text.proofs.Laws.{wrote-as, wrote-kept, texts-none, texts-more, texts-all}
 use Rattle.answer_sheet.proofs.levels.Statement.{statement}
 use Rattle.answer_sheet.proofs.levels.Tie as tie
 
 abbrev Inv-loop : tie.InvT-loop
-Inv-loop buf₀ at key run n i₀ o₀ buf i o = (i ≤ n) × Wrote buf₀ at (each (λ j. lineOf key (levelValue (levelAt run j))) i) buf o
+Inv-loop buf₀ at key run n i₀ o₀ buf i o = (i ≤ n) × Wrote buf₀ at (firstTexts (λ j. lineOf key (levelValue (levelAt run j))) i) buf o
 
 abbrev μ-loop : tie.MeasureT-loop
 μ-loop buf₀ at key run n i₀ o₀ buf i o = n - i
 
 loop-holds : tie.Need-loop-holds Inv-loop μ-loop
-loop-holds c = (search needs, each-none _ (search needs))
+loop-holds c = (search needs, texts-none _ (search needs))
 
 level-in-requires : tie.Need-level-in-requires Inv-loop μ-loop
 level-in-requires c κs = search needs
@@ -32,13 +32,13 @@ loop-less : tie.Need-loop-less Inv-loop μ-loop
 loop-less c = search needs
 
 loop-again : tie.Need-loop-again Inv-loop μ-loop
-loop-again c = (search needs, each-more _ (c .before .before .before .before .before .before .loop .inv .1) (wrote-as (ap (λ (l : Level). lineOf (c .before .before .before .before .before .before .before .before .before .before .args .key .now) (levelValue l)) (c .before .before .before .level-in .ensures)) (c .before .before .level-line .ensures)))
+loop-again c = (search needs, texts-more _ (c .before .before .before .before .before .before .loop .inv .1) (wrote-as (ap (λ (l : Level). lineOf (c .before .before .before .before .before .before .before .before .before .before .args .key .now) (levelValue l)) (c .before .before .before .level-in .ensures)) (c .before .before .level-line .ensures)))
 
 same-length : tie.Need-same-length Inv-loop μ-loop
 same-length c = wrote-kept (c .before .loop .inv .1)
 
 returns : tie.Need-returns Inv-loop μ-loop
-returns c = each-all _ (c .before .loop .inv .0) (c .loop-test .left) (c .before .loop .inv .1)
+returns c = texts-all _ (c .before .loop .inv .0) (c .loop-test .left) (c .before .loop .inv .1)
 
 pub levels-spec : {M : Type 1} → statement M
 levels-spec =

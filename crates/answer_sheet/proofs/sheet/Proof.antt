@@ -4,7 +4,7 @@ use mathlib.Core.Path.{sym, _∙_}
 use borrow.Author.Tests.{not-true, not-false}
 use native.Mathlib.Omega.{arith}
 use Rattle.answer_sheet.proofs.Bound.{Machine}
-use Rattle.answer_sheet.proofs.Exits.{counted-good, uncounted-bad, sizes-refused, next-refused, sheet-stored}
+use Rattle.answer_sheet.proofs.Exits.{sizes-good, sizes-bad, sizes-refused, next-refused, sheet-stored}
 use borrow.Author.Needs.{needs}
 use Rattle.answer_sheet.proofs.sheet.Statement.{statement}
 use Rattle.answer_sheet.proofs.sheet.Tie as tie
@@ -21,7 +21,7 @@ enum-told c = search needs
 returns : tie.Need-returns
 returns c =
     let a = c .before .before .before .before .before .before .args in
-    sizes-refused (a .word) (a .bad) (a .state) (a .orders .now) (a .symbols .now) (a .buf .now) (uncounted-bad (a .orders .now) (a .symbols .now) _ (sym (c .enum-told .given .1) ∙ c .before .before .counts .ensures))
+    sizes-refused (a .word) (a .bad) (a .state) (a .orders .now) (a .symbols .now) (a .buf .now) (sizes-bad (a .orders .now) (a .symbols .now) _ (sym (c .enum-told .given .1) ∙ c .before .before .counts .ensures))
 
 next-ok-requires : tie.Need-next-ok-requires
 next-ok-requires c κs = search needs
@@ -30,7 +30,7 @@ returns-2 : tie.Need-returns-2
 returns-2 c =
     let told = c .before .before .before in
     let a = told .before .before .before .before .before .before .args in
-    let g = counted-good (a .orders .now) (a .symbols .now) _ (sym (told .c .given .1) ∙ told .before .before .counts .ensures) in
+    let g = sizes-good (a .orders .now) (a .symbols .now) _ (sym (told .c .given .1) ∙ told .before .before .counts .ensures) in
     next-refused (a .word) (a .bad) (a .state) (a .orders .now) (a .symbols .now) (a .buf .now) g (sym (c .before .next-ok .ensures) ∙ not-true _ (c .if1 .taken))
 
 all-lines-requires : tie.Need-all-lines-requires
@@ -46,7 +46,7 @@ returns-3 c =
     let tried = c .before .before .before .before in
     let told = tried .before .before .before in
     let a = told .before .before .before .before .before .before .args in
-    let g = counted-good (a .orders .now) (a .symbols .now) _ (sym (told .c .given .1) ∙ told .before .before .counts .ensures) in
+    let g = sizes-good (a .orders .now) (a .symbols .now) _ (sym (told .c .given .1) ∙ told .before .before .counts .ensures) in
     let n = sym (tried .before .next-ok .ensures) ∙ not-false _ (tried .if1 .left) in
     let wrote = c .before .before .all-lines .ensures in
     let m : Machine (a .bad) (a .state) (a .symbols .now) = record { bad-fits = search needs; second-fits = wrote .2; stop-fits = wrote .1; bytes = λ i. omega (arith, told .before .before .before .shared-slice-known2 .given i) } in

@@ -2,7 +2,7 @@
 -- Assumes nothing.
 use mathlib.Core.Path.{refl}
 use Rattle.text.proofs.Laws.{wrote-as}
-use Rattle.answer_sheet.proofs.Views.{ladder-lines, ladder-fits}
+use Rattle.answer_sheet.proofs.Views.{ladder-lines, run-fits}
 use borrow.Author.Needs.{needs}
 use Rattle.answer_sheet.proofs.side_lines.Statement.{statement}
 use Rattle.answer_sheet.proofs.side_lines.Tie as tie
@@ -24,7 +24,7 @@ levels-requires c κs =
     let laid = c .before .before .before .before in
     let start = laid .before .before .before .before .before .before in
     let a = start .args in
-    ladder-fits (a .side) (a .id) (a .orders .now) (a .symbols .now) _ (start .pre .0) _ _ (laid .ladder .ensures) _ refl (c .levels-shown .ensures)
+    run-fits (a .side) (a .id) (a .orders .now) (a .symbols .now) _ (start .pre .0) _ _ (laid .ladder .ensures) _ refl (c .levels-shown .ensures)
 
 same-length : tie.Need-same-length
 same-length c = search needs
