@@ -17,7 +17,7 @@ use Rattle.facts.proofs.Picks.{pick-ind, both-true}
 use Rattle.facts.proofs.SumLaws.{count-bound}
 use Rattle.rows.specs.declared.Row.{Row}
 use Rattle.rows.specs.Keys.{keyFor, sideIn}
-use Rattle.rows.specs.Rows.{rows, rowCount, zeroRow, live, maxRows, goodRows}
+use Rattle.rows.specs.Rows.{rows, rowCount, zeroRow, live, goodRows}
 use Rattle.rows.specs.Find.{ofKey}
 use Rattle.rows.proofs.Tables.{length-rows}
 use Rattle.rows.proofs.Judged.{live-ranges, key-is, good-rows}
@@ -166,7 +166,6 @@ module _ (k : ℕ) (rs : List Row) where
 -- ---- sums of a table of good size
 module _ (k p : ℕ) (t : List ℕ) (g : goodRows (length t) ≡ true) where
   rows-few : length (rows t) ≤ mostRows
-  unfolding maxRows
   rows-few = rw length-rows (good-rows (length t) g .1)
 
   pub shares-fit : sumBy (sizeAt k p) (rows t) ≤ 4294967295 * mostRows
