@@ -20,8 +20,9 @@ use Rattle.rows.specs.Find.{countLive}
 use Rattle.rows.specs.declared.Row.{Row}
 use Rattle.rows.proofs.Judged.{good-rows}
 use Rattle.rows.proofs.Tables.{length-rows}
+use Rattle.ascend.proofs.Each.{all-take, all-append, all-join}
 use Rattle.ascend.proofs.Places.{All}
-use Rattle.ascend.proofs.Each.{all-weaken, all-map, all-take, all-append, all-join}
+use Rattle.ascend.proofs.Each.{all-weaken, all-map}
 use Rattle.symbols.specs.Entries.{entrySize, maxEntries, goodEntries, entries, used}
 use Rattle.symbols.specs.Find.{countUsed}
 use Rattle.symbols.proofs.EntryLaws.{good-entries, length-entries}

@@ -131,11 +131,11 @@ lines-one word bad s orders symbols = (
   (
     number-one badKey bad refl,
     (
-      number-one nextKey (s .next) refl,
+      number-one nextKey _ refl,
       (
-        number-one stopKey (s .stop) refl,
+        number-one stopKey _ refl,
         (
-          number-one secondKey (s .second) refl,
+          number-one secondKey _ refl,
           (
             number-one symbolsKey (countUsed (entries symbols)) refl,
             (
