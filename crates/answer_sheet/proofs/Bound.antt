@@ -20,6 +20,7 @@ use Rattle.rows.specs.Find.{countLive}
 use Rattle.rows.specs.declared.Row.{Row}
 use Rattle.rows.proofs.Judged.{good-rows}
 use Rattle.rows.proofs.Tables.{length-rows}
+use Rattle.ascend.proofs.Each.{all-take, all-append, all-join}
 use Rattle.ascend.proofs.Places.{All}
 use Rattle.ascend.proofs.Each.{all-weaken, all-map}
 use Rattle.symbols.specs.Entries.{goodEntries, entries, used}
@@ -47,20 +48,6 @@ use Rattle.answer_sheet.specs.Lines.{Line, plain, lineText, textOf}
 use Rattle.answer_sheet.specs.Sheet.{recordingWord, headLines, tableLines, markedOf, levelValue, levelLine, levelsShown, sideLines, spreadWord, symbolLines, bookLines, entryLines, allEntries, linesOf, sheetOf, sheetOk, sheetMost}
 
 -- ---- lists
-all-take : {A : Type 0} (P : A → Type 0) (n : ℕ) (xs : List A) → All P xs → All P (take n xs)
-all-take P zero xs a = tt
-all-take P (suc n) [] a = tt
-all-take P (suc n) (x ∷ xs) a = (a .0, all-take P n xs (a .1))
-
-all-append : {A : Type 0} (P : A → Type 0) (xs ys : List A) → All P xs → All P ys → All P (xs ++ ys)
-all-append P [] ys a b = b
-all-append P (x ∷ xs) ys a b = (a .0, all-append P xs ys (a .1) b)
-
-all-join : {A : Type 0} (P : A → Type 0) (xss : List (List A)) → All (All P) xss → All P (join xss)
-unfolding join
-all-join P [] a = tt
-all-join P (xs ∷ xss) a = all-append P xs (join xss) (a .0) (all-join P xss (a .1))
-
 -- where no element gives more than m, all of them back to back give at most that for each
 join-le : {A B : Type 0} (f : A → List B) (m : ℕ) (xs : List A) → All (λ x. length (f x) ≤ m) xs → length (join (map f xs)) ≤ length xs * m
 unfolding join

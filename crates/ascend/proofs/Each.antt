@@ -1,14 +1,16 @@
--- What holds of each element, by the list's own recursion: weakened, joined, mapped, and what an ascending list says of each place.
+-- What holds of each element, by the list's own recursion: weakened, joined, mapped, of a front, of lists back to back, and what an ascending list says of each place.
 -- Assumes nothing.
 use mathlib.Core.Path.{_≡_, refl}
-use mathlib.Core.List.{List, [], _∷_, map}
+use mathlib.Core.List.{List, [], _∷_, _++_, map}
 use mathlib.Core.Bool.{Bool, true, false}
 use mathlib.Core.Logic.{⊎-elim}
-use Prim.Native.Nat.{ℕ, suc, _+_, _≤_, _<_}
+use Prim.Native.Nat.{ℕ, zero, suc, _+_, _≤_, _<_}
 use native.Mathlib.Omega.{arith}
+use lib.ListN.{take}
 use lib.Dec.{eqb}
 use borrow.Author.Tests.{eq-eqb}
 use Rattle.facts.specs.Pick.{either}
+use Rattle.facts.specs.Pieces.{join}
 use Rattle.facts.specs.Sums.{sumBy, onlyIf}
 use Rattle.facts.proofs.Picks.{either-true}
 use Rattle.facts.proofs.SumLaws.{only-yes, only-no}
@@ -27,6 +29,20 @@ all-and P Q (x ∷ xs) a b = ((a .0, b .0), all-and P Q xs (a .1) (b .1))
 pub all-map : {A B : Type 0} (P : B → Type 0) (h : A → B) (xs : List A) → All (λ x. P (h x)) xs → All P (map h xs)
 all-map P h [] a = tt
 all-map P h (x ∷ xs) a = (a .0, all-map P h xs (a .1))
+
+pub all-take : {A : Type 0} (P : A → Type 0) (n : ℕ) (xs : List A) → All P xs → All P (take n xs)
+all-take P zero xs a = tt
+all-take P (suc n) [] a = tt
+all-take P (suc n) (x ∷ xs) a = (a .0, all-take P n xs (a .1))
+
+pub all-append : {A : Type 0} (P : A → Type 0) (xs ys : List A) → All P xs → All P ys → All P (xs ++ ys)
+all-append P [] ys a b = b
+all-append P (x ∷ xs) ys a b = (a .0, all-append P xs ys (a .1) b)
+
+pub all-join : {A : Type 0} (P : A → Type 0) (xss : List (List A)) → All (All P) xss → All P (join xss)
+unfolding join
+all-join P [] a = tt
+all-join P (xs ∷ xss) a = all-append P xs (join xss) (a .0) (all-join P xss (a .1))
 
 -- a list has each of its elements
 pub all-has : (xs : List ℕ) → All (λ x. has x xs ≡ true) xs

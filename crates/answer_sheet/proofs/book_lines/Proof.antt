@@ -27,14 +27,14 @@ slice-aggregate-side-lines : tie.Need-slice-aggregate-side-lines
 slice-aggregate-side-lines c = search needs
 
 side-lines-requires : tie.Need-side-lines-requires
-unfolding sideKey bidKey
+unfolding sideKey bidKey askKey
 side-lines-requires c κs = (search needs, refl)
 
 slice-aggregate-side-lines-2 : tie.Need-slice-aggregate-side-lines-2
 slice-aggregate-side-lines-2 c = search needs
 
 side-lines-requires-2 : tie.Need-side-lines-requires-2
-unfolding sideKey askKey
+unfolding sideKey bidKey askKey
 side-lines-requires-2 c κs = (search needs, refl)
 
 same-length : tie.Need-same-length
