@@ -62,6 +62,9 @@ done m n b k e z =
     let w = went n b k z in
     record { does = w .0; plan-is = planned-by m n b k e ∙ w .1; orders-are = ap (λ x. x .orders) (w .2); symbols-are = ap (λ x. x .symbols) (w .2) }
 
+same-go : {v w : Works} → Go v ≡ Go w → v ≡ w
+same-go e = cc
+
 -- a row put by a message that names an order
 owner : (order symbol : ℕ) (k : Book) (p : Plan) (f : ℕ → Row → Plan) (x : Owned (orderIn order (k .orders)) symbol p f)
     → (findOrder order (rows (k .orders)) ≡ At (x .place)) × (x .held ≡ row (k .orders) (x .place))
@@ -74,6 +77,22 @@ named-by order symbol g t u w i r f q s p e =
     subst (Named order symbol g t)
     (sym (e ∙ ap (λ x. committed x t) (sym p) ∙ ap (λ x. committed (RowWork.Put i (g x)) t) q))
     (put-named order symbol g t i f (ap symbolOf (sym q) ∙ s))
+
+-- a message that names an order: what its plan puts, and what that plan tried of the order
+named-done : (m : Body) (order symbol : ℕ) (f : ℕ → Row → Plan) (g : Row → Row) (P : Row → Type 0) → ((i : ℕ) (r : Row) (w : Works) → f i r ≡ Go w → P r × (RowWork.Put i (g r) ≡ w .orders))
+    → (n : ℕ) (b : List ℕ) (k : Book) → readBody b ≡ m → applied n b k .rule ≡ 0
+    → planBy m n b (k .clock) (scans k) ≡ ofKnown (findSymbol symbol (entries (k .symbols))) (λ e. upon (target (orderIn order (k .orders)) symbol) f)
+    → (d : Named order symbol g (k .orders) (applied n b k .after .orders)) × P (row (k .orders) (d .place))
+named-done m order symbol f g P puts n b k e z plan =
+    let t = k .orders in
+    let d = done m n b k e z in
+    let known = goes-known (findSymbol symbol (entries (k .symbols))) (λ e. upon (target (orderIn order t) symbol) f) (d .does) (sym plan ∙ d .plan-is) in
+    let x = goes-owned (orderIn order t) symbol f (d .does) (known .2) in
+    let q = owner order symbol k (Go (d .does)) f x in
+    let y = puts (x .place) (x .held) (d .does) (x .goes) in
+    let v = named-by order symbol g t (applied n b k .after .orders) (d .does .orders) (x .place) (x .held) (q .0) (q .1) (x .its-symbol) (y .1) (d .orders-are) in
+    let i : v .place ≡ x .place = cc (v .lowest-live, q .0) in
+    (v, subst P (q .1 ∙ ap (row t) (sym i)) (y .0))
 
 -- ---- Add
 module _ (m : AddOrder) (n : ℕ) where
@@ -130,13 +149,8 @@ module _ (m : ModifyOrder) (n : ℕ) (b : List ℕ) (k : Book) (e : readBody b �
   pub modify-done : Named (m .order) (m .symbol) (remade (m .price) (m .size) (moves (m .flags)) n) (k .orders) (applied n b k .after .orders)
   unfolding planBy modifyPlan
   modify-done =
-      let d = done (Body.Modify m) n b k e z in
-      let t = k .orders in
-      let g = goes-known (findSymbol (m .symbol) (entries (k .symbols))) (λ e. upon (target (orderIn (m .order) t) (m .symbol)) (modifyAt (k .clock) m n)) (d .does) (d .plan-is) in
-      let x = goes-owned (orderIn (m .order) t) (m .symbol) (modifyAt (k .clock) m n) (d .does) (g .2) in
-      let q = owner (m .order) (m .symbol) k (Go (d .does)) (modifyAt (k .clock) m n) x in
-      let y : works (k .clock) (RowWork.Put (x .place) (remade (m .price) (m .size) (moves (m .flags)) n (x .held))) EntryWork.Keep ≡ d .does = cc (x .goes) in
-      named-by (m .order) (m .symbol) (remade (m .price) (m .size) (moves (m .flags)) n) t (applied n b k .after .orders) (d .does .orders) (x .place) (x .held) (q .0) (q .1) (x .its-symbol) (ap (λ (o : Works). o .orders) y) (d .orders-are)
+      named-done (Body.Modify m) (m .order) (m .symbol) (modifyAt (k .clock) m n) (remade (m .price) (m .size) (moves (m .flags)) n) (λ r. r ≡ r)
+      (λ i r w q. (refl, ap (λ (o : Works). o .orders) (same-go q))) n b k e z refl .0
 
   modify-made : Remade (row (k .orders) (modify-done .place)) (row (applied n b k .after .orders) (modify-done .place)) (m .price) (m .size) (moves (m .flags)) n
   modify-made = modify-row (m .order) (m .symbol) (m .price) (m .size) (moves (m .flags)) n (k .orders) (applied n b k .after .orders) modify-done
@@ -166,13 +180,8 @@ module _ (m : DeleteOrder) (n : ℕ) (b : List ℕ) (k : Book) (e : readBody b �
   pub delete-done : Named (m .order) (m .symbol) (λ r. zeroRow) (k .orders) (applied n b k .after .orders)
   unfolding planBy deletePlan
   delete-done =
-      let d = done (Body.Delete m) n b k e z in
-      let t = k .orders in
-      let g = goes-known (findSymbol (m .symbol) (entries (k .symbols))) (λ e. upon (target (orderIn (m .order) t) (m .symbol)) (deleteAt (k .clock))) (d .does) (d .plan-is) in
-      let x = goes-owned (orderIn (m .order) t) (m .symbol) (deleteAt (k .clock)) (d .does) (g .2) in
-      let q = owner (m .order) (m .symbol) k (Go (d .does)) (deleteAt (k .clock)) x in
-      let y : works (k .clock) (RowWork.Put (x .place) zeroRow) EntryWork.Keep ≡ d .does = cc (x .goes) in
-      named-by (m .order) (m .symbol) (λ r. zeroRow) t (applied n b k .after .orders) (d .does .orders) (x .place) (x .held) (q .0) (q .1) (x .its-symbol) (ap (λ (o : Works). o .orders) y) (d .orders-are)
+      named-done (Body.Delete m) (m .order) (m .symbol) (deleteAt (k .clock)) (λ r. zeroRow) (λ r. r ≡ r)
+      (λ i r w q. (refl, ap (λ (o : Works). o .orders) (same-go q))) n b k e z refl .0
 
   pub delete-frees : free (row (applied n b k .after .orders) (delete-done .place)) ≡ true
   delete-frees = gone-free (m .order) (m .symbol) (λ r. zeroRow) (k .orders) (applied n b k .after .orders) delete-done refl
@@ -182,16 +191,8 @@ module _ (m : OrderExecution) (n : ℕ) (b : List ℕ) (k : Book) (e : readBody 
   execution-both : (d : Named (m .order) (m .symbol) (reduced (m .size)) (k .orders) (applied n b k .after .orders)) × (m .size ≤ row (k .orders) (d .place) .size)
   unfolding planBy executionPlan
   execution-both =
-      let d = done (Body.Execution m) n b k e z in
-      let t = k .orders in
-      let g = goes-known (findSymbol (m .symbol) (entries (k .symbols))) (λ e. upon (target (orderIn (m .order) t) (m .symbol)) (executeAt (k .clock) m)) (d .does) (d .plan-is) in
-      let x = goes-owned (orderIn (m .order) t) (m .symbol) (executeAt (k .clock) m) (d .does) (g .2) in
-      let q = owner (m .order) (m .symbol) k (Go (d .does)) (executeAt (k .clock) m) x in
-      let y = goes-execute (k .clock) m (x .place) (x .held) (d .does) (x .goes) in
-      let v = named-by (m .order) (m .symbol) (reduced (m .size)) t (applied n b k .after .orders) (d .does .orders) (x .place) (x .held) (q .0) (q .1) (x .its-symbol) (ap (λ (o : Works). o .orders) (y .1)) (d .orders-are) in
-      let i : v .place ≡ x .place = cc (v .lowest-live, q .0) in
-      let j : x .held ≡ row t (v .place) = q .1 ∙ ap (row t) (sym i) in
-      (v, rw (← j) (y .0))
+      named-done (Body.Execution m) (m .order) (m .symbol) (executeAt (k .clock) m) (reduced (m .size)) (λ r. m .size ≤ r .size)
+      (λ i r w q. let y = goes-execute (k .clock) m i r w q in (y .0, ap (λ (o : Works). o .orders) (y .1))) n b k e z refl
 
   pub execution-done : Named (m .order) (m .symbol) (reduced (m .size)) (k .orders) (applied n b k .after .orders)
   execution-done = execution-both .0

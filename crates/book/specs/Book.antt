@@ -30,10 +30,11 @@ pub record Effect : Type 0 where
 abbrev pub effect : ℕ → Book → Effect
 effect n k = record { rule = n; after = k }
 
--- "a search for an ID taking the lowest live row or used entry"
+-- "a search for an ID taking the lowest live row"
 abbrev pub orderIn : ℕ → List ℕ → Held
 orderIn id t = heldAt (findOrder id (rows t)) (rows t)
 
+-- document 01's searches, row by row and entry by entry
 abbrev pub scans : Book → Finds
 scans k =
     record {
@@ -43,7 +44,7 @@ scans k =
       room = λ id. placeFor id (entries (k .symbols));
     }
 
--- a message, its number and its bytes
+-- the plan of the message with that number and those bytes
 unfoldable pub planned : ℕ → List ℕ → Book → Plan
 planned n b k = planBy (readBody b) n b (k .clock) (scans k)
 
@@ -52,5 +53,6 @@ unfoldable pub carried : Plan → List ℕ → Book → Effect
 carried (Plan.Stop n) b k = effect n k
 carried (Plan.Go w) b k = effect 0 (book (committed (w .orders) (k .orders)) (entered (w .symbols) b (k .symbols)) (w .clock))
 
+-- the message with that number and those bytes, applied to the book
 unfoldable pub applied : ℕ → List ℕ → Book → Effect
 applied n b k = carried (planned n b k) b k

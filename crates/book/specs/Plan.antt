@@ -29,15 +29,19 @@ use Rattle.book.specs.declared.Target.{Target}
 use Rattle.book.specs.declared.Target.the-variants.{Order, Rule}
 
 -- ---- what is to be done
+-- what a book has by value: the current second
 abbrev pub clock : ℕ → Clock
 clock second = record { second = second }
 
+-- the clock after a message, and its work on each table
 abbrev pub works : Clock → RowWork → EntryWork → Works
 works c o s = record { clock = c; orders = o; symbols = s }
 
+-- work on the order table alone
 abbrev pub onRows : Clock → RowWork → Plan
 onRows c w = Go (works c w EntryWork.Keep)
 
+-- work on no table
 abbrev pub idle : Clock → Plan
 idle c = onRows c RowWork.Keep
 
@@ -110,6 +114,7 @@ pub record Finds : Type 0 where
   pub entry : ℕ → Found
   pub room : ℕ → Found
 
+-- by the message m, its sequence number n, its bytes b, the clock c before it, and what was found
 unfoldable pub planBy : Body → ℕ → List ℕ → Clock → Finds → Plan
 -- "System Time sets the current second."
 planBy (Body.SystemTime s) n b c f = idle (clock s)

@@ -20,6 +20,7 @@ use Rattle.body.specs.Faults as faults
 use Rattle.body.specs.Read as read
 use Rattle.packet.specs.Record as head
 use Rattle.packet.specs.Packet as packet
+use Rattle.rows.specs.Keys as keys
 use Rattle.rows.specs.Rows as rows
 use Rattle.rows.specs.Find as find-row
 use Rattle.symbols.specs.Entries as entries
@@ -101,13 +102,13 @@ unfolding messages.numbered messages.systemTime messages.symbolUpdate messages.a
     read.framed read.judged read.readBody read.goodBody
     head.numberOk head.bodyOf head.bodyJudged head.readRecord
     packet.before packet.behind packet.framesFrom packet.framing
-    rows.rowOf rows.numbersOf rows.rows rows.putRow rows.zeroRow rows.free rows.live
+    keys.sideOf rows.rowOf rows.numbersOf rows.rows rows.putRow rows.zeroRow rows.free rows.live
     find-row.isOrder find-row.findOrder find-row.heldAt find-row.findFree
     entries.entries entries.entryOf entries.putEntry entries.used entries.freeEntry
     find-entry.isSymbol find-entry.findSymbol find-entry.findFreeEntry find-entry.knownSymbol find-entry.placeFor
     entry-work.entered
-    row-work.remade row-work.reduced row-work.committed
-    plan.ofKnown plan.target plan.upon plan.sideOf plan.moves plan.rowFor plan.updatePlan plan.roomFor plan.addPlan plan.modifyPlan plan.executionPlan plan.planBy
+    row-work.moves row-work.remade row-work.reduced row-work.committed
+    plan.ofKnown plan.target plan.upon plan.rowFor plan.updatePlan plan.roomFor plan.addPlan plan.modifyPlan plan.executionPlan plan.planBy
     book.planned book.carried book.applied
     slots.sameBytes slots.sameSlot
     theory.judge theory.goodSlot theory.try theory.drain theory.after theory.run theory.said theory.accepted

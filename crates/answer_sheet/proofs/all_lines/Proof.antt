@@ -15,7 +15,7 @@ table-lines-requires : tie.Need-table-lines-requires
 table-lines-requires c κs = search needs
 
 all-entries-requires : tie.Need-all-entries-requires
-all-entries-requires c κs = let a = c .before .before .before .before .before .before .before .before .before .before .before .before .args in sizes-good (a .orders .now) (a .symbols .now) (a .sizes) (c .before .before .before .before .before .before .before .before .before .before .before .before .pre)
+all-entries-requires c κs = let a = c .before .before .before .before .before .before .before .before .before .before .before .before .before .args in sizes-good (a .orders .now) (a .symbols .now) (a .sizes) (c .before .before .before .before .before .before .before .before .before .before .before .before .before .pre)
 
 same-length : tie.Need-same-length
 same-length c = search needs
@@ -25,7 +25,7 @@ unfolding sheetOf linesOf
 returns c =
     let summed = c .before .before .before .before .before .before in
     let first = summed .before .before .before .before in
-    let start = first .before .before .before .before .before in
+    let start = first .before .before .before .before .before .before in
     let a = start .args in
     let e = sizes-lines (a .orders .now) (a .symbols .now) _ (a .sizes) (start .pre) in
     (lines-then _ _ (first .head .ensures .0) (lines-then _ _ (wrote-as e (summed .table-lines .ensures .0)) (c .before .before .all-entries .ensures)), first .head .ensures .1, summed .table-lines .ensures .1)
