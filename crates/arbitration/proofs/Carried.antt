@@ -13,7 +13,7 @@ use Rattle.wire.proofs.Bytewise.{bytes-take, bytes-padded, bytes-zeros}
 use Rattle.arbitration.specs.Slots.{Slot, emptySlot, slotFor, slotBody, Fits}
 use Rattle.arbitration.specs.Engine.{ok, Engine, Store, Laws}
 use Rattle.arbitration.specs.Receive.{State, slotOf, turned, drain, shelved, after, run, recordsOf, accepted, receives}
-use Rattle.arbitration.specs.Lists.{Every, Sent, Started}
+use Rattle.arbitration.specs.Lists.{Every, Sent, Zeroed}
 use Rattle.arbitration.proofs.Window.{slot-lt}
 use Rattle.arbitration.proofs.SlotLaws.{empty-fits, put-at}
 use Rattle.arbitration.proofs.Turns.{Went, drain-keeps}
@@ -60,7 +60,7 @@ module _ (S : Store) (E : Engine) (L : Laws S E) where
   pub run-carried : (cs : List Rec) (r : State S E) → Every Sent cs → Carried S E r → Carried S E (run S E cs r)
   run-carried cs r h v = run-keeps S E (Carried S E) Sent after-carried cs r h v
 
-  pub start-carried : (b0 : E .Book) (r : State S E) → Started S E b0 r → ((i : ℕ) → i < 64 → Bytes (S .get (r .shelf) i .bytes)) → Carried S E r
+  pub start-carried : (b0 : E .Book) (r : State S E) → Zeroed S E b0 r → ((i : ℕ) → i < 64 → Bytes (S .get (r .shelf) i .bytes)) → Carried S E r
   start-carried b0 r s h = record { ok-shelf = s .ok-shelf; from-1 = omega (arith, s .next-1); slots = h }
 
   -- ---- from a start, for whole runs

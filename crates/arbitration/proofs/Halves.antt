@@ -15,13 +15,30 @@ use Rattle.facts.specs.Sums.{sumBy, onlyIf, countBy}
 use Rattle.wire.specs.Records.{Rec}
 use Rattle.arbitration.specs.Slots.{Slot, slotBody}
 use Rattle.arbitration.specs.Engine.{Applied, ok, broke, Engine, Store, Laws}
-use Rattle.arbitration.specs.Receive.{Answer, taken, old, tooFar, repeated, differing, codeOf, count, ofApplied, goodSlot, State, slotOf, try, judged, after, run, said}
-use Rattle.arbitration.specs.Lists.{Every, Copy, msg, WellFormed, here, later, Started, Answered, Made, Named}
+use Rattle.arbitration.specs.Receive.{Answer, taken, old, tooFar, repeated, differing, codeOf, count, ofApplied, goodSlot, State, slotOf, try, stop, judged, after, run, said}
+use Rattle.arbitration.specs.Lists.{Every, Copy, msg, WellFormed, made, here, later, Zeroed, Answered}
 use Rattle.arbitration.proofs.Window.{slot-lt}
 use Rattle.arbitration.proofs.Turns.{short-good, try-good, try-goes, stop-stuck}
 use Rattle.arbitration.proofs.Answers.{run-keeps}
 use Rattle.arbitration.proofs.Invariant.{Inv, Follows, Mine, mine, msg-good, msg-short, copy-fits, made-suc, after-inv, never-differing, start-follows}
 use Rattle.arbitration.proofs.Settled.{Settled, Held, Kept, after-settled, after-kept, here-kept}
+
+module _ (S : Store) (E : Engine) where
+  -- the book made by k messages behind the base s, next being s + k + 1
+  pub record Made (ms : List (List ℕ)) (s : ℕ) (b : E .Book) (r : State S E) : Type 0 where
+    pub k : ℕ
+    pub next-is : r .next ≡ s + suc k
+    pub within : s + k ≤ length ms
+    pub book-is : made E ms s b k ≡ ok (r .book)
+
+  -- the same, and the stop is the rule that one message more breaks
+  pub record Named (ms : List (List ℕ)) (s : ℕ) (b : E .Book) (r : State S E) : Type 0 where
+    pub k : ℕ
+    pub next-is : r .next ≡ s + suc k
+    pub in-list : s + suc k ≤ length ms
+    pub made-k : made E ms s b k ≡ ok (r .book)
+    pub rule-named : 1 ≤ stop S E r
+    pub breaks : made E ms s b (suc k) ≡ broke (stop S E r)
 
 -- two receivers on one list, with equal k
 pub agree : (S : Store) (E : Engine) (ms : List (List ℕ)) (s0 : ℕ) (b0 : E .Book) (r r′ : State S E) → Made S E ms s0 b0 r → Made S E ms s0 b0 r′ → r .next ≡ r′ .next → r .book ≡ r′ .book
@@ -141,7 +158,7 @@ module _ (S : Store) (E : Engine) (L : Laws S E) (ms : List (List ℕ)) (wf : We
       (λ past l. answered-kept (run S E cs r0 .next) cs r0 (omega arith) h y (all _ past l))
 
 -- a start is ready for any list
-pub start-ready : (S : Store) (E : Engine) (L : Laws S E) (ms : List (List ℕ)) (wf : WellFormed (E .good) ms) (b0 : E .Book) (r : State S E) → Started S E b0 r → Ready S E ms 0 b0 r
+pub start-ready : (S : Store) (E : Engine) (L : Laws S E) (ms : List (List ℕ)) (wf : WellFormed (E .good) ms) (b0 : E .Book) (r : State S E) → Zeroed S E b0 r → Ready S E ms 0 b0 r
 unfolding Settled
 start-ready S E L ms wf b0 r s =
     record {

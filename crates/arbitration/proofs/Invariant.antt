@@ -12,7 +12,7 @@ use Rattle.wire.specs.Records.{Rec}
 use Rattle.arbitration.specs.Slots.{Slot, emptySlot, slotFor, slotBody, sameSlot, Fits}
 use Rattle.arbitration.specs.Engine.{Applied, ok, broke, Engine, Store, Laws}
 use Rattle.arbitration.specs.Receive.{taken, differing, State, slotOf, turned, drain, shelved, judged, after, run}
-use Rattle.arbitration.specs.Lists.{Every, msg, WellFormed, Copies, Numbered, Copy, made, Started}
+use Rattle.arbitration.specs.Lists.{Every, msg, WellFormed, Copies, Numbered, Copy, made, Zeroed}
 use Rattle.arbitration.proofs.Window.{same-slot, slot-lt}
 use Rattle.arbitration.proofs.SlotLaws.{empty-fits, slotFor-fits, body-back, same-refl, put-at}
 use Rattle.arbitration.proofs.Turns.{Went, drain-keeps}
@@ -158,7 +158,7 @@ module _ (S : Store) (E : Engine) (L : Laws S E) (ms : List (List ℕ)) (wf : We
             false≢true (sym d ∙ ap (λ (x : Slot). sameSlot x (slotFor (c .number) (c .body))) w ∙ same-refl (slotFor (c .number) (c .body)))
 
   -- a start follows any list
-  pub start-follows : (b0 : E .Book) (r : State S E) → Started S E b0 r → Follows S E ms 0 b0 r
+  pub start-follows : (b0 : E .Book) (r : State S E) → Zeroed S E b0 r → Follows S E ms 0 b0 r
   unfolding Follows made
   start-follows b0 r s = (
     0,

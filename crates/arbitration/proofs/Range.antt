@@ -10,7 +10,7 @@ use Rattle.wire.specs.Records.{Rec, Frames}
 use Rattle.arbitration.specs.Slots.{emptySlot, slotFor, Fits}
 use Rattle.arbitration.specs.Engine.{Engine, Store, Laws}
 use Rattle.arbitration.specs.Receive.{recordsOf, accepted, State, turned, shelved, after, run, receives}
-use Rattle.arbitration.specs.Lists.{Every, Bounded, Started}
+use Rattle.arbitration.specs.Lists.{Every, Bounded, Zeroed}
 use Rattle.arbitration.proofs.Window.{slot-lt}
 use Rattle.arbitration.proofs.SlotLaws.{empty-fits, slotFor-fits, put-at}
 use Rattle.arbitration.proofs.Turns.{Went, drain-keeps}
@@ -49,7 +49,7 @@ module _ (S : Store) (E : Engine) (L : Laws S E) where
   pub run-below : (cs : List Rec) (r : State S E) → Every Bounded cs → Below S E r → Below S E (run S E cs r)
   run-below cs r h v = run-keeps S E (Below S E) Bounded after-below cs r h v
 
-  pub start-below : (b0 : E .Book) (r : State S E) → Started S E b0 r → Below S E r
+  pub start-below : (b0 : E .Book) (r : State S E) → Zeroed S E b0 r → Below S E r
   start-below b0 r s = record { ok-shelf = s .ok-shelf; next-to = omega (arith, s .next-1); numbers-to = λ i h. omega (arith, s .shelf-empty i h) }
 
   pub receives-below : {Q : Type 0} (frame : List ℕ → Frames Q) → ((p : List ℕ) → Every Bounded (recordsOf (frame p))) → (ps : List (List ℕ)) (r : State S E) → Below S E r → Below S E (receives S E frame ps r)

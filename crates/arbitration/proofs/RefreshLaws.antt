@@ -17,14 +17,14 @@ use Rattle.wire.proofs.Bytewise.{bytes-zeros}
 use Rattle.arbitration.specs.Slots.{Slot, emptySlot}
 use Rattle.arbitration.specs.Engine.{Applied, ok, broke, Engine, Store, StoreLaws, Laws}
 use Rattle.arbitration.specs.Receive.{State, slotOf, drain, after}
-use Rattle.arbitration.specs.Lists.{msg, WellFormed, made, Made, Named}
+use Rattle.arbitration.specs.Lists.{msg, WellFormed, made}
 use Rattle.arbitration.specs.Refresh.{cleared, refreshed, Event, afterE, runE, Base, based, Fair, end, copy, fresh, AnsweredE, here, by-refresh, later, Ideal, ideal}
 use Rattle.arbitration.proofs.Window.{slot-lt}
 use Rattle.arbitration.proofs.SlotLaws.{empty-fits, put-at}
 use Rattle.arbitration.proofs.Invariant.{Shelved, free, held, Follows, copy-fits, made-before, made-keeps, drain-inv}
 use Rattle.arbitration.proofs.Settled.{Held, Kept, drained, drain-kept, after-kept, here-kept}
 use Rattle.arbitration.proofs.Carried.{Carried}
-use Rattle.arbitration.proofs.Halves.{Ready, follows-made, after-ready, reached}
+use Rattle.arbitration.proofs.Halves.{Made, Named, Ready, follows-made, after-ready, reached}
 
 -- ---- a cleared shelf
 -- what a slot became

@@ -9,7 +9,7 @@ use Rattle.facts.specs.Limits.{lastNumber}
 use Rattle.wire.specs.Le.{Bytes}
 use Rattle.wire.specs.Records.{Rec}
 use Rattle.arbitration.specs.Engine.{Applied, ok, broke, Engine, Store}
-use Rattle.arbitration.specs.Receive.{Answer, taken, old, repeated, Said, State, stop, said}
+use Rattle.arbitration.specs.Receive.{Answer, taken, old, repeated, Said, State, said}
 
 -- every element of a list
 abbrev pub Every : {A : Type 0} → (A → Type 0) → List A → Type 0
@@ -24,7 +24,7 @@ msg ms n = getD ms (n - 1) []
 abbrev pub WellFormed : (List ℕ → Bool) → List (List ℕ) → Type 0
 WellFormed good ms = (i : ℕ) → i < length ms → good (getD ms i []) ≡ true
 
--- "true copies from that list": a number of the list, with exactly that message's bytes
+-- "true copies from that list": a number of the list, with exactly that message's bytes (the numbers of accepted records start at 1)
 pub record TrueCopy (ms : List (List ℕ)) (c : Rec) : Type 0 where
   pub in-list : c .number ≤ length ms
   pub same : c .body ≡ msg ms (c .number)
@@ -70,7 +70,7 @@ made E ms s b (suc k) = elim (made E ms s b k) [ ok x ↦ E .apply (s + suc k) (
 
 module _ (S : Store) (E : Engine) where
   -- "A start zeroes all three, the second included, and sets the next number to 1"
-  pub record Started (b0 : E .Book) (r : State S E) : Type 0 where
+  pub record Zeroed (b0 : E .Book) (r : State S E) : Type 0 where
     pub ok-shelf : S .Ok (r .shelf)
     pub next-1 : r .next ≡ 1
     pub book-start : r .book ≡ b0
@@ -79,19 +79,3 @@ module _ (S : Store) (E : Engine) where
   -- the number n was answered as taken, repeated or old in a run of records
   abbrev pub Answered : ℕ → List Rec → State S E → Type 0
   Answered n cs r = Among n (said S E cs r)
-
-  -- "exactly those made by the list's first k messages, k being one less than the next number it reports" (from the base s)
-  pub record Made (ms : List (List ℕ)) (s : ℕ) (b : E .Book) (r : State S E) : Type 0 where
-    pub k : ℕ
-    pub next-is : r .next ≡ s + suc k
-    pub within : s + k ≤ length ms
-    pub book-is : made E ms s b k ≡ ok (r .book)
-
-  -- "the receiver names message k + 1, which the list itself, in tables of that size, can't apply, and the rule broken"
-  pub record Named (ms : List (List ℕ)) (s : ℕ) (b : E .Book) (r : State S E) : Type 0 where
-    pub k : ℕ
-    pub next-is : r .next ≡ s + suc k
-    pub in-list : s + suc k ≤ length ms
-    pub made-k : made E ms s b k ≡ ok (r .book)
-    pub rule-named : 1 ≤ stop S E r
-    pub breaks : made E ms s b (suc k) ≡ broke (stop S E r)

@@ -1,7 +1,7 @@
 -- The answer to a packet, from the work that its records made: the theory's run and counts are the code's state and counts. And a packet by the tests of `receive`.
 -- Assumes nothing.
 use Prim.Native.Nat.{ℕ, _+_, _-_, _≤_}
-use mathlib.Core.Path.{_≡_, refl, sym, ap, _∙_}
+use mathlib.Core.Path.{_≡_, refl, sym, ap, subst, _∙_}
 use mathlib.Core.Bool.{Bool, true, false}
 use mathlib.Core.List.{List}
 use native.Mathlib.Omega.{arith}
@@ -14,13 +14,14 @@ use lib.Dec.{leb}
 use Rattle.fields.specs.Fields.{refusal}
 use Rattle.fields.specs.declared.Refusal.{Refusal}
 use Rattle.arbitration.specs.Engine.{Engine, Store}
-use Rattle.arbitration.specs.Receive.{run, told, stop, highest}
+use Rattle.arbitration.specs.Receive.{recordsOf, countsOf, said, run, told, stop, highest}
 use Rattle.arbitration.specs.Loops.{noCounts, Working, work}
 use Rattle.arbitration.specs.declared.Counts.{Counts}
 use Rattle.arbitration.proofs.Answers.{run-next}
 use Rattle.arbitration.proofs.Tallies.{work-told}
 use Rattle.receiver.specs.Parts.{Parts, engineOf}
 use Rattle.receiver.specs.Receiver.{nextOk, receivedNumber, Rx, Receiver, receiver, Handled, handled, handledBy, fit, receives}
+use Rattle.receiver.specs.Demand3.{Reported}
 use Rattle.receiver.specs.declared.Account.{Account}
 use Rattle.receiver.specs.declared.Received.{Received}
 
@@ -93,26 +94,26 @@ module _ (P : Parts) where
       by-framing (bad r) n = refl
       by-framing (records cs) n = absurd (n refl)
 
-  -- an accepted packet's account tells the next number and the stop that the receiver then has
-  pub account-reports : (k k′ : Receiver P) (p : List ℕ) (a : Account) → receives P k p ≡ handled P (Received.Accepted a) k′ → (a .next ≡ k′ .rx .next) × (a .stop ≡ k′ .stop)
+  -- an accepted packet's account tells the next number and the stop that the receiver then has, and counts the answers
+  pub account-reports : (k k′ : Receiver P) (p : List ℕ) (a : Account) → receives P k p ≡ handled P (Received.Accepted a) k′ → Reported P k p a k′
   unfolding receives handledBy told
-  account-reports k k′ p a = pick-ind Reports (fit P k) (handledBy P (P .frame p) k) (handled P (Received.Refused (refusal 6)) k) (λ _. by-framing (P .frame p)) (λ _. no-account (refusal 6) k)
+  account-reports k k′ p a = pick-ind Reports (fit P k) (handledBy P (P .frame p) k) (handled P (Received.Refused (refusal 6)) k) (λ _. by-framing (P .frame p) refl) (λ _. no-account (refusal 6) k)
     where
       Reports : Handled P → Type 0
-      Reports x = x ≡ handled P (Received.Accepted a) k′ → (a .next ≡ k′ .rx .next) × (a .stop ≡ k′ .stop)
+      Reports x = x ≡ handled P (Received.Accepted a) k′ → Reported P k p a k′
 
       no-account : (r : Refusal) (j : Receiver P) → Reports (handled P (Received.Refused r) j)
       no-account r j e =
           let q : Received.Refused r ≡ Received.Accepted a = ap (λ (x : Handled P). x .answer) e in
           let z : _≡_ {A = ℕ} 0 1 = cc in absurd (omega arith)
 
-      told-both : (b : Account) (j : Receiver P) → b .next ≡ j .rx .next → b .stop ≡ j .stop → Reports (handled P (Received.Accepted b) j)
-      told-both b j m n e =
+      told-all : (b : Account) (j : Receiver P) → Reported P k p b j → Reports (handled P (Received.Accepted b) j)
+      told-all b j r e =
           let q : Received.Accepted b ≡ Received.Accepted a = ap (λ (x : Handled P). x .answer) e in
           let same : b ≡ a = cc in
           let there : j ≡ k′ = ap (λ (x : Handled P). x .after) e in
-          (sym (ap (λ (x : Account). x .next) same) ∙ m ∙ ap (λ (x : Receiver P). x .rx .next) there, sym (ap (λ (x : Account). x .stop) same) ∙ n ∙ ap (λ (x : Receiver P). x .stop) there)
+          subst (λ (x : Account). Reported P k p x k′) same (subst (Reported P k p b) there r)
 
-      by-framing : (x : Frames Refusal) → Reports (handledBy P x k)
-      by-framing (bad r) = no-account r k
-      by-framing (records cs) = told-both _ _ refl refl
+      by-framing : (x : Frames Refusal) → P .frame p ≡ x → Reports (handledBy P x k)
+      by-framing (bad r) f = no-account r k
+      by-framing (records cs) f = told-all _ _ (record { next-is = refl; stop-is = refl; counts-are = ap (λ (y : Frames Refusal). countsOf (said S E (recordsOf y) (k .rx))) (sym f) })

@@ -8,16 +8,16 @@ use native.Mathlib.Omega.{arith}
 use Rattle.wire.specs.Records.{Rec}
 use Rattle.arbitration.specs.Engine.{ok, broke, Engine, Store}
 use Rattle.arbitration.specs.Receive.{accepted, run, stop}
-use Rattle.arbitration.specs.Lists.{Every, Numbered, Copy, made, Made, Named}
+use Rattle.arbitration.specs.Lists.{Every, Numbered, Copy, made}
 use Rattle.arbitration.proofs.Invariant.{every-copy}
-use Rattle.arbitration.proofs.Halves.{agree, start-ready, first-half, second-half}
+use Rattle.arbitration.proofs.Halves.{Made, Named, agree, start-ready, first-half, second-half}
 use Rattle.arbitration.proofs.Packets.{every-accepted, receives-run}
 use Rattle.receiver.specs.Parts.{Parts, engineOf}
 use Rattle.receiver.specs.Receiver.{Rx, Receiver, receivesAll}
 use Rattle.receiver.specs.Demand3.{Given, MadeBy, Names, AnsweredTo, Demand3}
 use Rattle.receiver.proofs.PartsLaws.{PartsLaws, lawsOf}
 use Rattle.receiver.proofs.Accounts.{account-reports}
-use Rattle.receiver.proofs.Fits.{all-received, all-stop, start-fit, start-stop}
+use Rattle.receiver.proofs.Fits.{one-call-more, all-received, all-stop, start-fit, start-stop}
 
 module _ (P : Parts) (L : PartsLaws P) (ms : List (List ℕ)) (b0 : P .rules .Book) where
   abbrev S : Store
@@ -82,5 +82,6 @@ module _ (P : Parts) (L : PartsLaws P) (ms : List (List ℕ)) (b0 : P .rules .Bo
     first = first-of;
     second = second-of;
     agreement = λ k0 k0′ ps ps′ g g′ e. agree S E ms 0 b0 _ _ (made-so k0 ps g) (made-so k0′ ps′ g′) e;
+    one-more = one-call-more P L;
     reported = account-reports P;
   }

@@ -3,7 +3,7 @@
 use Prim.Native.Nat.{ℕ, _+_, _%_, _≤_}
 use mathlib.Core.Path.{_≡_, refl, sym, ap, subst, _∙_}
 use mathlib.Core.Bool.{true}
-use mathlib.Core.List.{List, [], _∷_}
+use mathlib.Core.List.{List, [], _∷_, _++_}
 use native.Mathlib.Omega.{arith}
 use borrow.Author.Tests.{le-leb}
 use Rattle.facts.specs.Pick.{both}
@@ -96,6 +96,12 @@ module _ (P : Parts) (L : PartsLaws P) where
   unfolding receivesAll
   all-fit [] k f = f
   all-fit (p ∷ ps) k f = all-fit ps (receives P k p .after) (packet-fit p k f)
+
+  -- one packet more is one call more
+  pub one-call-more : (k : Receiver P) (ps : List (List ℕ)) (p : List ℕ) → receivesAll P (ps ++ (p ∷ [])) k ≡ receives P (receivesAll P ps k) p .after
+  unfolding receivesAll
+  one-call-more k [] p = refl
+  one-call-more k (q ∷ ps) p = one-call-more (receives P k q .after) ps p
 
   -- calls of `receive`, one after another, are the packets of the theory
   pub all-received : (ps : List (List ℕ)) (k : Receiver P) → Fit (k .rx) → receivesAll P ps k .rx ≡ theory.receives S E (P .frame) ps (k .rx)

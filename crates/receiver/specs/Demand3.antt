@@ -3,12 +3,12 @@ use Prim.Native.Nat.{ℕ, _-_, _≤_}
 use mathlib.Core.Path.{_≡_}
 use mathlib.Core.Logic.{_⊎_}
 use mathlib.Core.Bool.{true}
-use mathlib.Core.List.{List}
+use mathlib.Core.List.{List, [], _∷_, _++_}
 use lib.ListN.{length}
 use Rattle.arbitration.specs.Engine.{ok, broke}
-use Rattle.arbitration.specs.Receive.{accepted}
-use Rattle.arbitration.specs.Lists.{WellFormed, Copies, Answered, made, Started as Zeroed}
-use Rattle.receiver.specs.Parts.{Rules, Parts, engineOf}
+use Rattle.arbitration.specs.Receive.{recordsOf, accepted, said, countsOf}
+use Rattle.arbitration.specs.Lists.{WellFormed, Copies, Answered, made, Zeroed}
+use Rattle.receiver.specs.Parts.{Parts, engineOf}
 use Rattle.receiver.specs.Receiver.{Receiver, receives, receivesAll, handled}
 use Rattle.receiver.specs.declared.Account.{Account}
 use Rattle.receiver.specs.declared.Received.{Received}
@@ -21,7 +21,8 @@ module _ (P : Parts) where
     pub no-stop : k .stop ≡ 0
 
   -- "Take any list of well-formed messages, numbered from 1. Start a receiver, leave its tables to it, and give it packets whose accepted records are true copies
-  -- from that list, lost, repeated or shuffled at will." ms is the list, k0 the receiver after its start, ps are the packets so far: one call each, any number of them
+  -- from that list, lost, repeated or shuffled at will." ms is the list, k0 the receiver after its start, ps are the packets so far, any number of them: a call for each,
+  -- and each call is handed what the one before left (`receivesAll`), so that its tables are left to it
   pub record Given (ms : List (List ℕ)) (b0 : P .rules .Book) (k0 : Receiver P) (ps : List (List ℕ)) : Type 0 where
     pub well-formed : WellFormed (P .rules .good) ms
     pub started : Started b0 k0
@@ -33,7 +34,7 @@ module _ (P : Parts) where
     pub in-list : k .rx .next - 1 ≤ length ms
     pub tables-are : made (engineOf (P .rules)) ms 0 b0 (k .rx .next - 1) ≡ ok (k .rx .book)
 
-  -- "the receiver names message k + 1, which the list itself, in tables of that size, can't apply, and the rule broken": k + 1 is next, the rule is the stop
+  -- "the receiver names message k + 1, which the list itself, in tables of that size, can't apply, and the rule broken": k + 1 is next, the rule is the stop, and b0 has the sizes
   pub record Names (ms : List (List ℕ)) (b0 : P .rules .Book) (k : Receiver P) : Type 0 where
     pub in-list : k .rx .next ≤ length ms
     pub rule-named : 1 ≤ k .stop
@@ -43,15 +44,23 @@ module _ (P : Parts) where
   abbrev pub AnsweredTo : ℕ → List (List ℕ) → Receiver P → Type 0
   AnsweredTo j ps k0 = (n : ℕ) → 1 ≤ n → n ≤ j → Answered (P .store) (engineOf (P .rules)) n (accepted (P .frame) ps) (k0 .rx)
 
+  -- the account a of a packet p that the receiver k accepted, and the receiver k′ after it
+  pub record Reported (k : Receiver P) (p : List ℕ) (a : Account) (k′ : Receiver P) : Type 0 where
+    pub next-is : a .next ≡ k′ .rx .next
+    pub stop-is : a .stop ≡ k′ .stop
+    pub counts-are : a .counts ≡ countsOf (said (P .store) (engineOf (P .rules)) (recordsOf (P .frame p)) (k .rx))
+
   pub record Demand3 (ms : List (List ℕ)) (b0 : P .rules .Book) : Type 0 where
     -- "After each accepted packet": ps are any packets, so this holds after each one of a run
     pub first : (k0 : Receiver P) (ps : List (List ℕ)) → Given ms b0 k0 ps → MadeBy ms b0 (receivesAll P ps k0)
     -- "If every number up to j was answered as taken, repeated or old, then k is at least j, or the receiver names message k + 1"
     pub second : (k0 : Receiver P) (ps : List (List ℕ)) → Given ms b0 k0 ps → (j : ℕ) → AnsweredTo j ps k0
         → (j ≤ receivesAll P ps k0 .rx .next - 1) ⊎ Names ms b0 (receivesAll P ps k0)
-    -- "Two such receivers on one list, with equal capacities and equal k, agree in these three"
+    -- "Two such receivers on one list, with equal capacities and equal k, agree in these three": one b0, so equal capacities
     pub agreement : (k0 k0′ : Receiver P) (ps ps′ : List (List ℕ)) → Given ms b0 k0 ps → Given ms b0 k0′ ps′
         → receivesAll P ps k0 .rx .next ≡ receivesAll P ps′ k0′ .rx .next
         → receivesAll P ps k0 .rx .book ≡ receivesAll P ps′ k0′ .rx .book
-    -- "the next number it reports", and the stop: the account of an accepted packet tells both
-    pub reported : (k k′ : Receiver P) (p : List ℕ) (a : Account) → receives P k p ≡ handled P (Received.Accepted a) k′ → (a .next ≡ k′ .rx .next) × (a .stop ≡ k′ .stop)
+    -- "each": one packet more is one call more, so that all of this is said of the receiver after each call of a run
+    pub one-more : (k0 : Receiver P) (ps : List (List ℕ)) (p : List ℕ) → receivesAll P (ps ++ (p ∷ [])) k0 ≡ receives P (receivesAll P ps k0) p .after
+    -- "the next number it reports", the rule that it names, and how many records were answered in each way: an accepted packet's account tells them
+    pub reported : (k k′ : Receiver P) (p : List ℕ) (a : Account) → receives P k p ≡ handled P (Received.Accepted a) k′ → Reported k p a k′
