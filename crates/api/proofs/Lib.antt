@@ -1,3 +1,4 @@
 pub mod Bits
 pub mod Handing
 pub mod Types
+pub mod Chain

@@ -9,8 +9,8 @@ use Rattle.facts.specs.Pick.{pick}
 use Rattle.facts.specs.Sums.{sumBy, onlyIf, countBy}
 use Rattle.wire.specs.Records.{Rec}
 use Rattle.arbitration.specs.Engine.{Engine, Store}
-use Rattle.arbitration.specs.Receive.{Answer, taken, old, tooFar, repeated, differing, Said, count, countsOf, State, judged, acted, after, run, said, told}
-use Rattle.arbitration.specs.Loops.{noCounts, counted, total, Working, working, work}
+use Rattle.arbitration.specs.Receive.{Answer, taken, old, tooFar, repeated, differing, Said, count, countsOf, State, judged, acted, after, run, said, told, noCounts}
+use Rattle.arbitration.specs.Loops.{counted, total, Working, working, work}
 use Rattle.arbitration.specs.declared.Counts.{Counts}
 use Rattle.arbitration.proofs.Answers.{after-of}
 

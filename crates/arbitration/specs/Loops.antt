@@ -7,9 +7,6 @@ use Rattle.arbitration.specs.Engine.{Engine, Store}
 use Rattle.arbitration.specs.Receive.{Answer, taken, old, tooFar, repeated, differing, nothing, stuck, goes, State, try, turned, judged, after}
 use Rattle.arbitration.specs.declared.Counts.{Counts}
 
-abbrev pub noCounts : Counts
-noCounts = record { taken = 0; old = 0; far = 0; repeated = 0; differing = 0 }
-
 -- the five counts with one answer more
 abbrev pub counted : Answer → Counts → Counts
 counted taken t = record { taken = t .taken + 1; old = t .old; far = t .far; repeated = t .repeated; differing = t .differing }

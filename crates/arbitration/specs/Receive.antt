@@ -68,6 +68,10 @@ count q l = countBy (λ x. eqb (codeOf (x .answer)) q) l
 unfoldable pub countsOf : List Said → Counts
 countsOf l = record { taken = count 10 l; old = count 11 l; far = count 12 l; repeated = count 13 l; differing = count 14 l }
 
+-- of no records
+abbrev pub noCounts : Counts
+noCounts = record { taken = 0; old = 0; far = 0; repeated = 0; differing = 0 }
+
 -- "The packet's answer tells how many records got each of 10 to 14, the next number, how many messages were applied (the growth of next),
 -- the highest number on the shelf (0 if none), and the stop"
 pub record Told : Type 0 where

@@ -1,4 +1,4 @@
--- The limits of document 01, each once. The code's are the constants of src/lib.rt; a contract that speaks of both ties them.
+-- The limits of document 01, and what follows of them, each once. The code's are the constants of src/lib.rt; a contract that speaks of both ties them.
 use Prim.Native.Nat.{ℕ}
 
 -- "Sequence numbers run from 1 to 1,000,000,000,000"
@@ -13,7 +13,7 @@ mostPrice = 1000000000000000
 abbrev pub packetMost : ℕ
 packetMost = 1500
 
--- a packet of that size behind its two-byte length: what an unfinished one may need
+-- such a packet behind its two-byte length: "a lent buffer of 1,502 bytes or more for the unfinished packet" (document 02, No. 13)
 abbrev pub holdLeast : ℕ
 holdLeast = 1502
 

@@ -14,8 +14,8 @@ use lib.Dec.{leb}
 use Rattle.fields.specs.Fields.{refusal}
 use Rattle.fields.specs.declared.Refusal.{Refusal}
 use Rattle.arbitration.specs.Engine.{Engine, Store}
-use Rattle.arbitration.specs.Receive.{recordsOf, countsOf, said, run, told, stop, highest}
-use Rattle.arbitration.specs.Loops.{noCounts, Working, work}
+use Rattle.arbitration.specs.Receive.{recordsOf, countsOf, said, run, told, stop, highest, noCounts}
+use Rattle.arbitration.specs.Loops.{Working, work}
 use Rattle.arbitration.specs.declared.Counts.{Counts}
 use Rattle.arbitration.proofs.Answers.{run-next}
 use Rattle.arbitration.proofs.Tallies.{work-told}
@@ -83,16 +83,24 @@ module _ (P : Parts) where
       refused-packet e q f = ap (λ (x : Frames Refusal). handledBy P x k) (sym f) ∙ by-frame e
 
   -- ---- demand 1: "a refusal changes no byte and no state"
-  pub refusal-keeps : (k : Receiver P) (p : List ℕ) → (receivedNumber (receives P k p .answer) ≡ 0 → ⊥) → receives P k p .after ≡ k
+  pub refused-same : (k : Receiver P) (p : List ℕ) (r : Refusal) → receives P k p .answer ≡ Received.Refused r → receives P k p .after ≡ k
   unfolding receives handledBy
-  refusal-keeps k p = pick-ind Keeps (fit P k) (handledBy P (P .frame p) k) (handled P (Received.Refused (refusal 6)) k) (λ _. by-framing (P .frame p)) (λ _ _. refl)
+  refused-same k p r = pick-ind Keeps (fit P k) (handledBy P (P .frame p) k) (handled P (Received.Refused (refusal 6)) k) (λ _. by-framing (P .frame p)) (λ _ _. refl)
     where
       Keeps : Handled P → Type 0
-      Keeps x = (receivedNumber (x .answer) ≡ 0 → ⊥) → x .after ≡ k
+      Keeps x = x .answer ≡ Received.Refused r → x .after ≡ k
 
       by-framing : (x : Frames Refusal) → Keeps (handledBy P x k)
-      by-framing (bad r) n = refl
-      by-framing (records cs) n = absurd (n refl)
+      by-framing (bad q) e = refl
+      by-framing (records cs) e = let z : _≡_ {A = ℕ} 0 1 = cc in absurd (omega arith)
+
+  -- so does any number but 0
+  pub refusal-keeps : (k : Receiver P) (p : List ℕ) → (receivedNumber (receives P k p .answer) ≡ 0 → ⊥) → receives P k p .after ≡ k
+  refusal-keeps k p n = go (receives P k p .answer) refl
+    where
+      go : (a : Received) → receives P k p .answer ≡ a → receives P k p .after ≡ k
+      go (Received.Refused r) e = refused-same k p r e
+      go (Received.Accepted t) e = absurd (n (ap receivedNumber e))
 
   -- an accepted packet's account tells the next number and the stop that the receiver then has, and counts the answers
   pub account-reports : (k k′ : Receiver P) (p : List ℕ) (a : Account) → receives P k p ≡ handled P (Received.Accepted a) k′ → Reported P k p a k′

@@ -8,7 +8,7 @@ use Rattle.facts.specs.Pick.{pick, both}
 use Rattle.facts.specs.Limits.{packetMost}
 use Rattle.wire.specs.Le.{field}
 use Rattle.receiver.specs.Lent.{fresh, freshState}
-use Rattle.arbitration.specs.Loops.{noCounts}
+use Rattle.arbitration.specs.Receive.{noCounts}
 use Rattle.recording.specs.Stream.{Kept, kept, Hearing, hearing, opened, Outcome, outcome, fed}
 use Rattle.recording.specs.declared.Fed.{Fed}
 

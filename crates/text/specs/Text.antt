@@ -55,7 +55,7 @@ tickerOf t = map shownOf (trimOf t)
 unfoldable pub lineOf : List ℕ → List ℕ → List ℕ
 lineOf key value = key ++ (value ++ (10 ∷ []))
 
--- "up to ten levels a side, .. symbols in table order": f 0, then f 1, up to f (n - 1)
+-- texts one after another, as a loop appends them: f 0, then f 1, up to f (n - 1)
 unfoldable pub firstTexts : (ℕ → List ℕ) → ℕ → List ℕ
 firstTexts f zero = []
 firstTexts f (suc n) = firstTexts f n ++ f n

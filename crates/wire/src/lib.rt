@@ -84,7 +84,7 @@ pub fn u64_at(b: &[u8], at: usize) -> u64
     eight_in(&p, 0)
 }
 
-// As many bytes as both have, from one to the other.
+// All bytes of one run into another of the same length.
 fn copy(s: &[u8], out: &mut [u8])
     requires { ⌜ length (now s) ≡ length (now out) ⌝ }
     ensures { λ _. ⌜ now (out .exit) ≡ now (s .entry) ⌝ }

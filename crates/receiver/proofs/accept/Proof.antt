@@ -3,8 +3,8 @@ use mathlib.Core.List.{List}
 use native.Mathlib.Omega.{arith}
 use Rattle.wire.specs.Records.{Rec}
 use Rattle.packet.specs.Packet.{Framing, framing}
-use Rattle.arbitration.specs.Receive.{recordsOf}
-use Rattle.arbitration.specs.Loops.{noCounts, work as workAll}
+use Rattle.arbitration.specs.Receive.{recordsOf, noCounts}
+use Rattle.arbitration.specs.Loops.{work as workAll}
 use Rattle.shelf.specs.Store.{shelfStore}
 use Rattle.receiver.specs.Lent.{bookEngine, real, rx, lent, workingOf}
 use Rattle.receiver.proofs.Accounts.{next-grows, accepted}

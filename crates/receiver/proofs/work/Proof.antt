@@ -8,7 +8,8 @@ use borrow.Author.Needs.{needs}
 use lib.ListN.{length, drop}
 use Rattle.packet.specs.Packet.{framesFrom}
 use Rattle.packet.specs.declared.Head.{Head}
-use Rattle.arbitration.specs.Loops.{noCounts, working, work as workAll, total}
+use Rattle.arbitration.specs.Receive.{noCounts}
+use Rattle.arbitration.specs.Loops.{working, work as workAll, total}
 use Rattle.shelf.specs.Store.{shelfStore}
 use Rattle.receiver.proofs.Records.{leftFrom, worked-bounds, next-inside, next-frames, next-works, first-frames, last-works, same-record}
 use Rattle.receiver.proofs.work.Statement.{statement}
