@@ -76,11 +76,16 @@ unfolding messages.numbered messages.systemTime messages.symbolUpdate messages.a
     theory.accepted
 true-copies = (
   record { in-list = leb-true 1 5 refl; same = refl },
-  record { in-list = leb-true 2 5 refl; same = refl },
-  record { in-list = leb-true 3 5 refl; same = refl },
-  record { in-list = leb-true 4 5 refl; same = refl },
-  record { in-list = leb-true 5 5 refl; same = refl },
-  tt,
+  (
+    record { in-list = leb-true 2 5 refl; same = refl },
+    (
+      record { in-list = leb-true 3 5 refl; same = refl },
+      (
+        record { in-list = leb-true 4 5 refl; same = refl },
+        (record { in-list = leb-true 5 5 refl; same = refl }, tt),
+      ),
+    ),
+  ),
 )
 
 sizes-good : receiver.sizesOk 20 42 shelfSize ≡ true
