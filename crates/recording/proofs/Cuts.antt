@@ -18,19 +18,20 @@ use Rattle.fields.specs.Fields.{refusal}
 use Rattle.arbitration.specs.Stream.{feed as each}
 use Rattle.arbitration.proofs.StreamLaws.{feed-append}
 use Rattle.receiver.specs.declared.State.{State}
-use Rattle.recording.specs.Stream.{Kept, Hearing, hearing, heard, passed, grown, byte, keptOf, hearingOf, opened, cut, feedable, Outcome, outcome, streamIn, took, fed}
+use Rattle.recording.specs.Stream.{Kept, Hearing, hearing, heard, hearer, byte, keptOf, hearingOf, opened, cut, feedable, Outcome, outcome, streamIn, took, fed}
+use Rattle.recording.specs.Carve.{passed, grown, carve}
 use Rattle.recording.specs.Whole.{restOf}
 use Rattle.recording.specs.declared.Stream.{Stream}
 use Rattle.recording.specs.declared.Fed.{Fed}
 use Rattle.recording.proofs.Exits.{buffer-fits}
-use Rattle.recording.proofs.Packets.{cut-rest}
+use Rattle.recording.proofs.Heard.{cut-rest}
 
 -- ---- a buffer of w bytes, 1,502 or more, is never outgrown
 module _ (w : ℕ) (big : holdLeast ≤ w) where
   abbrev Fits : Hearing → Type 0
   Fits x = length (x .unfinished) ≤ w
 
-  grown-fits : (u : List ℕ) (k : Kept) → Fits (grown u k)
+  grown-fits : (u : List ℕ) (k : Kept) → Fits (grown hearer u k)
   unfolding grown
   grown-fits u k =
       pick-ind Fits (ltb (length u) 2) (hearing u 0 k) _ (λ t. omega (arith, ltb-true (length u) 2 t))
@@ -38,8 +39,8 @@ module _ (w : ℕ) (big : holdLeast ≤ w) where
       (λ s. pick-ind Fits (ltb (length u) (2 + field u 0 2)) (hearing u 0 k) (hearing [] 0 (heard (take (field u 0 2) (drop 2 u)) k)) (λ t. omega (arith, ltb-true (length u) (2 + field u 0 2) t, ltb-false packetMost (field u 0 2) s)) (λ _. omega arith)))
 
   byte-fits : (b : ℕ) (x : Hearing) → Fits x → Fits (byte b x)
-  unfolding byte passed
-  byte-fits b x h = pick-ind Fits (eqb (x .skip) 0) (grown (x .unfinished ++ (b ∷ [])) (x .kept)) (passed 1 x) (λ _. grown-fits (x .unfinished ++ (b ∷ [])) (x .kept)) (λ _. h)
+  unfolding carve passed
+  byte-fits b x h = pick-ind Fits (eqb (x .skip) 0) (grown hearer (x .unfinished ++ (b ∷ [])) (x .kept)) (passed hearer 1 x) (λ _. grown-fits (x .unfinished ++ (b ∷ [])) (x .kept)) (λ _. h)
 
   pub all-fit : (bs : List ℕ) (x : Hearing) → Fits x → Fits (each byte bs x)
   unfolding each

@@ -11,10 +11,10 @@ use lib.ListN.{length, take, drop, getD, set, replicate, drop-of-length-le, leng
 use lib.Seq.{take-suc-set, drop-drop, length-take-le}
 use borrow.Rule.Slice.PartMut.{putMid}
 use lib.Dec.{leb, eqb}
-use borrow.Author.Tests.{leb-true, eq-eqb, ne-eqb}
+use borrow.Author.Tests.{leb-true, lt-ltb, le-ltb, eq-eqb, ne-eqb}
 use Rattle.facts.specs.Pick.{pick, both}
 use Rattle.facts.specs.Limits.{packetMost, holdLeast}
-use Rattle.facts.proofs.Picks.{both-true}
+use Rattle.facts.proofs.Picks.{both-true, pick-map}
 use Rattle.wire.specs.Le.{field}
 use Rattle.arbitration.specs.Stream.{feed as each}
 use Rattle.fields.specs.Fields.{refusal}
@@ -23,7 +23,8 @@ use Rattle.receiver.specs.Receiver.{nextOk}
 use Rattle.receiver.specs.Lent.{Handled, received, sizesOk}
 use Rattle.receiver.specs.declared.Account.{Account}
 use Rattle.receiver.specs.declared.Received.{Received}
-use Rattle.recording.specs.Stream.{more, added, Kept, kept, counted, heard, Hearing, hearing, passed, grown, byte, keptOf, hearingOf, feedable, outcome, took, fed}
+use Rattle.recording.specs.Stream.{more, added, Kept, kept, counted, heard, hearer, Hearing, hearing, byte, keptOf, hearingOf, feedable, outcome, took, fed}
+use Rattle.recording.specs.Carve.{passed, grown}
 use Rattle.recording.specs.Steps.{Whole, Passed, Pushed, Stepped, Ran}
 use Rattle.arbitration.specs.declared.Counts.{Counts}
 use Rattle.recording.specs.declared.Stream.{Stream}
@@ -79,8 +80,8 @@ module _ (k : Stream) (o s h w : List ℕ) (b : ℕ) (no-skip : k .skip ≡ 0) (
   abbrev x : Hearing
   x = hearingOf k o s h w
 
-  is-grown : byte b x ≡ grown u K
-  is-grown = ap (λ n. byte b (hearing (take (k .held) w) n K)) no-skip ∙ byte-grows b (take (k .held) w) K
+  is-grown : byte b x ≡ grown hearer u K
+  is-grown = ap (λ n. byte b (hearing (take (k .held) w) n K)) no-skip ∙ byte-grows hearer b (take (k .held) w) K
 
   same-size : length w′ ≡ length w
   same-size = ap length stored ∙ length-set w (k .held) b
@@ -88,13 +89,13 @@ module _ (k : Stream) (o s h w : List ℕ) (b : ℕ) (no-skip : k .skip ≡ 0) (
   u-size : length u ≡ k .held + 1
   u-size = length-grew w (k .held) b fits
 
-  one-kept : grown u K ≡ hearing u 0 K → k .held < length w → (m : ℕ) → m ≡ k .held + 1 → Pushed b x (record { receiver = k .receiver; held = m; skip = k .skip; bad = k .bad; totals = k .totals }) o s h w′
+  one-kept : grown hearer u K ≡ hearing u 0 K → k .held < length w → (m : ℕ) → m ≡ k .held + 1 → Pushed b x (record { receiver = k .receiver; held = m; skip = k .skip; bad = k .bad; totals = k .totals }) o s h w′
   one-kept g l m e =
       let front : take m w′ ≡ u = ap (λ v. take m v) stored ∙ ap (λ j. take j (set w (k .held) b)) (e ∙ add-one (k .held)) ∙ take-suc-set w (k .held) b l in
       record { fits = omega (arith, same-size); is = (λ i. hearing (front i) (no-skip i) K) ∙ sym g ∙ sym is-grown }
 
   pub push-first : k .held ≡ 0 → Pushed b x (record { receiver = k .receiver; held = 1; skip = k .skip; bad = k .bad; totals = k .totals }) o s h w′
-  push-first z = one-kept (keeps-one u K (omega (arith, u-size))) (omega arith) 1 (omega arith)
+  push-first z = one-kept (keeps-one hearer u K (omega (arith, u-size))) (omega arith) 1 (omega arith)
 
   module _ (some : k .held ≡ 0 → ⊥) (n : ℕ) (n-is : n ≡ field w′ 0 2) where
     u-field : n ≡ field u 0 2
@@ -105,15 +106,15 @@ module _ (k : Stream) (o s h w : List ℕ) (b : ℕ) (no-skip : k .skip ≡ 0) (
 
     pub push-over : packetMost < n → Pushed b x (record { receiver = k .receiver; held = 0; skip = n; bad = k .bad; totals = k .totals }) o s h w′
     push-over l =
-        let g = over-long u K u-two (omega (arith, u-field)) in
+        let g = over-long hearer u K u-two (lt-ltb packetMost (field u 0 2) (omega (arith, u-field))) in
         record { fits = omega arith; is = (λ i. hearing [] (u-field i) K) ∙ sym g ∙ sym is-grown }
 
     pub push-keeps : n ≤ packetMost → k .held ≤ n → Pushed b x (record { receiver = k .receiver; held = k .held + 1; skip = k .skip; bad = k .bad; totals = k .totals }) o s h w′
-    push-keeps a c = one-kept (keeps u K u-two (omega (arith, u-field)) (omega (arith, u-field, u-size))) (omega arith) (k .held + 1) refl
+    push-keeps a c = one-kept (keeps hearer u K u-two (le-ltb packetMost (field u 0 2) (omega (arith, u-field))) (omega (arith, u-field, u-size))) (omega arith) (k .held + 1) refl
 
     pub push-gives : n ≤ packetMost → n < k .held → (r : Stream) (o′ s′ h′ : List ℕ) → keptOf r o′ s′ h′ ≡ heard (take (2 + n - 2) (drop 2 w′)) K → r .held ≡ 0 → r .skip ≡ 0 → Pushed b x r o′ s′ h′ w′
     push-gives a c r o′ s′ h′ e z y =
-        let g = gives u K u-two (omega (arith, u-field)) (omega (arith, u-field, u-size)) in
+        let g = gives hearer u K u-two (le-ltb packetMost (field u 0 2) (omega (arith, u-field))) (omega (arith, u-field, u-size)) in
         let p : take (2 + n - 2) (drop 2 w′) ≡ take (field u 0 2) (drop 2 u) = rw (add-sub-cancel-left 2 n, stored, ← u-field) (same-bytes w (k .held) b fits n (omega arith) (omega arith)) in
         record { fits = omega arith; is = (λ i. hearing (take (z i) w′) (y i) (e i)) ∙ ap (λ q. hearing [] 0 (heard q K)) p ∙ sym g ∙ sym is-grown }
 
@@ -135,8 +136,9 @@ step-passes k o s h w chunk at r p fits q =
       fits = omega arith;
       same =
           ap (λ v. each byte (drop (r .at) chunk) (hearingOf v o s h w)) (q .stream-is)
-          ∙ ap (λ d. each byte d (passed n (hearingOf k o s h w))) (sym behind)
-          ∙ passes n (drop at chunk) (hearingOf k o s h w) (omega (arith, q .on)) (q .most) (rw length-drop (omega (arith, q .on, q .within)));
+          ∙ ap (λ e. each byte (drop (r .at) chunk) (hearing (take (k .held) w) (k .skip - n) e)) (pick-map (λ b. kept b (k .totals) (keptOf k o s h .lent)) (eqb n (k .skip)) (more (k .bad) 1) (k .bad))
+          ∙ ap (λ d. each byte d (passed hearer n (hearingOf k o s h w))) (sym behind)
+          ∙ passes hearer n (drop at chunk) (hearingOf k o s h w) (omega (arith, q .on)) (q .most) (rw length-drop (omega (arith, q .on, q .within)));
     }
 
 pub step-gives : (k : Stream) (o s h w chunk : List ℕ) (at m : ℕ) → k .skip ≡ 0 → k .held ≡ 0 → 0 < m → Whole chunk at m → (r : Stream) (o′ s′ h′ : List ℕ) → keptOf r o′ s′ h′ ≡ heard (take (at + m - (at + 2)) (drop (at + 2) chunk)) (keptOf k o s h) → r .held ≡ 0 → r .skip ≡ 0 → Stepped chunk at (hearingOf k o s h w) (record { at = at + m; stream = r }) o′ s′ h′ w
@@ -155,13 +157,13 @@ step-gives k o s h w chunk at m no-skip none some q r o′ s′ h′ e z y =
           (λ i. each byte (drop (at + m) chunk) (hearing (take (z i) w) (y i) (e i)))
           ∙ ap (λ v. each byte (drop (at + m) chunk) (hearing [] 0 (heard v (keptOf k o s h)))) p
           ∙ ap (λ d. each byte d (hearing [] 0 (heard (take (field l 0 2) (drop 2 l)) (keptOf k o s h)))) (sym behind)
-          ∙ at-once l (keptOf k o s h) (omega (arith, q .small)) (rw length-drop (omega (arith, q .is, q .fits)))
+          ∙ at-once hearer l (keptOf k o s h) (le-ltb packetMost (field l 0 2) (omega (arith, q .small))) (rw length-drop (omega (arith, q .is, q .fits)))
           ∙ (λ i. each byte l (hearing (take (sym none i) w) (sym no-skip i) (keptOf k o s h)));
     }
 
 pub step-pushes : (chunk : List ℕ) (at : ℕ) (x : Hearing) (r : Stream) (o s h w : List ℕ) → at < length chunk → Pushed (getD chunk at 0) x r o s h w → Stepped chunk at x (record { at = at + 1; stream = r }) o s h w
 step-pushes chunk at x r o s h w l q =
-    record { on = omega arith; within = omega arith; fits = q .fits; same = ap (each byte (drop (at + 1) chunk)) (q .is) ∙ at-byte chunk at x l }
+    record { on = omega arith; within = omega arith; fits = q .fits; same = ap (each byte (drop (at + 1) chunk)) (q .is) ∙ at-byte hearer chunk at x l }
 
 -- ---- the loop's end
 pub ran : (chunk : List ℕ) (at : ℕ) → length chunk ≤ at → (y end : Hearing) → each byte (drop at chunk) y ≡ end → y ≡ end

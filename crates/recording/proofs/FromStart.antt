@@ -30,7 +30,7 @@ use Rattle.recording.specs.Stream.{Kept, hears, Hearing, hearing, byte, 
 use Rattle.recording.specs.Whole.{packetsOf, restOf, waiting, fedOn, fedAll, began, openedOver}
 use Rattle.recording.specs.declared.Stream.{Stream}
 use Rattle.recording.specs.declared.Fed.{Fed}
-use Rattle.recording.proofs.Packets.{all-heard, whole, hears-receives, cut-rest}
+use Rattle.recording.proofs.Heard.{all-heard, whole, hears-receives, cut-rest}
 use Rattle.recording.proofs.Cuts.{all-fit, same-stream, again, same-size, fed-then}
 
 -- the tests of a feed, met

@@ -1,11 +1,10 @@
--- A recording, byte by byte (document 01, "The sheet": "packets each behind a 2-byte length"; request 13: "chunks cut anywhere, even inside the 2-byte length").
+-- A recording that is heard by a receiver, in chunks of any size: its packets one after another, and what is counted of them (document 01, "The sheet").
 use Prim.Native.Nat.{ℕ, _+_, _-_, min}
 use mathlib.Core.Bool.{Bool}
 use mathlib.Core.List.{List, [], _∷_, _++_}
-use lib.ListN.{length, take, drop, replicate}
-use lib.Dec.{leb, ltb, eqb}
+use lib.ListN.{length, take, replicate}
+use lib.Dec.{leb, ltb}
 use Rattle.facts.specs.Pick.{pick, both, either}
-use Rattle.wire.specs.Le.{field}
 use Rattle.fields.specs.Fields.{refusal}
 use Rattle.facts.specs.Limits.{packetMost, holdLeast}
 use Rattle.arbitration.specs.declared.Counts.{Counts}
@@ -15,6 +14,7 @@ use Rattle.receiver.specs.Receiver.{nextOk}
 use Rattle.receiver.specs.Lent.{Lent, lent, ordersOf, symbolsOf, shelfOf, stateOf, received, sizesOk}
 use Rattle.receiver.specs.declared.State.{State}
 use Rattle.receiver.specs.declared.Received.{Received}
+use Rattle.recording.specs.Carve.{Hearer, Carved, carved, carve}
 use Rattle.recording.specs.declared.Stream.{Stream}
 use Rattle.recording.specs.declared.Fed.{Fed}
 
@@ -48,30 +48,19 @@ unfoldable pub hears : List (List ℕ) → Kept → Kept
 hears [] k = k
 hears (p ∷ ps) k = hears ps (heard p k)
 
--- between two bytes: the bytes of an unfinished length and packet, and how many bytes of an over-long packet are still to come
-pub record Hearing : Type 0 where
-  pub unfinished : List ℕ
-  pub skip : ℕ
-  pub kept : Kept
+-- "A packet is 1 to 1,500 bytes": a longer one is passed over, and is bad when its last byte has come
+abbrev pub hearer : Hearer Kept
+hearer = record { over = λ n. ltb packetMost n; give = heard; long = λ k. kept (more (k .bad) 1) (k .totals) (k .lent) }
+
+abbrev pub Hearing : Type 0
+Hearing = Carved Kept
 
 abbrev pub hearing : List ℕ → ℕ → Kept → Hearing
-hearing u n k = record { unfinished = u; skip = n; kept = k }
-
--- "A packet is 1 to 1,500 bytes": a longer one is passed over, n bytes of it at once, and is bad when its last byte has come
-unfoldable pub passed : ℕ → Hearing → Hearing
-passed n x = hearing (x .unfinished) (x .skip - n) (kept (pick (eqb n (x .skip)) (more (x .kept .bad) 1) (x .kept .bad)) (x .kept .totals) (x .kept .lent))
-
--- the bytes of a length and its packet, one more than before: kept until they are all there
-unfoldable pub grown : List ℕ → Kept → Hearing
-grown u k =
-    pick (ltb (length u) 2) (hearing u 0 k)
-    (pick (ltb packetMost (field u 0 2)) (hearing [] (field u 0 2) k)
-    (pick (ltb (length u) (2 + field u 0 2)) (hearing u 0 k)
-    (hearing [] 0 (heard (take (field u 0 2) (drop 2 u)) k))))
+hearing u n k = carved u n k
 
 -- what one byte does
-unfoldable pub byte : ℕ → Hearing → Hearing
-byte b x = pick (eqb (x .skip) 0) (grown (x .unfinished ++ (b ∷ [])) (x .kept)) (passed 1 x)
+abbrev pub byte : ℕ → Hearing → Hearing
+byte = carve hearer
 
 -- ---- the stream of the code: its state by value, the tables and the lent buffer
 abbrev pub keptOf : Stream → List ℕ → List ℕ → List ℕ → Kept
