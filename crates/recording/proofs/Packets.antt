@@ -20,40 +20,40 @@ module _ (u : List ℕ) (b : ℕ) where
   longer = u ++ (b ∷ [])
 
   -- its length, as soon as it is there
-  abbrev pub told : ℕ
-  told = field longer 0 2
+  abbrev pub announced : ℕ
+  announced = field longer 0 2
 
   pub size : length longer ≡ length u + 1
   size = length-append u (b ∷ [])
 
   -- a length that was there stays
-  pub same-length : 2 ≤ length u → told ≡ field u 0 2
+  pub same-length : 2 ≤ length u → announced ≡ field u 0 2
   unfolding field
   same-length two = ap le (take-append-le 2 u (b ∷ []) two)
 
   -- where a packet is all there, no byte is behind it
-  pub exact : Inside u → 2 ≤ length longer → told ≤ length longer - 2 → length longer ≡ 2 + told
+  pub exact : Inside u → 2 ≤ length longer → announced ≤ length longer - 2 → length longer ≡ 2 + announced
   exact i two whole = go (decLt (length u) 2) i
     where
-      go : Dec (length u < 2) → Inside u → length longer ≡ 2 + told
+      go : Dec (length u < 2) → Inside u → length longer ≡ 2 + announced
       go (yes a) i = omega (arith, size)
       go (no a) (inl l) = absurd (a l)
       go (no a) (inr l) = omega (arith, size, same-length (omega arith))
 
-  abbrev pub packet : List ℕ
-  packet = take told (drop 2 longer)
+  abbrev pub completed : List ℕ
+  completed = take announced (drop 2 longer)
 
 -- it is not all of a packet, or the packet's last
 module _ (P : Carved (List (List ℕ)) → Type 0) (b : ℕ) where
-  collected : (u : List ℕ) (ps : List (List ℕ)) → (Inside (longer u b) → P (carved (longer u b) 0 ps)) → (2 ≤ length (longer u b) → told u b ≤ length (longer u b) - 2 → P (carved [] 0 (ps ++ (packet u b ∷ [])))) → P (carve collects b (carved u 0 ps))
-  collected u ps on end = subst P (sym (byte-grows collects b u ps)) (go (decLt (length (longer u b)) 2) (decLt (length (longer u b) - 2) (told u b)))
+  collected : (u : List ℕ) (ps : List (List ℕ)) → (Inside (longer u b) → P (carved (longer u b) 0 ps)) → (2 ≤ length (longer u b) → announced u b ≤ length (longer u b) - 2 → P (carved [] 0 (ps ++ (completed u b ∷ [])))) → P (carve collects b (carved u 0 ps))
+  collected u ps on end = subst P (sym (byte-grows collects b u ps)) (go (decLt (length (longer u b)) 2) (decLt (length (longer u b) - 2) (announced u b)))
     where
-      go : Dec (length (longer u b) < 2) → Dec (length (longer u b) - 2 < told u b) → P (grown collects (longer u b) ps)
+      go : Dec (length (longer u b) < 2) → Dec (length (longer u b) - 2 < announced u b) → P (grown collects (longer u b) ps)
       go (yes a) c = subst P (sym (keeps-one collects (longer u b) ps a)) (on (inl a))
       go (no a) (yes c) = subst P (sym (keeps collects (longer u b) ps (omega arith) refl (omega arith))) (on (inr c))
       go (no a) (no c) = subst P (sym (gives collects (longer u b) ps (omega arith) refl (omega arith))) (end (omega arith) (omega arith))
 
-  pub one-byte : (y : Carved (List (List ℕ))) → y .skip ≡ 0 → let u = y .unfinished in (Inside (longer u b) → P (carved (longer u b) 0 (y .kept))) → (2 ≤ length (longer u b) → told u b ≤ length (longer u b) - 2 → P (carved [] 0 (y .kept ++ (packet u b ∷ [])))) → P (carve collects b y)
+  pub one-byte : (y : Carved (List (List ℕ))) → y .skip ≡ 0 → let u = y .unfinished in (Inside (longer u b) → P (carved (longer u b) 0 (y .kept))) → (2 ≤ length (longer u b) → announced u b ≤ length (longer u b) - 2 → P (carved [] 0 (y .kept ++ (completed u b ∷ [])))) → P (carve collects b y)
   one-byte y e on end = subst (λ (m : ℕ). P (carve collects b (carved (y .unfinished) m (y .kept)))) (sym e) (collected (y .unfinished) (y .kept) on end)
 
 -- ---- a packet in front stays there, and one that is all of the rest is one packet more
@@ -93,9 +93,9 @@ tiled-byte t b y a =
     one-byte (Tiled (longer t b)) b y (a .none-passed)
     (λ i. record { none-passed = refl; inside = i; laid = on })
     (λ two whole.
-    let l : length (packet u b) ≡ told u b = length-take-le (told u b) (drop 2 (longer u b)) (rw length-drop whole) in
-    let f : InFront (packet u b) (longer u b) = record { length-there = two; length-is = sym l; bytes-are = ap (λ j. take j (drop 2 (longer u b))) l } in
-    record { none-passed = refl; inside = inl (omega arith); laid = laid-end (y .kept) (longer t b) (longer u b) (packet u b) f (omega (arith, exact u b (a .inside) two whole, l)) on })
+    let l : length (completed u b) ≡ announced u b = length-take-le (announced u b) (drop 2 (longer u b)) (rw length-drop whole) in
+    let f : InFront (completed u b) (longer u b) = record { length-there = two; length-is = sym l; bytes-are = ap (λ j. take j (drop 2 (longer u b))) l } in
+    record { none-passed = refl; inside = inl (omega arith); laid = laid-end (y .kept) (longer t b) (longer u b) (completed u b) f (omega (arith, exact u b (a .inside) two whole, l)) on })
 
 tiled-from : (t s : List ℕ) (y : Carved (List (List ℕ))) → Tiled s y → Tiled (s ++ t) (each (carve collects) t y)
 unfolding each

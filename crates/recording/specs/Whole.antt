@@ -13,7 +13,7 @@ use Rattle.receiver.specs.Lent.{fresh, freshState}
 use Rattle.arbitration.specs.Loops.{noCounts}
 use Rattle.arbitration.specs.Stream.{feed as each}
 use Rattle.recording.specs.Carve.{Hearer, Carved, carved, carve}
-use Rattle.recording.specs.Stream.{Kept, kept, Hearing, hearing, opened, Outcome, outcome, fed}
+use Rattle.recording.specs.Stream.{Standing, standing, Hearing, hearing, opened, Feeding, feeding, fed}
 use Rattle.recording.specs.declared.Fed.{Fed}
 
 -- ---- its packets
@@ -49,27 +49,27 @@ Inside u = (length u < 2) ⊎ (length u - 2 < field u 0 2)
 
 -- ---- its end
 -- such bytes and no more: the rest of an over-long packet is passed over, any other piece is held
-unfoldable pub waiting : List ℕ → Kept → Hearing
+unfoldable pub waiting : List ℕ → Standing → Hearing
 waiting u k = pick (both (leb 2 (length u)) (ltb packetMost (field u 0 2))) (hearing [] (field u 0 2 - (length u - 2)) k) (hearing u 0 k)
 
 -- ---- chunk after chunk
 -- over what the chunk before left; a refused one stays refused, and nothing is fed after it
-unfoldable pub fedOn : List ℕ → Outcome → Outcome
+unfoldable pub fedOn : List ℕ → Feeding → Feeding
 fedOn c x = go (x .answer)
   where
-    go : Fed → Outcome
+    go : Fed → Feeding
     go (Fed.Took k) = fed k (x .orders) (x .symbols) (x .shelf) (x .hold) c
     go (Fed.Refused r) = x
 
-unfoldable pub fedAll : List (List ℕ) → Outcome → Outcome
+unfoldable pub fedAll : List (List ℕ) → Feeding → Feeding
 fedAll [] x = x
 fedAll (c ∷ cs) x = fedAll cs (fedOn c x)
 
 -- ---- from a start
 -- nothing counted
-abbrev pub began : ℕ → ℕ → ℕ → Kept
-began o s h = kept 0 noCounts (fresh o s h)
+abbrev pub began : ℕ → ℕ → ℕ → Standing
+began o s h = standing 0 noCounts (fresh o s h)
 
 -- a stream that was opened over the tables of a start; w: the lent buffer, with any bytes
-abbrev pub openedOver : ℕ → ℕ → ℕ → List ℕ → Outcome
-openedOver o s h w = outcome (Fed.Took (opened freshState)) (replicate o 0) (replicate s 0) (replicate h 0) w
+abbrev pub openedOver : ℕ → ℕ → ℕ → List ℕ → Feeding
+openedOver o s h w = feeding (Fed.Took (opened freshState)) (replicate o 0) (replicate s 0) (replicate h 0) w
