@@ -112,7 +112,7 @@ unfolding messages.numbered messages.systemTime messages.symbolUpdate messages.a
     book.planned book.carried book.applied
     slots.sameBytes slots.sameSlot
     theory.judge theory.goodSlot theory.try theory.drain theory.after theory.run theory.said theory.accepted
-    shelf.slotOf shelf.bytesOf shelf.slotAt shelf.putSlot
+    shelf.slotFrom shelf.bytesOf shelf.slotAt shelf.putSlot
 example-answered zero l h = absurd (omega arith)
 example-answered (suc zero) l h = here refl by-taken
 example-answered (suc (suc zero)) l h = later (here refl by-taken)

@@ -13,7 +13,7 @@ use lib.Dec.{eqb, eqb·suc-suc}
 use borrow.Author.Tests.{ne-eqb, lt-ltb, le-ltb}
 use Rattle.facts.specs.Pick.{pick}
 use Rattle.wire.specs.Le.{le, field}
-use Rattle.arbitration.specs.Stream.{feed as each}
+use Rattle.arbitration.specs.Stream.{each}
 use Rattle.recording.specs.Carve.{Hearer, Carved, carved, passed, grown, carve}
 
 -- a packet's length stands in the first two of its bytes

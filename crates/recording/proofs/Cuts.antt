@@ -15,7 +15,7 @@ use Rattle.facts.specs.Limits.{packetMost, holdLeast}
 use Rattle.facts.proofs.Picks.{pick-cases, pick-ind}
 use Rattle.wire.specs.Le.{field}
 use Rattle.fields.specs.Fields.{refusal}
-use Rattle.arbitration.specs.Stream.{feed as each}
+use Rattle.arbitration.specs.Stream.{each}
 use Rattle.arbitration.proofs.StreamLaws.{feed-append}
 use Rattle.receiver.specs.declared.State.{State}
 use Rattle.recording.specs.Stream.{Standing, Hearing, hearing, heard, hearer, byte, standingOf, hearingOf, opened, cut, feedable, Feeding, feeding, streamIn, took, fed}

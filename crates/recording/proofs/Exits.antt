@@ -16,7 +16,7 @@ use Rattle.facts.specs.Pick.{pick, both}
 use Rattle.facts.specs.Limits.{packetMost, holdLeast}
 use Rattle.facts.proofs.Picks.{both-true, pick-map}
 use Rattle.wire.specs.Le.{field}
-use Rattle.arbitration.specs.Stream.{feed as each}
+use Rattle.arbitration.specs.Stream.{each}
 use Rattle.fields.specs.Fields.{refusal}
 use Rattle.fields.specs.declared.Refusal.{Refusal}
 use Rattle.receiver.specs.Receiver.{nextOk}

@@ -14,11 +14,12 @@ use Rattle.facts.specs.Limits.{holdLeast}
 use Rattle.facts.proofs.Picks.{both-true}
 use Rattle.facts.specs.Pieces.{join}
 use Rattle.fields.specs.declared.Refusal.{Refusal}
-use Rattle.arbitration.specs.Stream.{feed as each}
+use Rattle.arbitration.specs.Stream.{each}
 use Rattle.arbitration.specs.Receive.{accepted}
 use Rattle.arbitration.specs.Lists.{WellFormed, Copies}
 use Rattle.body.specs.Read.{goodBody}
 use Rattle.packet.specs.Packet.{framing}
+use Rattle.book.specs.Book.{book}
 use Rattle.receiver.specs.Receiver.{nextOk, fit}
 use Rattle.receiver.specs.Demand3.{Given, MadeBy, Names, AnsweredTo}
 use Rattle.receiver.specs.Lent.{real, Lent, lent, ordersOf, symbolsOf, shelfOf, stateOf, receivedAll, fresh, freshState, zeroBook, sizesOk, begun, started}
@@ -154,3 +155,9 @@ module _ (o s h : ℕ) (w : List ℕ) (sizes : sizesOk o s h ≡ true) (big : ho
       pieces-second j all =
           subst (λ (x : Lent). (j ≤ x .rx .next - 1) ⊎ Names real ms (zeroBook o s) x) (sym pieces-received)
           (real-demand ms o s .second (fresh o s h) (packetsOf (join cs)) pieces-given j all)
+
+      -- "Two such receivers on one list": this one and any other, however its packets were given
+      pub pieces-agree : (k0′ : Lent) (ps′ : List (List ℕ)) → Given real ms (zeroBook o s) k0′ ps′ → k .receiver .next ≡ receivedAll ps′ k0′ .rx .next → book o′ s′ (k .receiver .clock) ≡ receivedAll ps′ k0′ .rx .book
+      pieces-agree k0′ ps′ g′ e =
+          ap (λ (x : Lent). x .rx .book) pieces-received
+          ∙ real-demand ms o s .agreement (fresh o s h) k0′ (packetsOf (join cs)) ps′ pieces-given g′ (sym (ap (λ (x : Lent). x .rx .next) pieces-received) ∙ e)

@@ -19,7 +19,7 @@ use Rattle.wire.specs.Le.{field}
 use Rattle.wire.specs.Records.{bad}
 use Rattle.fields.specs.Fields.{refusal}
 use Rattle.packet.specs.Packet.{Framing, framing}
-use Rattle.arbitration.specs.Stream.{feed as each}
+use Rattle.arbitration.specs.Stream.{each}
 use Rattle.receiver.specs.Receiver.{handledBy, fit, receives, receivesAll}
 use Rattle.receiver.specs.Lent.{real, Lent, Handled, handled, received, receivedAll}
 use Rattle.receiver.specs.declared.Received.{Received}

@@ -9,7 +9,7 @@ use native.Mathlib.Decide.{decLt}
 use lib.ListN.{length, take, drop, length-take, length-drop, length-append, drop-of-length-le}
 use lib.Seq.{append-snoc, take-append-le, drop-append-le, length-take-le}
 use Rattle.wire.specs.Le.{le, field}
-use Rattle.arbitration.specs.Stream.{feed as each}
+use Rattle.arbitration.specs.Stream.{each}
 use Rattle.recording.specs.Carve.{Carved, carved, grown, carve}
 use Rattle.recording.specs.Whole.{collects, packetsOf, restOf, InFront, Laid, Inside}
 use Rattle.recording.proofs.Bytes.{byte-grows, keeps-one, keeps, gives}

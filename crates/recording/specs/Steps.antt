@@ -7,7 +7,7 @@ use lib.Dec.{eqb}
 use Rattle.facts.specs.Pick.{pick}
 use Rattle.facts.specs.Limits.{packetMost}
 use Rattle.wire.specs.Le.{field}
-use Rattle.arbitration.specs.Stream.{feed as each}
+use Rattle.arbitration.specs.Stream.{each}
 use Rattle.recording.specs.Stream.{Hearing, hearingOf, byte, more}
 use Rattle.recording.specs.declared.Stream.{Stream}
 use Rattle.recording.specs.declared.Moved.{Moved}

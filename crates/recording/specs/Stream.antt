@@ -9,7 +9,7 @@ use Rattle.fields.specs.Fields.{refusal}
 use Rattle.facts.specs.Limits.{packetMost, holdLeast}
 use Rattle.arbitration.specs.declared.Counts.{Counts}
 use Rattle.arbitration.specs.Receive.{noCounts}
-use Rattle.arbitration.specs.Stream.{feed as each}
+use Rattle.arbitration.specs.Stream.{each}
 use Rattle.receiver.specs.Receiver.{nextOk}
 use Rattle.receiver.specs.Lent.{Lent, lent, ordersOf, symbolsOf, shelfOf, stateOf, received, sizesOk}
 use Rattle.receiver.specs.declared.State.{State}

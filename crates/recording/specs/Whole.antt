@@ -11,7 +11,7 @@ use Rattle.facts.specs.Limits.{packetMost}
 use Rattle.wire.specs.Le.{field}
 use Rattle.receiver.specs.Lent.{fresh, freshState}
 use Rattle.arbitration.specs.Receive.{noCounts}
-use Rattle.arbitration.specs.Stream.{feed as each}
+use Rattle.arbitration.specs.Stream.{each}
 use Rattle.recording.specs.Carve.{Hearer, Carved, carved, carve}
 use Rattle.recording.specs.Stream.{Standing, standing, Hearing, hearing, opened, Feeding, feeding, fed}
 use Rattle.recording.specs.declared.Fed.{Fed}
