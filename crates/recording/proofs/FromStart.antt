@@ -16,13 +16,14 @@ use Rattle.facts.specs.Pieces.{join}
 use Rattle.fields.specs.declared.Refusal.{Refusal}
 use Rattle.arbitration.specs.Stream.{each}
 use Rattle.arbitration.specs.Receive.{accepted}
-use Rattle.arbitration.specs.Lists.{WellFormed, Copies}
+use Rattle.arbitration.specs.Engine.{ok}
+use Rattle.arbitration.specs.Lists.{WellFormed, Copies, made}
+use Rattle.book.specs.Book.{Book, book}
 use Rattle.body.specs.Read.{goodBody}
 use Rattle.packet.specs.Packet.{framing}
-use Rattle.book.specs.Book.{book}
 use Rattle.receiver.specs.Receiver.{nextOk, fit}
 use Rattle.receiver.specs.Demand3.{Given, MadeBy, Names, AnsweredTo}
-use Rattle.receiver.specs.Lent.{real, Lent, lent, ordersOf, symbolsOf, shelfOf, stateOf, receivedAll, fresh, freshState, zeroBook, sizesOk, begun, started}
+use Rattle.receiver.specs.Lent.{real, bookEngine, Lent, lent, ordersOf, symbolsOf, shelfOf, stateOf, receivedAll, fresh, freshState, zeroBook, sizesOk, begun, started}
 use Rattle.receiver.specs.declared.State.{State}
 use Rattle.receiver.specs.declared.Started.{Started}
 use Rattle.receiver.proofs.Fits.{never-six}
@@ -156,8 +157,9 @@ module _ (o s h : ℕ) (w : List ℕ) (sizes : sizesOk o s h ≡ true) (big : ho
           subst (λ (x : Lent). (j ≤ x .rx .next - 1) ⊎ Names real ms (zeroBook o s) x) (sym pieces-received)
           (real-demand ms o s .second (fresh o s h) (packetsOf (join cs)) pieces-given j all)
 
-      -- "Two such receivers on one list": this one and any other, however its packets were given
-      pub pieces-agree : (k0′ : Lent) (ps′ : List (List ℕ)) → Given real ms (zeroBook o s) k0′ ps′ → k .receiver .next ≡ receivedAll ps′ k0′ .rx .next → book o′ s′ (k .receiver .clock) ≡ receivedAll ps′ k0′ .rx .book
-      pieces-agree k0′ ps′ g′ e =
-          ap (λ (x : Lent). x .rx .book) pieces-received
-          ∙ real-demand ms o s .agreement (fresh o s h) k0′ (packetsOf (join cs)) ps′ pieces-given g′ (sym (ap (λ (x : Lent). x .rx .next) pieces-received) ∙ e)
+      -- "Two such receivers on one list, with equal capacities and equal k, agree in these three": the other may have got its packets in any way
+      pub pieces-agree : (x : Lent) → MadeBy real ms (zeroBook o s) x → k .receiver .next ≡ x .rx .next → (o′ ≡ ordersOf x) × (s′ ≡ symbolsOf x) × (k .receiver .clock ≡ stateOf x .clock)
+      pieces-agree x m e =
+          let both-made : ok (book o′ s′ (k .receiver .clock)) ≡ ok (x .rx .book) = sym (pieces-first .tables-are) ∙ ap (λ (n : ℕ). made bookEngine ms 0 (zeroBook o s) (n - 1)) e ∙ m .tables-are in
+          let same : book o′ s′ (k .receiver .clock) ≡ x .rx .book = cc in
+          (ap (λ (b : Book). b .orders) same, ap (λ (b : Book). b .symbols) same, ap (λ (b : Book). b .clock) same)
