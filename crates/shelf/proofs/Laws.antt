@@ -155,14 +155,6 @@ pub good-size : (n : ℕ) → goodShelf n ≡ true → n ≡ shelfSize
 unfolding goodShelf
 good-size n e = eqb-true n shelfSize e
 
-pub size-good : (n : ℕ) → n ≡ shelfSize → goodShelf n ≡ true
-unfolding goodShelf
-size-good n e = eq-eqb n shelfSize e
-
-pub other-size : (n : ℕ) → n ≢ shelfSize → goodShelf n ≡ false
-unfolding goodShelf
-other-size n d = ne-eqb n shelfSize d
-
 -- every slot of zeros is empty, there or not
 pub zeros-empty : (n i : ℕ) → slotAt (replicate n 0) i ≡ emptySlot
 unfolding slotAt slotFrom field padded le
