@@ -565,7 +565,7 @@ impl Proved {
     /// The whole sheet.
     pub fn sheet(&self, bad: u64, cut: bool) -> Result<Vec<u8>, Refusal> {
         let mut text = vec![0; SHEET_BYTES];
-        let mut written = [0];
+        let mut length = [0];
         refused(lent::sheet(
             &mut text,
             &self.orders,
@@ -573,9 +573,9 @@ impl Proved {
             &self.state,
             bad,
             cut,
-            &mut written,
+            &mut length,
         ))?;
-        text.truncate(written[0] as usize);
+        text.truncate(length[0] as usize);
         Ok(text)
     }
 }

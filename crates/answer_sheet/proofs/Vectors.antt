@@ -20,7 +20,7 @@ use Rattle.receiver.specs.declared.State.{State}
 use Rattle.text.specs.Text.{digitsOf, decimalOf, signedOf, trimCons, trimOf, shownOf, tickerOf, lineOf}
 use Rattle.answer_sheet.specs.declared.Recording.{Recording}
 use Rattle.answer_sheet.specs.Keys.{recordingKey, badKey, nextKey, stopKey, secondKey, symbolsKey, ordersKey, symbolKey, tickerKey, lotKey, spreadKey, bidKey, askKey, sideKey, wholeWord, noneWord}
-use Rattle.answer_sheet.specs.Lines.{About, nothing, level, Line, plain, lineText, textOf}
+use Rattle.answer_sheet.specs.Lines.{nothing, level, Line, plain, lineText, textOf}
 use Rattle.answer_sheet.specs.Sheet.{recordingWord, headLines, tableLines, markedOf, levelValue, levelLine, levelsShown, sideLines, spreadWord, symbolLines, bookLines, entryLines, allEntries, linesOf, sheetOf}
 
 -- What the example's messages leave; that they do is `example-leaves` of exercises. "for numbers 1 to 5: second 34200; symbol 7, ABC, lot 100"

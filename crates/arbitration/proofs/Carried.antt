@@ -12,14 +12,14 @@ use Rattle.wire.specs.Records.{Rec, Frames}
 use Rattle.wire.proofs.Bytewise.{bytes-take, bytes-padded, bytes-zeros}
 use Rattle.arbitration.specs.Slots.{Slot, emptySlot, slotFor, slotBody, Fits}
 use Rattle.arbitration.specs.Engine.{ok, Engine, Store, Laws}
-use Rattle.arbitration.specs.Receive.{State, slotOf, turned, drain, shelved, after, run, recordsOf, accepted, receives}
+use Rattle.arbitration.specs.Receive.{State, slotOf, turned, drain, shelved, after, run, recordsOf, accepted, workedAll}
 use Rattle.arbitration.specs.Lists.{Every, Sent, Zeroed}
 use Rattle.arbitration.proofs.Window.{slot-lt}
 use Rattle.arbitration.proofs.SlotLaws.{empty-fits, put-at}
 use Rattle.arbitration.proofs.Turns.{Went, drain-keeps}
 use Rattle.arbitration.proofs.Answers.{after-cases, after-next, run-keeps}
 use Rattle.arbitration.proofs.Range.{bounded-fits}
-use Rattle.arbitration.proofs.Packets.{every-accepted, receives-run}
+use Rattle.arbitration.proofs.Packets.{every-accepted, packets-run}
 
 empty-bytes : Bytes (emptySlot .bytes)
 empty-bytes = bytes-zeros 64
@@ -88,5 +88,5 @@ module _ (S : Store) (E : Engine) (L : Laws S E) where
     run-holds cs r h v = run-keeps S E Keeping Sent after-keeping cs r h v
 
     -- and so by packets
-    pub receives-holds : {Q : Type 0} (frame : List ℕ → Frames Q) (ps : List (List ℕ)) (r : State S E) → Every Sent (accepted frame ps) → Keeping r → Keeping (receives S E frame ps r)
-    receives-holds frame ps r h v = rw (receives-run frame S E ps r) (run-holds (accepted frame ps) r h v)
+    pub packets-hold : {Q : Type 0} (frame : List ℕ → Frames Q) (ps : List (List ℕ)) (r : State S E) → Every Sent (accepted frame ps) → Keeping r → Keeping (workedAll S E frame ps r)
+    packets-hold frame ps r h v = rw (packets-run frame S E ps r) (run-holds (accepted frame ps) r h v)

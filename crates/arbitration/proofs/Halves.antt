@@ -21,7 +21,7 @@ use Rattle.arbitration.proofs.Window.{slot-lt}
 use Rattle.arbitration.proofs.Turns.{short-good, try-good, try-goes, stop-stuck}
 use Rattle.arbitration.proofs.Answers.{run-keeps}
 use Rattle.arbitration.proofs.Invariant.{Inv, Follows, Mine, mine, msg-good, msg-short, copy-fits, made-suc, after-inv, never-differing, start-follows}
-use Rattle.arbitration.proofs.Settled.{Settled, Held, Kept, after-settled, after-kept, here-kept}
+use Rattle.arbitration.proofs.Settled.{Settled, Held, Lasts, after-settled, after-kept, here-kept}
 
 module _ (S : Store) (E : Engine) where
   -- the book made by k messages behind the base s, next being s + k + 1
@@ -76,14 +76,14 @@ module _ (S : Store) (E : Engine) (L : Laws S E) (ms : List (List ℕ)) (wf : We
   pub run-ready : (cs : List Rec) (r : State S E) → Every (Copy ms) cs → Ready S E ms s0 b0 r → Ready S E ms s0 b0 (run S E cs r)
   run-ready cs r h y = run-keeps S E (Ready S E ms s0 b0) (Copy ms) after-ready cs r h y
 
-  pub run-kept : (n : ℕ) (cs : List Rec) (r : State S E) → 1 ≤ n → Every (Copy ms) cs → Kept S E n r → Kept S E n (run S E cs r)
-  run-kept n cs r p h v = run-keeps S E (Kept S E n) (Copy ms) (λ c r cp v. after-kept S E L n c r p (copy-fits S E L ms wf c cp) v) cs r h v
+  pub run-kept : (n : ℕ) (cs : List Rec) (r : State S E) → 1 ≤ n → Every (Copy ms) cs → Lasts S E n r → Lasts S E n (run S E cs r)
+  run-kept n cs r p h v = run-keeps S E (Lasts S E n) (Copy ms) (λ c r cp v. after-kept S E L n c r p (copy-fits S E L ms wf c cp) v) cs r h v
 
-  answered-kept : (n : ℕ) (cs : List Rec) (r : State S E) → 1 ≤ n → Every (Copy ms) cs → Ready S E ms s0 b0 r → Answered S E n cs r → Kept S E n (run S E cs r)
+  answered-kept : (n : ℕ) (cs : List Rec) (r : State S E) → 1 ≤ n → Every (Copy ms) cs → Ready S E ms s0 b0 r → Answered S E n cs r → Lasts S E n (run S E cs r)
   unfolding run said Follows
   answered-kept n (c ∷ cs) r p h y (here e w) =
       run-kept n cs (after S E c r) p (h .1)
-      (subst (λ (m : ℕ). Kept S E m (after S E c r)) e (here-kept S E L c r (y .follows .1 .ok-shelf) (copy-fits S E L ms wf c (h .0)) w))
+      (subst (λ (m : ℕ). Lasts S E m (after S E c r)) e (here-kept S E L c r (y .follows .1 .ok-shelf) (copy-fits S E L ms wf c (h .0)) w))
   answered-kept n (c ∷ cs) r p h y (later a) = answered-kept n cs (after S E c r) p (h .1) (after-ready c r (h .0) y) a
 
   -- with true copies 14 is never answered
@@ -133,8 +133,8 @@ module _ (S : Store) (E : Engine) (L : Laws S E) (ms : List (List ℕ)) (wf : We
               }
 
   -- a number of which it is kept that it came: next is past it, or the message of next is named
-  pub reached : (r : State S E) (j : ℕ) → Ready S E ms s0 b0 r → (s0 < r .next → r .next ≤ j → Kept S E (r .next) r) → (j < r .next) ⊎ Named S E ms s0 b0 r
-  unfolding Kept Held Follows
+  pub reached : (r : State S E) (j : ℕ) → Ready S E ms s0 b0 r → (s0 < r .next → r .next ≤ j → Lasts S E (r .next) r) → (j < r .next) ⊎ Named S E ms s0 b0 r
+  unfolding Lasts Held Follows
   reached r j y all = go (decLt j (r .next))
     where
       past : s0 < r .next

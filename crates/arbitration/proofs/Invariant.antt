@@ -142,9 +142,6 @@ module _ (S : Store) (E : Engine) (L : Laws S E) (ms : List (List ℕ)) (wf : We
     unfolding Follows
     after-inv c r cp v = after-cases S E (Follows S E ms s0 b0) c r v (λ e. drain-inv 64 (shelved S E c r) (v .0, shelve-inv cp (v .1) e))
 
-    pub run-inv : (cs : List Rec) (r : State S E) → Every (Copy ms) cs → Follows S E ms s0 b0 r → Follows S E ms s0 b0 (run S E cs r)
-    run-inv cs r h v = run-keeps S E (Follows S E ms s0 b0) (Copy ms) after-inv cs r h v
-
     -- with true copies no record is answered as differing
     pub never-differing : (c : Rec) (r : State S E) → Copy ms c → Follows S E ms s0 b0 r → judged S E c r ≢ differing
     unfolding Follows

@@ -5,7 +5,7 @@ use mathlib.Core.Path.{_≡_, refl, sym, ap, _∙_}
 use mathlib.Core.List.{List, [], _∷_, _++_}
 use Rattle.wire.specs.Records.{Rec, Frames, bad, records}
 use Rattle.arbitration.specs.Engine.{Engine, Store}
-use Rattle.arbitration.specs.Receive.{recordsOf, accepted, State, run, worked, receives}
+use Rattle.arbitration.specs.Receive.{recordsOf, accepted, State, run, worked, workedAll}
 use Rattle.arbitration.specs.Lists.{Every}
 use Rattle.arbitration.proofs.Answers.{run-append}
 
@@ -27,14 +27,14 @@ module _ {Q : Type 0} (frame : List ℕ → Frames Q) where
     worked-run (records cs) r = refl
 
     -- the state after packets is that after their accepted records
-    pub receives-run : (ps : List (List ℕ)) (r : State S E) → receives S E frame ps r ≡ run S E (accepted frame ps) r
-    unfolding receives accepted run
-    receives-run [] r = refl
-    receives-run (p ∷ ps) r =
-        receives-run ps (worked S E (frame p) r)
+    pub packets-run : (ps : List (List ℕ)) (r : State S E) → workedAll S E frame ps r ≡ run S E (accepted frame ps) r
+    unfolding workedAll accepted run
+    packets-run [] r = refl
+    packets-run (p ∷ ps) r =
+        packets-run ps (worked S E (frame p) r)
         ∙ ap (run S E (accepted frame ps)) (worked-run (frame p) r)
         ∙ sym (run-append S E (recordsOf (frame p)) (accepted frame ps) r)
 
     -- "repacking the records of accepted packets, in their order, into other good packets changes no table" (request 13)
-    pub repacked : (ps qs : List (List ℕ)) (r : State S E) → accepted frame ps ≡ accepted frame qs → receives S E frame ps r ≡ receives S E frame qs r
-    repacked ps qs r e = receives-run ps r ∙ ap (λ (l : List Rec). run S E l r) e ∙ sym (receives-run qs r)
+    pub repacked : (ps qs : List (List ℕ)) (r : State S E) → accepted frame ps ≡ accepted frame qs → workedAll S E frame ps r ≡ workedAll S E frame qs r
+    repacked ps qs r e = packets-run ps r ∙ ap (λ (l : List Rec). run S E l r) e ∙ sym (packets-run qs r)

@@ -9,13 +9,13 @@ use Rattle.facts.specs.Limits.{lastNumber}
 use Rattle.wire.specs.Records.{Rec, Frames}
 use Rattle.arbitration.specs.Slots.{emptySlot, slotFor, Fits}
 use Rattle.arbitration.specs.Engine.{Engine, Store, Laws}
-use Rattle.arbitration.specs.Receive.{recordsOf, accepted, State, turned, shelved, after, run, receives}
+use Rattle.arbitration.specs.Receive.{recordsOf, accepted, State, turned, shelved, after, run, workedAll}
 use Rattle.arbitration.specs.Lists.{Every, Bounded, Zeroed}
 use Rattle.arbitration.proofs.Window.{slot-lt}
 use Rattle.arbitration.proofs.SlotLaws.{empty-fits, slotFor-fits, put-at}
 use Rattle.arbitration.proofs.Turns.{Went, drain-keeps}
 use Rattle.arbitration.proofs.Answers.{after-cases, run-keeps}
-use Rattle.arbitration.proofs.Packets.{every-accepted, receives-run}
+use Rattle.arbitration.proofs.Packets.{every-accepted, packets-run}
 
 pub bounded-fits : (c : Rec) → Bounded c → Fits (slotFor (c .number) (c .body))
 bounded-fits c b = slotFor-fits (c .number) (c .body) (omega (arith, b .number-to)) (b .short)
@@ -52,5 +52,5 @@ module _ (S : Store) (E : Engine) (L : Laws S E) where
   pub start-below : (b0 : E .Book) (r : State S E) → Zeroed S E b0 r → Below S E r
   start-below b0 r s = record { ok-shelf = s .ok-shelf; next-to = omega (arith, s .next-1); numbers-to = λ i h. omega (arith, s .shelf-empty i h) }
 
-  pub receives-below : {Q : Type 0} (frame : List ℕ → Frames Q) → ((p : List ℕ) → Every Bounded (recordsOf (frame p))) → (ps : List (List ℕ)) (r : State S E) → Below S E r → Below S E (receives S E frame ps r)
-  receives-below frame h ps r v = rw (receives-run frame S E ps r) (run-below (accepted frame ps) r (every-accepted frame Bounded h ps) v)
+  pub packets-below : {Q : Type 0} (frame : List ℕ → Frames Q) → ((p : List ℕ) → Every Bounded (recordsOf (frame p))) → (ps : List (List ℕ)) (r : State S E) → Below S E r → Below S E (workedAll S E frame ps r)
+  packets-below frame h ps r v = rw (packets-run frame S E ps r) (run-below (accepted frame ps) r (every-accepted frame Bounded h ps) v)

@@ -18,11 +18,11 @@ use Rattle.arbitration.specs.Slots.{Slot, emptySlot}
 use Rattle.arbitration.specs.Engine.{Applied, ok, broke, Engine, Store, StoreLaws, Laws}
 use Rattle.arbitration.specs.Receive.{State, slotOf, drain, after}
 use Rattle.arbitration.specs.Lists.{msg, WellFormed, made}
-use Rattle.arbitration.specs.Refresh.{cleared, refreshed, Event, afterE, runE, Base, based, Fair, end, copy, fresh, AnsweredE, here, by-refresh, later, Ideal, ideal}
+use Rattle.arbitration.specs.Refresh.{cleared, refreshed, Event, afterE, runE, Base, based, Fair, end, copy, anew, AnsweredE, here, by-refresh, later, Ideal, ideal}
 use Rattle.arbitration.proofs.Window.{slot-lt}
 use Rattle.arbitration.proofs.SlotLaws.{empty-fits, put-at}
 use Rattle.arbitration.proofs.Invariant.{Shelved, free, held, Follows, copy-fits, made-before, made-keeps, drain-inv}
-use Rattle.arbitration.proofs.Settled.{Held, Kept, drained, drain-kept, after-kept, here-kept}
+use Rattle.arbitration.proofs.Settled.{Held, Lasts, drained, drain-kept, after-kept, here-kept}
 use Rattle.arbitration.proofs.Carried.{Carried}
 use Rattle.arbitration.proofs.Halves.{Made, Named, Ready, follows-made, after-ready, reached}
 
@@ -97,8 +97,8 @@ module _ (S : Store) (E : Engine) (L : Laws S E) where
       let v : Follows S E ms s b (refreshed S E s b r) = refresh-inv ms s0 b0 s b r h l (y .follows) in
       record { follows = drain-inv S E L ms wf s b 64 (refreshed S E s b r) v; settled = drained S E L (refreshed S E s b r) (v .1 .ok-shelf) }
 
-  refresh-kept : (n s : ℕ) (b : E .Book) (r : State S E) → r .next ≤ s + 1 → Kept S E n r → Kept S E n (refreshed S E s b r)
-  unfolding Kept Held
+  refresh-kept : (n s : ℕ) (b : E .Book) (r : State S E) → r .next ≤ s + 1 → Lasts S E n r → Lasts S E n (refreshed S E s b r)
+  unfolding Lasts Held
   refresh-kept n s b r h (o, k) = (w .ok-shelf, go k (w .done (n % 64) (slot-lt n)))
     where
       w : Clear S s 64 (r .shelf) (cleared S s 64 (r .shelf))
@@ -120,8 +120,8 @@ module _ (S : Store) (E : Engine) (L : Laws S E) where
       at (gone p q) h = subst (λ (x : Slot). Bytes (x .bytes)) (sym q) (bytes-zeros 64)
       at (kept p q) h = subst (λ (x : Slot). Bytes (x .bytes)) (sym q) h
 
-  behind : (n s : ℕ) (b : E .Book) (r : State S E) → S .Ok (r .shelf) → n ≤ s → Kept S E n (refreshed S E s b r)
-  unfolding Kept Held
+  behind : (n s : ℕ) (b : E .Book) (r : State S E) → S .Ok (r .shelf) → n ≤ s → Lasts S E n (refreshed S E s b r)
+  unfolding Lasts Held
   behind n s b r o h = (cleared-clear S (L .store) s 64 (r .shelf) (omega arith) o .ok-shelf, inl (omega arith))
 
   -- ---- runs with refreshes
@@ -130,26 +130,26 @@ module _ (S : Store) (E : Engine) (L : Laws S E) where
     unfolding runE based afterE
     runE-ready a es r end y = y
     runE-ready a es r (copy {c = c} {es = fs} h t) y = runE-ready a fs (after S E c r) t (after-ready S E L ms wf (a .at) (a .of) c r h y)
-    runE-ready a es r (fresh {s = s} {b = b} {es = fs} h l t) y =
+    runE-ready a es r (anew {s = s} {b = b} {es = fs} h l t) y =
         runE-ready (record { at = s; of = b }) fs (drain S E 64 (refreshed S E s b r)) t (refresh-ready ms wf (a .at) (a .of) s b r h l y)
 
-    runE-kept : (n : ℕ) (es : List (Event S E)) (r : State S E) → 1 ≤ n → Fair S E ms es r → Kept S E n r → Kept S E n (runE S E es r)
+    runE-kept : (n : ℕ) (es : List (Event S E)) (r : State S E) → 1 ≤ n → Fair S E ms es r → Lasts S E n r → Lasts S E n (runE S E es r)
     unfolding runE afterE
     runE-kept n es r p end k = k
     runE-kept n es r p (copy {c = c} {es = fs} h t) k = runE-kept n fs (after S E c r) p t (after-kept S E L n c r p (copy-fits S E L ms wf c h) k)
-    runE-kept n es r p (fresh {s = s} {b = b} {es = fs} h l t) k =
+    runE-kept n es r p (anew {s = s} {b = b} {es = fs} h l t) k =
         runE-kept n fs (drain S E 64 (refreshed S E s b r)) p t (drain-kept S E L n 64 (refreshed S E s b r) (refresh-kept n s b r h k))
 
-    answeredE-kept : (n : ℕ) (a : Base S E) (es : List (Event S E)) (r : State S E) → 1 ≤ n → Fair S E ms es r → Ready S E ms (a .at) (a .of) r → AnsweredE S E n es r → Kept S E n (runE S E es r)
+    answeredE-kept : (n : ℕ) (a : Base S E) (es : List (Event S E)) (r : State S E) → 1 ≤ n → Fair S E ms es r → Ready S E ms (a .at) (a .of) r → AnsweredE S E n es r → Lasts S E n (runE S E es r)
     unfolding runE afterE Follows
     answeredE-kept n a es r p (copy {c = c} {es = fs} h t) y (here e w) =
         runE-kept n fs (after S E c r) p t
-        (subst (λ (m : ℕ). Kept S E m (after S E c r)) e (here-kept S E L c r (y .follows .1 .ok-shelf) (copy-fits S E L ms wf c h) w))
+        (subst (λ (m : ℕ). Lasts S E m (after S E c r)) e (here-kept S E L c r (y .follows .1 .ok-shelf) (copy-fits S E L ms wf c h) w))
     answeredE-kept n a es r p (copy {c = c} {es = fs} h t) y (later x) =
         answeredE-kept n a fs (after S E c r) p t (after-ready S E L ms wf (a .at) (a .of) c r h y) x
-    answeredE-kept n a es r p (fresh {s = s} {b = b} {es = fs} h l t) y (by-refresh m) =
+    answeredE-kept n a es r p (anew {s = s} {b = b} {es = fs} h l t) y (by-refresh m) =
         runE-kept n fs (drain S E 64 (refreshed S E s b r)) p t (drain-kept S E L n 64 (refreshed S E s b r) (behind n s b r (y .follows .1 .ok-shelf) m))
-    answeredE-kept n a es r p (fresh {s = s} {b = b} {es = fs} h l t) y (later x) =
+    answeredE-kept n a es r p (anew {s = s} {b = b} {es = fs} h l t) y (later x) =
         answeredE-kept n (record { at = s; of = b }) fs (drain S E 64 (refreshed S E s b r)) p t (refresh-ready ms wf (a .at) (a .of) s b r h l y) x
 
     -- the book is the last refresh's with what came after s
@@ -160,11 +160,11 @@ module _ (S : Store) (E : Engine) (L : Laws S E) where
     pub refreshed-second : (a : Base S E) (es : List (Event S E)) (r0 : State S E) (j : ℕ) → Ready S E ms (a .at) (a .of) r0 → Fair S E ms es r0
         → ((n : ℕ) → 0 < n → n ≤ j → (n ≤ a .at) ⊎ AnsweredE S E n es r0)
         → (j < runE S E es r0 .next) ⊎ Named S E ms (based S E es a .at) (based S E es a .of) (runE S E es r0)
-    unfolding Kept Held Follows
+    unfolding Lasts Held Follows
     refreshed-second a es r0 j y f all =
         reached S E L ms wf _ _ (runE S E es r0) j (runE-ready a es r0 f y) (λ past l. from (omega arith) (all _ (omega arith) l))
       where
-        from : 1 ≤ runE S E es r0 .next → (runE S E es r0 .next ≤ a .at) ⊎ AnsweredE S E (runE S E es r0 .next) es r0 → Kept S E (runE S E es r0 .next) (runE S E es r0)
+        from : 1 ≤ runE S E es r0 .next → (runE S E es r0 .next ≤ a .at) ⊎ AnsweredE S E (runE S E es r0 .next) es r0 → Lasts S E (runE S E es r0 .next) (runE S E es r0)
         from p (inl l) = runE-kept (runE S E es r0 .next) es r0 p f (y .follows .1 .ok-shelf, inl (omega (arith, y .follows .1 .next-is)))
         from p (inr x) = answeredE-kept (runE S E es r0 .next) a es r0 p f y x
 

@@ -15,7 +15,7 @@ use Rattle.arbitration.specs.Engine.{Applied, ok, broke, Engine, Store, 
 use Rattle.arbitration.specs.Receive.{Answer, taken, old, tooFar, repeated, differing, Said, Try, nothing, stuck, goes, ofApplied, goodSlot, highest, countsOf, State, try, stop, turned, drain, shelved, judged, acted, after, run, said, told}
 use Rattle.arbitration.specs.Lists.{Every, Sent, msg, WellFormed, made}
 use Rattle.arbitration.specs.Refresh.{Event, refreshed, afterE, runE}
-use Rattle.arbitration.specs.Same.{Alike, both-ok, both-broke, Sim, Twin, twin, Twins, end, same, fresh}
+use Rattle.arbitration.specs.Same.{Alike, both-ok, both-broke, Sim, Twin, twin, Twins, end, same, anew}
 use Rattle.arbitration.proofs.Turns.{slot-good}
 use Rattle.arbitration.proofs.Carried.{Carried, next-bytes, turn-carried, shelve-carried, drain-carried, after-carried, run-carried}
 use Rattle.arbitration.proofs.RefreshLaws.{refresh-carried}
@@ -134,6 +134,6 @@ module _ (S : Store) (E F : Engine) (L : Laws S E) (M : Sim E F) where
   unfolding runE afterE
   runE-twin end v t = t
   runE-twin {r = r} (same c g u) v t = runE-twin u (after-carried S E L c r g v) (after-twin c g v t)
-  runE-twin {r = r} (fresh s {x = x} g u) v t =
+  runE-twin {r = r} (anew s {x = x} g u) v t =
       let w : Carried S E (refreshed S E s x r) = refresh-carried S E L s x r v in
       runE-twin u (drain-carried S E L 64 (refreshed S E s x r) w) (drain-twin 64 w (refreshed-twin s g t))

@@ -29,8 +29,8 @@ module _ (S : Store) (E : Engine) where
   unfoldable pub Held : ℕ → State S E → Type 0
   Held n r = (n < r .next) ⊎ (slotOf S E r n .number ≡ n)
 
-  unfoldable pub Kept : ℕ → State S E → Type 0
-  Kept n r = S .Ok (r .shelf) × Held n r
+  unfoldable pub Lasts : ℕ → State S E → Type 0
+  Lasts n r = S .Ok (r .shelf) × Held n r
 
 module _ (S : Store) (E : Engine) (L : Laws S E) where
   turn-enough : (f : ℕ) (r : State S E) (b : E .Book) → Enough S E (suc f) r → Enough S E f (turned S E r b)
@@ -60,8 +60,8 @@ module _ (S : Store) (E : Engine) (L : Laws S E) where
   after-settled c r fit o s = after-cases S E (Settled S E) c r s (λ e. drained (shelved S E c r) (L .store .ok-put _ _ _ o (slot-lt (c .number)) fit))
 
   -- ---- a number that came is kept
-  turn-kept : (n : ℕ) (r : State S E) (b : E .Book) → Went S E r b → Kept S E n r → Kept S E n (turned S E r b)
-  unfolding Kept Held
+  turn-kept : (n : ℕ) (r : State S E) (b : E .Book) → Went S E r b → Lasts S E n r → Lasts S E n (turned S E r b)
+  unfolding Lasts Held
   turn-kept n r b w (o, h) = (
     L .store .ok-put _ _ emptySlot o (slot-lt (r .next)) empty-fits,
     put-at S (L .store) (r .shelf) (r .next % 64) emptySlot o (slot-lt (r .next)) empty-fits (λ s. (n < r .next + 1) ⊎ (s .number ≡ n)) (n % 64) (slot-lt n) (gone h) (λ d. still h),
@@ -77,11 +77,11 @@ module _ (S : Store) (E : Engine) (L : Laws S E) where
       still (inl l) = inl (omega arith)
       still (inr s) = inr s
 
-  pub drain-kept : (n f : ℕ) (r : State S E) → Kept S E n r → Kept S E n (drain S E f r)
-  drain-kept n f r v = drain-keeps S E (Kept S E n) (turn-kept n) f r v
+  pub drain-kept : (n f : ℕ) (r : State S E) → Lasts S E n r → Lasts S E n (drain S E f r)
+  drain-kept n f r v = drain-keeps S E (Lasts S E n) (turn-kept n) f r v
 
-  shelve-kept : (n : ℕ) (c : Rec) (r : State S E) → 1 ≤ n → Fits (slotFor (c .number) (c .body)) → judged S E c r ≡ taken → Kept S E n r → Kept S E n (shelved S E c r)
-  unfolding Kept Held
+  shelve-kept : (n : ℕ) (c : Rec) (r : State S E) → 1 ≤ n → Fits (slotFor (c .number) (c .body)) → judged S E c r ≡ taken → Lasts S E n r → Lasts S E n (shelved S E c r)
+  unfolding Lasts Held
   shelve-kept n c r p fit e (o, h) = (
     L .store .ok-put _ _ _ o (slot-lt (c .number)) fit,
     put-at S (L .store) (r .shelf) (c .number % 64) (slotFor (c .number) (c .body)) o (slot-lt (c .number)) fit (λ s. (n < r .next) ⊎ (s .number ≡ n)) (n % 64) (slot-lt n) (gone h) (λ d. h),
@@ -93,15 +93,15 @@ module _ (S : Store) (E : Engine) (L : Laws S E) where
           let z : n ≡ 0 = sym s ∙ ap (λ (i : ℕ). S .get (r .shelf) i .number) q ∙ shows (r .next) (slotOf S E r (c .number)) c taken e .2 in
           absurd (omega arith)
 
-  pub after-kept : (n : ℕ) (c : Rec) (r : State S E) → 1 ≤ n → Fits (slotFor (c .number) (c .body)) → Kept S E n r → Kept S E n (after S E c r)
-  after-kept n c r p fit v = after-cases S E (Kept S E n) c r v (λ e. drain-kept n 64 (shelved S E c r) (shelve-kept n c r p fit e v))
+  pub after-kept : (n : ℕ) (c : Rec) (r : State S E) → 1 ≤ n → Fits (slotFor (c .number) (c .body)) → Lasts S E n r → Lasts S E n (after S E c r)
+  after-kept n c r p fit v = after-cases S E (Lasts S E n) c r v (λ e. drain-kept n 64 (shelved S E c r) (shelve-kept n c r p fit e v))
 
   -- what is answered so is kept from there on
-  pub here-kept : (c : Rec) (r : State S E) → S .Ok (r .shelf) → Fits (slotFor (c .number) (c .body)) → Arrived (judged S E c r) → Kept S E (c .number) (after S E c r)
-  unfolding after Kept Held
+  pub here-kept : (c : Rec) (r : State S E) → S .Ok (r .shelf) → Fits (slotFor (c .number) (c .body)) → Arrived (judged S E c r) → Lasts S E (c .number) (after S E c r)
+  unfolding after Lasts Held
   here-kept c r o fit w = go (judged S E c r) refl w
     where
-      go : (a : Answer) → judged S E c r ≡ a → Arrived a → Kept S E (c .number) (acted S E a c r)
+      go : (a : Answer) → judged S E c r ≡ a → Arrived a → Lasts S E (c .number) (acted S E a c r)
       go taken e by-taken =
           drain-kept (c .number) 64 (shelved S E c r) (
             L .store .ok-put _ _ _ o (slot-lt (c .number)) fit,

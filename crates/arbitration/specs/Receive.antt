@@ -168,6 +168,6 @@ module _ (S : Store) (E : Engine) where
   worked (records cs) r = run cs r
 
   -- packets, one after another
-  unfoldable pub receives : {Q : Type 0} → (List ℕ → Frames Q) → List (List ℕ) → State → State
-  receives frame [] r = r
-  receives frame (p ∷ ps) r = receives frame ps (worked (frame p) r)
+  unfoldable pub workedAll : {Q : Type 0} → (List ℕ → Frames Q) → List (List ℕ) → State → State
+  workedAll frame [] r = r
+  workedAll frame (p ∷ ps) r = workedAll frame ps (worked (frame p) r)

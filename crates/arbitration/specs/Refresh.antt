@@ -27,11 +27,11 @@ module _ (S : Store) (E : Engine) where
   -- what happens to a receiver: a record came, or a refresh at s with the book b was taken
   pub data Event : Type 0 where
     came : Rec → Event
-    took : ℕ → E .Book → Event
+    renewed : ℕ → E .Book → Event
 
   unfoldable pub afterE : Event → State S E → State S E
   afterE (came c) r = after S E c r
-  afterE (took s b) r = drain S E 64 (refreshed s b r)
+  afterE (renewed s b) r = drain S E 64 (refreshed s b r)
 
   unfoldable pub runE : List Event → State S E → State S E
   runE [] r = r
@@ -45,18 +45,18 @@ module _ (S : Store) (E : Engine) where
   unfoldable pub based : List Event → Base → Base
   based [] a = a
   based (came c ∷ es) a = based es a
-  based (took s b ∷ es) a = based es (record { at = s; of = b })
+  based (renewed s b ∷ es) a = based es (record { at = s; of = b })
 
   -- records that are true copies, and refreshes of the list that are not refused: "a common s below next less 1 .. is refused (new 33)"
   pub data Fair (ms : List (List ℕ)) : List Event → State S E → Type 0 where
     end : {r : State S E} → Fair ms [] r
     copy : {c : Rec} {es : List Event} {r : State S E} → Copy ms c → Fair ms es (after S E c r) → Fair ms (came c ∷ es) r
-    fresh : {s : ℕ} {b : E .Book} {es : List Event} {r : State S E} → r .next ≤ s + 1 → s ≤ length ms → Fair ms es (drain S E 64 (refreshed s b r)) → Fair ms (took s b ∷ es) r
+    anew : {s : ℕ} {b : E .Book} {es : List Event} {r : State S E} → r .next ≤ s + 1 → s ≤ length ms → Fair ms es (drain S E 64 (refreshed s b r)) → Fair ms (renewed s b ∷ es) r
 
   -- answered as taken, repeated or old; "every number up to s counts as answered old"
   pub data AnsweredE (n : ℕ) : List Event → State S E → Type 0 where
     here : {c : Rec} {es : List Event} {r : State S E} → c .number ≡ n → Arrived (judged S E c r) → AnsweredE n (came c ∷ es) r
-    by-refresh : {s : ℕ} {b : E .Book} {es : List Event} {r : State S E} → n ≤ s → AnsweredE n (took s b ∷ es) r
+    by-refresh : {s : ℕ} {b : E .Book} {es : List Event} {r : State S E} → n ≤ s → AnsweredE n (renewed s b ∷ es) r
     later : {e : Event} {es : List Event} {r : State S E} → AnsweredE n es (afterE e r) → AnsweredE n (e ∷ es) r
 
 -- "said of symbols, statuses and orders without rank or place in a table": a view of the book, and what a message does to the view "with room for all of it".

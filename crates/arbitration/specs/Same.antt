@@ -9,7 +9,7 @@ use Rattle.wire.specs.Le.{Bytes}
 use Rattle.wire.specs.Records.{Rec}
 use Rattle.arbitration.specs.Receive.{State}
 use Rattle.arbitration.specs.Lists.{Sent}
-use Rattle.arbitration.specs.Refresh.{Event, came, took}
+use Rattle.arbitration.specs.Refresh.{Event, came, renewed}
 
 -- both apply, to related books, or both break the same rule
 pub data Alike {A B : Type 0} (R : A → B → Type 0) : Applied A → Applied B → Type 0 where
@@ -30,4 +30,4 @@ pub data Twin (S : Store) (E F : Engine) (M : Sim E F) : State S E → State S F
 pub data Twins (S : Store) (E F : Engine) (M : Sim E F) : List (Event S E) → List (Event S F) → Type 0 where
   end : Twins S E F M [] []
   same : (c : Rec) → Sent c → {es : List (Event S E)} {fs : List (Event S F)} → Twins S E F M es fs → Twins S E F M (came c ∷ es) (came c ∷ fs)
-  fresh : (s : ℕ) {x : E .Book} {y : F .Book} {es : List (Event S E)} {fs : List (Event S F)} → M .R x y → Twins S E F M es fs → Twins S E F M (took s x ∷ es) (took s y ∷ fs)
+  anew : (s : ℕ) {x : E .Book} {y : F .Book} {es : List (Event S E)} {fs : List (Event S F)} → M .R x y → Twins S E F M es fs → Twins S E F M (renewed s x ∷ es) (renewed s y ∷ fs)

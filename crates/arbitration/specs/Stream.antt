@@ -4,11 +4,11 @@ use mathlib.Core.List.{List, [], _∷_}
 
 module _ {X : Type 0} (byte : ℕ → X → X) where
   -- a chunk, byte by byte
-  unfoldable pub feed : List ℕ → X → X
-  feed [] s = s
-  feed (b ∷ bs) s = feed bs (byte b s)
+  unfoldable pub each : List ℕ → X → X
+  each [] s = s
+  each (b ∷ bs) s = each bs (byte b s)
 
   -- chunks, one after another
-  unfoldable pub feeds : List (List ℕ) → X → X
-  feeds [] s = s
-  feeds (p ∷ ps) s = feeds ps (feed p s)
+  unfoldable pub eachOf : List (List ℕ) → X → X
+  eachOf [] s = s
+  eachOf (p ∷ ps) s = eachOf ps (each p s)

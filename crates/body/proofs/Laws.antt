@@ -142,15 +142,15 @@ unfolding readBody framed pick
 type-refused b h = rw (no-length (getD b 0 0) h, no-such (length b))
 
 -- a good body has 1 byte or more and at most as many as an entry: those that its type has
-pub record Fits (b : List ℕ) : Type 0 where
+pub record BodyFits (b : List ℕ) : Type 0 where
   pub some : 1 ≤ length b
   pub most : length b ≤ entrySize
   pub of-type : length b ≡ lengthOf (getD b 0 0)
 
-number-fits : (b : List ℕ) → bodyNumber (readBody b) ≡ 0 → Fits b
+number-fits : (b : List ℕ) → bodyNumber (readBody b) ≡ 0 → BodyFits b
 unfolding readBody framed
 number-fits b =
-    pick-ind (λ r. bodyNumber r ≡ 0 → Fits b) (framed b) (judged (kindOf (getD b 0 0)) b) (Body.Refused (refusal 3))
+    pick-ind (λ r. bodyNumber r ≡ 0 → BodyFits b) (framed b) (judged (kindOf (getD b 0 0)) b) (Body.Refused (refusal 3))
     (λ e h.
     let w = framed-is b e in
     record {
@@ -160,7 +160,7 @@ number-fits b =
     })
     (λ e h. absurd (omega arith))
 
-pub good-fits : (b : List ℕ) → goodBody b ≡ true → Fits b
+pub good-fits : (b : List ℕ) → goodBody b ≡ true → BodyFits b
 unfolding goodBody
 good-fits b h = number-fits b (eqb-true (bodyNumber (readBody b)) 0 h)
 

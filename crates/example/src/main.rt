@@ -11,7 +11,7 @@ use recording::Stream;
 
 // Three rows and one entry: what document 01's example needs.
 fn main() {
-    let mut orders = [0u64; 15];
+    let mut orders = [0u64; 3 * rows::ROW_SIZE];
     let mut symbols = [0u8; facts::ENTRY_SIZE];
     let mut shelf = [0u8; facts::SHELF_SIZE];
     let mut hold = [0u8; facts::HOLD_LEAST];

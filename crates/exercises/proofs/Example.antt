@@ -61,7 +61,7 @@ unfolding exercises.begins exercises.goesOn
     book.planned book.carried book.applied
     slots.sameBytes slots.sameSlot
     theory.judge theory.goodSlot theory.highest theory.count theory.countsOf theory.try theory.stop theory.drain theory.after theory.run theory.said theory.told
-    shelf.goodShelf shelf.slotOf shelf.bytesOf shelf.slotAt shelf.putSlot
+    shelf.goodShelf shelf.slotFrom shelf.bytesOf shelf.slotAt shelf.putSlot
     generic.receives generic.handledBy generic.fit generic.nextOk receiver.sizesOk
 example-leaves = refl
 

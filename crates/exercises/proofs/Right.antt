@@ -70,6 +70,6 @@ unfolding table
     views.goodTables views.viewFault views.spreadView
     slots.sameBytes slots.sameSlot
     theory.judge theory.goodSlot theory.highest theory.count theory.countsOf theory.try theory.stop theory.drain theory.after theory.run theory.said theory.told
-    shelf.goodShelf shelf.slotOf shelf.bytesOf shelf.slotAt shelf.putSlot
+    shelf.goodShelf shelf.slotFrom shelf.bytesOf shelf.slotAt shelf.putSlot
     generic.receives generic.handledBy generic.fit generic.nextOk receiver.sizesOk
 all-right = refl

@@ -8,7 +8,7 @@ use mathlib.Core.List.{List, [], _∷_}
 use native.Mathlib.Omega.{arith}
 use lib.ListN.{length, getD}
 use borrow.Author.Tests.{leb-true}
-use Rattle.facts.specs.Limits.{shelfSize}
+use Rattle.facts.specs.Limits.{entrySize, shelfSize}
 use Rattle.facts.specs.Pick.{pick, both, either}
 use Rattle.facts.specs.Search.{first}
 use Rattle.facts.specs.Pieces.{cut, pieces, join, putPiece}
@@ -41,7 +41,7 @@ use Rattle.exercises.specs.Messages as messages
 
 -- room for four orders and one symbol
 abbrev start : receiver.Lent
-start = receiver.fresh 20 42 shelfSize
+start = receiver.fresh 20 entrySize shelfSize
 
 abbrev given : List (List ℕ)
 given = messages.wholeExample ∷ []
@@ -88,13 +88,13 @@ true-copies = (
   ),
 )
 
-sizes-good : receiver.sizesOk 20 42 shelfSize ≡ true
+sizes-good : receiver.sizesOk 20 entrySize shelfSize ≡ true
 unfolding receiver.sizesOk both rows.goodRows entries.goodEntries shelf.goodShelf
 sizes-good = refl
 
 -- every premise
-pub example-given : Given receiver.real messages.example (receiver.zeroBook 20 42) start given
-example-given = record { well-formed = all-good; started = fresh-started 20 42 shelfSize sizes-good; copies = true-copies }
+pub example-given : Given receiver.real messages.example (receiver.zeroBook 20 entrySize) start given
+example-given = record { well-formed = all-good; started = fresh-started 20 entrySize shelfSize sizes-good; copies = true-copies }
 
 -- every number up to 5 is answered
 pub example-answered : AnsweredTo receiver.real 5 given start
@@ -117,7 +117,7 @@ unfolding messages.numbered messages.systemTime messages.symbolUpdate messages.a
     book.planned book.carried book.applied
     slots.sameBytes slots.sameSlot
     theory.judge theory.goodSlot theory.try theory.drain theory.after theory.run theory.said theory.accepted
-    shelf.slotOf shelf.bytesOf shelf.slotAt shelf.putSlot
+    shelf.slotFrom shelf.bytesOf shelf.slotAt shelf.putSlot
 example-answered zero l h = absurd (omega arith)
 example-answered (suc zero) l h = here refl by-taken
 example-answered (suc (suc zero)) l h = later (here refl by-taken)
@@ -127,5 +127,5 @@ example-answered (suc (suc (suc (suc (suc zero))))) l h = later (later (later (l
 example-answered (suc (suc (suc (suc (suc (suc n)))))) l h = absurd (omega arith)
 
 -- so demand 3 says of it what it says
-pub example-demanded : (5 ≤ receiver.receivedAll given start .rx .next - 1) ⊎ Names receiver.real messages.example (receiver.zeroBook 20 42) (receiver.receivedAll given start)
-example-demanded = real-demand messages.example 20 42 .second start given example-given 5 example-answered
+pub example-demanded : (5 ≤ receiver.receivedAll given start .rx .next - 1) ⊎ Names receiver.real messages.example (receiver.zeroBook 20 entrySize) (receiver.receivedAll given start)
+example-demanded = real-demand messages.example 20 entrySize .second start given example-given 5 example-answered

@@ -12,7 +12,7 @@ use Rattle.facts.specs.declared.Found.{Found}
 use Rattle.wire.specs.Le.{field}
 use Rattle.fields.specs.Fields.{refusal}
 use Rattle.rows.specs.declared.Row.{Row}
-use Rattle.rows.specs.Rows.{rows, zeroRow}
+use Rattle.rows.specs.Rows.{rowSize, rows, zeroRow}
 use Rattle.rows.specs.Find.{findOrder}
 use Rattle.facts.specs.Limits.{entrySize}
 use Rattle.views.specs.declared.SpreadAnswer.{SpreadAnswer}
@@ -87,7 +87,7 @@ now k x = record { was = k; last = x }
 -- right after a start there is no packet yet: as if one had been refused
 unfoldable pub begins : ℕ → ℕ → Now
 begins orders symbols =
-    let k : Lent = fresh (5 * orders) (entrySize * symbols) shelfSize in
+    let k : Lent = fresh (rowSize * orders) (entrySize * symbols) shelfSize in
     now k (handled (Received.Refused (refusal 0)) k)
 
 unfoldable pub goesOn : Now → List ℕ → Now

@@ -67,11 +67,6 @@ module _ {A : Type 0} where
   unfolding pieces
   getD-pieces w t i d h = getD-cut w (length t / w) t i d h
 
-  -- the law behind every walk
-  pub drop-pieces : (w : ℕ) (t : List A) (i : ℕ) → i < length t / w → drop i (pieces w t) ≡ take w (drop (w * i) t) ∷ drop (i + 1) (pieces w t)
-  drop-pieces w t i h =
-      rw (add-one i) (drop-cons (pieces w t) i [] (rw length-pieces h) ∙ ap (λ (x : List A). x ∷ drop (suc i) (pieces w t)) (getD-pieces w t i [] h))
-
   -- a whole piece lies inside
   pub piece-fits : (w : ℕ) (t : List A) (i : ℕ) → i < length t / w → w * i + w ≤ length t
   piece-fits w t i h = rw (← mul-suc w i) (le-trans (mul-le-mul-left w h) (mul-div-le (length t) w))
@@ -148,10 +143,6 @@ module _ {A : Type 0} where
   pub pieces-join : (w : ℕ) (xs : List (List A)) → 0 < w → Wide w xs → pieces w (join xs) ≡ xs
   unfolding pieces
   pieces-join w xs p h = rw (length-join w xs h, mul-div-right (length xs) p) (cut-join w xs h)
-
-  -- a piece put into a list of whole pieces
-  pub put-join : (w : ℕ) (t : List A) (i : ℕ) (s : List A) → length s ≡ w → length t % w ≡ 0 → putPiece w t i s ≡ join (set (pieces w t) i s)
-  put-join w t i s l h = sym (join-pieces w (putPiece w t i s) (rw length-put h)) ∙ ap join (pieces-put w t i s l)
 
   -- ---- what lies behind the last whole piece
   pub join-rest : (w : ℕ) (t : List A) → join (pieces w t) ++ drop (w * (length t / w)) t ≡ t
@@ -236,9 +227,6 @@ module _ {A B : Type 0} (w : ℕ) (of : List A → B) (to : B → List A) where
   map-forth : ((x : List A) → length x ≡ w → to (of x) ≡ x) → (xs : List (List A)) → Wide w xs → map to (map of xs) ≡ xs
   map-forth forth [] h = refl
   map-forth forth (x ∷ xs) h = rw (forth x (h .0), map-forth forth xs (h .1))
-
-  pub join-values : ((x : List A) → length x ≡ w → to (of x) ≡ x) → (t : List A) → length t % w ≡ 0 → join (map to (map of (pieces w t))) ≡ t
-  join-values forth t h = rw (map-forth forth (pieces w t) (wide-pieces w t)) (join-pieces w t h)
 
   -- the same with a rest behind the last whole piece
   pub rest-values : ((b : B) → length (to b) ≡ w) → ((b : B) → of (to b) ≡ b) → (bs : List B) (y : List A) → length y < w → map of (pieces w (join (map to bs) ++ y)) ≡ bs

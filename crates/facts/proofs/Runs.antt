@@ -27,7 +27,3 @@ in-run f lo zero h x l u = absurd (omega arith)
 in-run f lo (suc n) h x l u =
     let s = both-true {a = f lo} {b = run f (suc lo) n} h in
     step f lo x (eqb lo x) refl (s .0) l (λ k. in-run f (suc lo) n (s .1) x k (omega arith))
-
--- and where it is the test's opposite that holds at each
-pub out-run : (f : ℕ → Bool) (lo n : ℕ) → run (λ k. not (f k)) lo n ≡ true → (x : ℕ) → lo ≤ x → x < lo + n → f x ≡ false
-out-run f lo n h x l u = not-true (f x) (in-run (λ k. not (f k)) lo n h x l u)

@@ -16,10 +16,6 @@ use Rattle.facts.proofs.Picks.{both-true}
 use Rattle.facts.proofs.PieceLaws.{Wide, piece-fits, length-put, put-in, pieces-put, join-rest, rest-put}
 
 module _ {A : Type 0} where
-  -- whole pieces leave no rest
-  pub no-rest : (w : ℕ) (t : List A) → length t % w ≡ 0 → drop (w * (length t / w)) t ≡ []
-  no-rest w t h = drop-of-length-le t {i = w * (length t / w)} (omega (arith, div-add-mod (length t) w))
-
   -- a piece put into any list
   pub put-join-rest : (w : ℕ) (t : List A) (i : ℕ) (s : List A) → length s ≡ w → putPiece w t i s ≡ join (set (pieces w t) i s) ++ drop (w * (length t / w)) t
   put-join-rest w t i s l = sym (rw (length-put w t i s, pieces-put w t i s l, rest-put w t i s l) at (join-rest w (putPiece w t i s)))

@@ -11,7 +11,7 @@ use Rattle.arbitration.specs.Receive.{accepted, run, stop}
 use Rattle.arbitration.specs.Lists.{Every, Numbered, Copy, made}
 use Rattle.arbitration.proofs.Invariant.{every-copy}
 use Rattle.arbitration.proofs.Halves.{Made, Named, agree, start-ready, first-half, second-half}
-use Rattle.arbitration.proofs.Packets.{every-accepted, receives-run}
+use Rattle.arbitration.proofs.Packets.{every-accepted, packets-run}
 use Rattle.receiver.specs.Parts.{Parts, engineOf}
 use Rattle.receiver.specs.Receiver.{Rx, Receiver, receivesAll}
 use Rattle.receiver.specs.Demand3.{Given, MadeBy, Names, AnsweredTo, Demand3}
@@ -38,7 +38,7 @@ module _ (P : Parts) (L : PartsLaws P) (ms : List (List ℕ)) (b0 : P .rules .Bo
 
     -- after the calls: the run of the accepted records
     ran : end .rx ≡ run S E cs (k0 .rx)
-    ran = all-received P L ps k0 (start-fit P L b0 k0 (g .started)) ∙ receives-run (P .frame) S E ps (k0 .rx)
+    ran = all-received P L ps k0 (start-fit P L b0 k0 (g .started)) ∙ packets-run (P .frame) S E ps (k0 .rx)
 
     stop-is : end .stop ≡ stop S E (end .rx)
     stop-is = all-stop P L ps k0 (start-stop P L b0 k0 (g .started))

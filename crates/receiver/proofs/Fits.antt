@@ -104,12 +104,12 @@ module _ (P : Parts) (L : PartsLaws P) where
   one-call-more k (q ∷ ps) p = one-call-more (receives P k q .after) ps p
 
   -- calls of `receive`, one after another, are the packets of the theory
-  pub all-received : (ps : List (List ℕ)) (k : Receiver P) → Fit (k .rx) → receivesAll P ps k .rx ≡ theory.receives S E (P .frame) ps (k .rx)
-  unfolding receivesAll theory.receives
+  pub all-received : (ps : List (List ℕ)) (k : Receiver P) → Fit (k .rx) → receivesAll P ps k .rx ≡ theory.workedAll S E (P .frame) ps (k .rx)
+  unfolding receivesAll theory.workedAll
   all-received [] k f = refl
   all-received (p ∷ ps) k f =
       all-received ps (receives P k p .after) (packet-fit p k f)
-      ∙ ap (theory.receives S E (P .frame) ps) (packet-worked p k f)
+      ∙ ap (theory.workedAll S E (P .frame) ps) (packet-worked p k f)
 
   -- ---- the stop that a receiver has is that of its state: an accepted packet tells it anew, a refused one leaves both
   packet-stop : (p : List ℕ) (k : Receiver P) → k .stop ≡ stop S E (k .rx) → receives P k p .after .stop ≡ stop S E (receives P k p .after .rx)

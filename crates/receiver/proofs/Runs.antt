@@ -21,7 +21,7 @@ use Rattle.arbitration.specs.Engine.{ok}
 use Rattle.arbitration.specs.Receive.{recordsOf, accepted}
 use Rattle.arbitration.specs.Lists.{Every, Bounded, Sent, msg, made}
 use Rattle.arbitration.proofs.Invariant.{made-keeps}
-use Rattle.arbitration.proofs.Carried.{Keeping, start-carried, receives-holds}
+use Rattle.arbitration.proofs.Carried.{Keeping, start-carried, packets-hold}
 use Rattle.arbitration.proofs.Packets.{every-append}
 use Rattle.shelf.specs.Shelf.{slotAt}
 use Rattle.shelf.specs.Store.{shelfStore}
@@ -64,7 +64,7 @@ module _
       let began = fresh-started o s h sizes in
       let start = start-carried shelfStore bookEngine (lawsOf real realLaws) (zeroBook o s) (fresh o s h .rx) (began .zeroed) (λ i l. rw (zeros-empty h i) (bytes-zeros 64)) in
       subst (λ (r : Rx real). P (r .book)) (sym (all-received real realLaws ps (fresh o s h) (start-fit real realLaws (zeroBook o s) (fresh o s h) began)))
-      (receives-holds shelfStore bookEngine (lawsOf real realLaws) P applying framing ps (fresh o s h .rx) (all-sent ps c) (record { carried = start; holds = zeroed }) .holds)
+      (packets-hold shelfStore bookEngine (lawsOf real realLaws) P applying framing ps (fresh o s h .rx) (all-sent ps c) (record { carried = start; holds = zeroed }) .holds)
 
 -- no row is spoiled; live order IDs are unique; used symbol entries have distinct IDs and lie in front
 pub run-tidy : (o s h : ℕ) → sizesOk o s h ≡ true → (ps : List (List ℕ)) → Every Bytes ps → Tidy (receivedAll ps (fresh o s h) .rx .book)

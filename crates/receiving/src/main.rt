@@ -12,7 +12,7 @@ use views::Side;
 use views::SpreadAnswer;
 
 // Full capacities: five numbers a row.
-const ORDERS: usize = 5 * facts::MOST_ROWS;
+const ORDERS: usize = rows::ROW_SIZE * facts::MOST_ROWS;
 
 const SYMBOLS: usize = facts::ENTRY_SIZE * facts::MOST_ENTRIES;
 
@@ -143,7 +143,7 @@ fn show_tables(orders: &[u64], symbols: &[u8], levels: &mut [u64], end: State) {
 }
 
 fn show_rows(orders: &[u64]) {
-    let n = orders.len() / 5;
+    let n = rows::row_count(orders);
     let mut i = 0;
     while i < n {
         show_row(i, rows::row_at(orders, i));

@@ -15,42 +15,43 @@ use Rattle.facts.specs.Limits.{packetMost, holdLeast}
 use Rattle.facts.proofs.Picks.{pick-cases, pick-ind}
 use Rattle.wire.specs.Le.{field}
 use Rattle.fields.specs.Fields.{refusal}
-use Rattle.arbitration.specs.Stream.{feed as each}
+use Rattle.arbitration.specs.Stream.{each}
 use Rattle.arbitration.proofs.StreamLaws.{feed-append}
 use Rattle.receiver.specs.declared.State.{State}
-use Rattle.recording.specs.Stream.{Kept, Hearing, hearing, heard, passed, grown, byte, keptOf, hearingOf, opened, cut, feedable, Outcome, outcome, streamIn, took, fed}
+use Rattle.recording.specs.Stream.{Standing, Hearing, hearing, heard, hearer, byte, standingOf, hearingOf, opened, cut, feedable, Feeding, feeding, streamIn, took, fed}
+use Rattle.recording.specs.Carve.{passed, grown, carve}
 use Rattle.recording.specs.Whole.{restOf}
 use Rattle.recording.specs.declared.Stream.{Stream}
 use Rattle.recording.specs.declared.Fed.{Fed}
 use Rattle.recording.proofs.Exits.{buffer-fits}
-use Rattle.recording.proofs.Packets.{cut-rest}
+use Rattle.recording.proofs.Heard.{cut-rest}
 
 -- ---- a buffer of w bytes, 1,502 or more, is never outgrown
 module _ (w : ℕ) (big : holdLeast ≤ w) where
-  abbrev Fits : Hearing → Type 0
-  Fits x = length (x .unfinished) ≤ w
+  abbrev InBuffer : Hearing → Type 0
+  InBuffer x = length (x .unfinished) ≤ w
 
-  grown-fits : (u : List ℕ) (k : Kept) → Fits (grown u k)
+  grown-in : (u : List ℕ) (k : Standing) → InBuffer (grown hearer u k)
   unfolding grown
-  grown-fits u k =
-      pick-ind Fits (ltb (length u) 2) (hearing u 0 k) _ (λ t. omega (arith, ltb-true (length u) 2 t))
-      (λ _. pick-ind Fits (ltb packetMost (field u 0 2)) (hearing [] (field u 0 2) k) _ (λ _. omega arith)
-      (λ s. pick-ind Fits (ltb (length u) (2 + field u 0 2)) (hearing u 0 k) (hearing [] 0 (heard (take (field u 0 2) (drop 2 u)) k)) (λ t. omega (arith, ltb-true (length u) (2 + field u 0 2) t, ltb-false packetMost (field u 0 2) s)) (λ _. omega arith)))
+  grown-in u k =
+      pick-ind InBuffer (ltb (length u) 2) (hearing u 0 k) _ (λ t. omega (arith, ltb-true (length u) 2 t))
+      (λ _. pick-ind InBuffer (ltb packetMost (field u 0 2)) (hearing [] (field u 0 2) k) _ (λ _. omega arith)
+      (λ s. pick-ind InBuffer (ltb (length u) (2 + field u 0 2)) (hearing u 0 k) (hearing [] 0 (heard (take (field u 0 2) (drop 2 u)) k)) (λ t. omega (arith, ltb-true (length u) (2 + field u 0 2) t, ltb-false packetMost (field u 0 2) s)) (λ _. omega arith)))
 
-  byte-fits : (b : ℕ) (x : Hearing) → Fits x → Fits (byte b x)
-  unfolding byte passed
-  byte-fits b x h = pick-ind Fits (eqb (x .skip) 0) (grown (x .unfinished ++ (b ∷ [])) (x .kept)) (passed 1 x) (λ _. grown-fits (x .unfinished ++ (b ∷ [])) (x .kept)) (λ _. h)
+  byte-in : (b : ℕ) (x : Hearing) → InBuffer x → InBuffer (byte b x)
+  unfolding carve passed
+  byte-in b x h = pick-ind InBuffer (eqb (x .skip) 0) (grown hearer (x .unfinished ++ (b ∷ [])) (x .kept)) (passed hearer 1 x) (λ _. grown-in (x .unfinished ++ (b ∷ [])) (x .kept)) (λ _. h)
 
-  pub all-fit : (bs : List ℕ) (x : Hearing) → Fits x → Fits (each byte bs x)
+  pub all-in : (bs : List ℕ) (x : Hearing) → InBuffer x → InBuffer (each byte bs x)
   unfolding each
-  all-fit [] x h = h
-  all-fit (b ∷ bs) x h = all-fit bs (byte b x) (byte-fits b x h)
+  all-in [] x h = h
+  all-in (b ∷ bs) x h = all-in bs (byte b x) (byte-in b x h)
 
 -- ---- what is left between two chunks is all that counts
-module _ (w : ℕ) (y : Hearing) (k : Stream) (o s h w′ : List ℕ) (left : took w y ≡ outcome (Fed.Took k) o s h w′) where
+module _ (w : ℕ) (y : Hearing) (k : Stream) (o s h w′ : List ℕ) (left : took w y ≡ feeding (Fed.Took k) o s h w′) where
   pub same-stream : streamIn y ≡ k
   unfolding took
-  same-stream = let e : Fed.Took (streamIn y) ≡ Fed.Took k = ap (λ (v : Outcome). v .answer) left in cc
+  same-stream = let e : Fed.Took (streamIn y) ≡ Fed.Took k = ap (λ (v : Feeding). v .answer) left in cc
 
   pub again : hearingOf k o s h w′ ≡ y
   unfolding took
@@ -61,19 +62,19 @@ module _ (w : ℕ) (y : Hearing) (k : Stream) (o s h w′ : List ℕ) (left : to
   pub same-size : length (y .unfinished) ≤ w → length w′ ≡ w
   unfolding took
   same-size l =
-      sym (ap (λ (v : Outcome). length (v .hold)) left)
+      sym (ap (λ (v : Feeding). length (v .hold)) left)
       ∙ rw (length-append, length-replicate) (omega arith)
 
 -- a stream that was not refused took the chunk's bytes
-module _ (k k′ : Stream) (o s h w o′ s′ h′ w′ a : List ℕ) (e : fed k o s h w a ≡ outcome (Fed.Took k′) o′ s′ h′ w′) where
-  fed-bytes : (feedable k (length o) (length s) (length h) (length w) ≡ true) × (took (length w) (each byte a (hearingOf k o s h w)) ≡ outcome (Fed.Took k′) o′ s′ h′ w′)
+module _ (k k′ : Stream) (o s h w o′ s′ h′ w′ a : List ℕ) (e : fed k o s h w a ≡ feeding (Fed.Took k′) o′ s′ h′ w′) where
+  fed-bytes : (feedable k (length o) (length s) (length h) (length w) ≡ true) × (took (length w) (each byte a (hearingOf k o s h w)) ≡ feeding (Fed.Took k′) o′ s′ h′ w′)
   unfolding fed
   fed-bytes = go (pick-cases e)
     where
-      go : ((feedable k (length o) (length s) (length h) (length w) ≡ true) × (took (length w) (each byte a (hearingOf k o s h w)) ≡ outcome (Fed.Took k′) o′ s′ h′ w′)) ⊎ ((feedable k (length o) (length s) (length h) (length w) ≡ false) × (outcome (Fed.Refused (refusal 6)) o s h w ≡ outcome (Fed.Took k′) o′ s′ h′ w′)) → (feedable k (length o) (length s) (length h) (length w) ≡ true) × (took (length w) (each byte a (hearingOf k o s h w)) ≡ outcome (Fed.Took k′) o′ s′ h′ w′)
+      go : ((feedable k (length o) (length s) (length h) (length w) ≡ true) × (took (length w) (each byte a (hearingOf k o s h w)) ≡ feeding (Fed.Took k′) o′ s′ h′ w′)) ⊎ ((feedable k (length o) (length s) (length h) (length w) ≡ false) × (feeding (Fed.Refused (refusal 6)) o s h w ≡ feeding (Fed.Took k′) o′ s′ h′ w′)) → (feedable k (length o) (length s) (length h) (length w) ≡ true) × (took (length w) (each byte a (hearingOf k o s h w)) ≡ feeding (Fed.Took k′) o′ s′ h′ w′)
       go (inl q) = q
       go (inr q) =
-          let r : Fed.Refused (refusal 6) ≡ Fed.Took k′ = ap (λ (v : Outcome). v .answer) (q .1) in
+          let r : Fed.Refused (refusal 6) ≡ Fed.Took k′ = ap (λ (v : Feeding). v .answer) (q .1) in
           let z : _≡_ {A = ℕ} 0 1 = cc in absurd (omega arith)
 
   -- a and then b is a ++ b, wherever the stream that a left is not refused
@@ -84,17 +85,17 @@ module _ (k k′ : Stream) (o s h w o′ s′ h′ w′ a : List ℕ) (e : fed k
       let y : Hearing = each byte a x in
       let q = fed-bytes in
       let room = buffer-fits k (length o) (length s) (length h) (length w) (q .0) in
-      let few : length (y .unfinished) ≤ length w = all-fit (length w) (room .1) a x (rw (length-take-le (k .held) w (room .0)) (room .0)) in
+      let few : length (y .unfinished) ≤ length w = all-in (length w) (room .1) a x (rw (length-take-le (k .held) w (room .0)) (room .0)) in
       let size : length w′ ≡ length w = same-size (length w) y k′ o′ s′ h′ w′ (q .1) few in
       let back : hearingOf k′ o′ s′ h′ w′ ≡ y = again (length w) y k′ o′ s′ h′ w′ (q .1) in
-      ap (λ t. pick t (took (length w′) (each byte b (hearingOf k′ o′ s′ h′ w′))) (outcome (Fed.Refused (refusal 6)) o′ s′ h′ w′)) f
+      ap (λ t. pick t (took (length w′) (each byte b (hearingOf k′ o′ s′ h′ w′))) (feeding (Fed.Refused (refusal 6)) o′ s′ h′ w′)) f
       ∙ (λ i. took (size i) (each byte b (back i)))
       ∙ ap (took (length w)) (sym (feed-append byte a b x))
-      ∙ ap (λ t. pick t (took (length w) (each byte (a ++ b) x)) (outcome (Fed.Refused (refusal 6)) o s h w)) (sym (q .0))
+      ∙ ap (λ t. pick t (took (length w) (each byte (a ++ b) x)) (feeding (Fed.Refused (refusal 6)) o s h w)) (sym (q .0))
 
 -- "a recording that ends inside a length or packet gives `recording=cut`": an opened stream that took t is cut where anything is left of t behind its packets, and only there
-pub fed-cut : (q : State) (k : Stream) (o s h w o′ s′ h′ w′ t : List ℕ) → fed (opened q) o s h w t ≡ outcome (Fed.Took k) o′ s′ h′ w′ → cut k ≡ ltb 0 (length (restOf t))
+pub fed-cut : (q : State) (k : Stream) (o s h w o′ s′ h′ w′ t : List ℕ) → fed (opened q) o s h w t ≡ feeding (Fed.Took k) o′ s′ h′ w′ → cut k ≡ ltb 0 (length (restOf t))
 fed-cut q k o s h w o′ s′ h′ w′ t e =
     let y : Hearing = each byte t (hearingOf (opened q) o s h w) in
     let left = fed-bytes (opened q) k o s h w o′ s′ h′ w′ t e .1 in
-    ap cut (sym (same-stream (length w) y k o′ s′ h′ w′ left)) ∙ cut-rest t (keptOf (opened q) o s h)
+    ap cut (sym (same-stream (length w) y k o′ s′ h′ w′ left)) ∙ cut-rest t (standingOf (opened q) o s h)

@@ -11,20 +11,21 @@ use lib.ListN.{length, take, drop, getD, set, replicate, drop-of-length-le, leng
 use lib.Seq.{take-suc-set, drop-drop, length-take-le}
 use borrow.Rule.Slice.PartMut.{putMid}
 use lib.Dec.{leb, eqb}
-use borrow.Author.Tests.{leb-true, eq-eqb, ne-eqb}
+use borrow.Author.Tests.{leb-true, lt-ltb, le-ltb, eq-eqb, ne-eqb}
 use Rattle.facts.specs.Pick.{pick, both}
 use Rattle.facts.specs.Limits.{packetMost, holdLeast}
-use Rattle.facts.proofs.Picks.{both-true}
+use Rattle.facts.proofs.Picks.{both-true, pick-map}
 use Rattle.wire.specs.Le.{field}
-use Rattle.arbitration.specs.Stream.{feed as each}
+use Rattle.arbitration.specs.Stream.{each}
 use Rattle.fields.specs.Fields.{refusal}
 use Rattle.fields.specs.declared.Refusal.{Refusal}
 use Rattle.receiver.specs.Receiver.{nextOk}
 use Rattle.receiver.specs.Lent.{Handled, received, sizesOk}
 use Rattle.receiver.specs.declared.Account.{Account}
 use Rattle.receiver.specs.declared.Received.{Received}
-use Rattle.recording.specs.Stream.{more, added, Kept, kept, counted, heard, Hearing, hearing, passed, grown, byte, keptOf, hearingOf, feedable, outcome, took, fed}
-use Rattle.recording.specs.Steps.{Whole, Passed, Pushed, Stepped, Ran}
+use Rattle.recording.specs.Stream.{more, added, Standing, standing, noted, heard, hearer, Hearing, hearing, byte, standingOf, hearingOf, feedable, feeding, took, fed}
+use Rattle.recording.specs.Carve.{passed, grown}
+use Rattle.recording.specs.Steps.{WholeAt, Passed, Pushed, Stepped, Ran}
 use Rattle.arbitration.specs.declared.Counts.{Counts}
 use Rattle.recording.specs.declared.Stream.{Stream}
 use Rattle.recording.specs.declared.Fed.{Fed}
@@ -32,18 +33,18 @@ use Rattle.recording.specs.declared.Moved.{Moved}
 use Rattle.recording.proofs.Bytes.{byte-grows, at-byte, passes, keeps-one, over-long, keeps, gives, at-once, length-grew, same-length-field, same-bytes}
 
 -- ---- `hear`: a packet, by its answer
-module _ (k : Kept) (p : List ℕ) (x : Handled) (x-is : x ≡ received (k .lent) p) where
-  heard-as : (a : Received) → x .answer ≡ a → counted a (x .after) k ≡ heard p k
+module _ (k : Standing) (p : List ℕ) (x : Handled) (x-is : x ≡ received (k .lent) p) where
+  heard-as : (a : Received) → x .answer ≡ a → noted a (x .after) k ≡ heard p k
   unfolding heard
-  heard-as a e = ap (λ (b : Received). counted b (x .after) k) (sym e) ∙ ap (λ (y : Handled). counted (y .answer) (y .after) k) x-is
+  heard-as a e = ap (λ (b : Received). noted b (x .after) k) (sym e) ∙ ap (λ (y : Handled). noted (y .answer) (y .after) k) x-is
 
-  pub heard-accepted : (a : Account) → x .answer ≡ Received.Accepted a → (n : Counts) → n ≡ added (a .counts) (k .totals) → kept (k .bad) n (x .after) ≡ heard p k
-  unfolding counted
-  heard-accepted a e n q = ap (λ m. kept (k .bad) m (x .after)) q ∙ heard-as (Received.Accepted a) e
+  pub heard-accepted : (a : Account) → x .answer ≡ Received.Accepted a → (n : Counts) → n ≡ added (a .counts) (k .totals) → standing (k .bad) n (x .after) ≡ heard p k
+  unfolding noted
+  heard-accepted a e n q = ap (λ m. standing (k .bad) m (x .after)) q ∙ heard-as (Received.Accepted a) e
 
-  pub heard-refused : (r : Refusal) → x .answer ≡ Received.Refused r → (b : ℕ) → b ≡ more (k .bad) 1 → kept b (k .totals) (x .after) ≡ heard p k
-  unfolding counted
-  heard-refused r e b q = ap (λ m. kept m (k .totals) (x .after)) q ∙ heard-as (Received.Refused r) e
+  pub heard-refused : (r : Refusal) → x .answer ≡ Received.Refused r → (b : ℕ) → b ≡ more (k .bad) 1 → standing b (k .totals) (x .after) ≡ heard p k
+  unfolding noted
+  heard-refused r e b q = ap (λ m. standing m (k .totals) (x .after)) q ∙ heard-as (Received.Refused r) e
 
 -- ---- `pass`
 module _ (k : Stream) (at end : ℕ) (inside : at < end) where
@@ -62,8 +63,8 @@ module _ (k : Stream) (at end : ℕ) (inside : at < end) where
       record { on = inside; within = omega arith; most = omega arith; stream-is = λ i. record { receiver = k .receiver; held = k .held; skip = k .skip - (end - at); bad = pick (sym t i) (more (k .bad) 1) (k .bad); totals = k .totals } }
 
 -- ---- `clear`
-pub cleared : (w : List ℕ) (h : ℕ) (z : List ℕ) → h ≤ length w → z ≡ replicate (length (take (length w - h) (drop h w))) 0 → putMid h (length w - h) w z ≡ take h w ++ replicate (length w - h) 0
-cleared w h z l e =
+pub clear-zeros : (w : List ℕ) (h : ℕ) (z : List ℕ) → h ≤ length w → z ≡ replicate (length (take (length w - h) (drop h w))) 0 → putMid h (length w - h) w z ≡ take h w ++ replicate (length w - h) 0
+clear-zeros w h z l e =
     let n : length (take (length w - h) (drop h w)) ≡ length w - h = length-take-le (length w - h) (drop h w) (rw length-drop (omega arith)) in
     let behind : drop (length w - h) (drop h w) ≡ [] = drop-of-length-le (drop h w) {i = length w - h} (rw length-drop (omega arith)) in
     ap (λ v. take h w ++ (z ++ v)) behind ∙ ap (λ v. take h w ++ v) (append-nil z ∙ e ∙ ap (λ m. replicate m 0) n)
@@ -73,14 +74,14 @@ module _ (k : Stream) (o s h w : List ℕ) (b : ℕ) (no-skip : k .skip ≡ 0) (
   abbrev u : List ℕ
   u = take (k .held) w ++ (b ∷ [])
 
-  abbrev K : Kept
-  K = keptOf k o s h
+  abbrev K : Standing
+  K = standingOf k o s h
 
   abbrev x : Hearing
   x = hearingOf k o s h w
 
-  is-grown : byte b x ≡ grown u K
-  is-grown = ap (λ n. byte b (hearing (take (k .held) w) n K)) no-skip ∙ byte-grows b (take (k .held) w) K
+  is-grown : byte b x ≡ grown hearer u K
+  is-grown = ap (λ n. byte b (hearing (take (k .held) w) n K)) no-skip ∙ byte-grows hearer b (take (k .held) w) K
 
   same-size : length w′ ≡ length w
   same-size = ap length stored ∙ length-set w (k .held) b
@@ -88,13 +89,13 @@ module _ (k : Stream) (o s h w : List ℕ) (b : ℕ) (no-skip : k .skip ≡ 0) (
   u-size : length u ≡ k .held + 1
   u-size = length-grew w (k .held) b fits
 
-  one-kept : grown u K ≡ hearing u 0 K → k .held < length w → (m : ℕ) → m ≡ k .held + 1 → Pushed b x (record { receiver = k .receiver; held = m; skip = k .skip; bad = k .bad; totals = k .totals }) o s h w′
+  one-kept : grown hearer u K ≡ hearing u 0 K → k .held < length w → (m : ℕ) → m ≡ k .held + 1 → Pushed b x (record { receiver = k .receiver; held = m; skip = k .skip; bad = k .bad; totals = k .totals }) o s h w′
   one-kept g l m e =
       let front : take m w′ ≡ u = ap (λ v. take m v) stored ∙ ap (λ j. take j (set w (k .held) b)) (e ∙ add-one (k .held)) ∙ take-suc-set w (k .held) b l in
       record { fits = omega (arith, same-size); is = (λ i. hearing (front i) (no-skip i) K) ∙ sym g ∙ sym is-grown }
 
   pub push-first : k .held ≡ 0 → Pushed b x (record { receiver = k .receiver; held = 1; skip = k .skip; bad = k .bad; totals = k .totals }) o s h w′
-  push-first z = one-kept (keeps-one u K (omega (arith, u-size))) (omega arith) 1 (omega arith)
+  push-first z = one-kept (keeps-one hearer u K (omega (arith, u-size))) (omega arith) 1 (omega arith)
 
   module _ (some : k .held ≡ 0 → ⊥) (n : ℕ) (n-is : n ≡ field w′ 0 2) where
     u-field : n ≡ field u 0 2
@@ -105,15 +106,15 @@ module _ (k : Stream) (o s h w : List ℕ) (b : ℕ) (no-skip : k .skip ≡ 0) (
 
     pub push-over : packetMost < n → Pushed b x (record { receiver = k .receiver; held = 0; skip = n; bad = k .bad; totals = k .totals }) o s h w′
     push-over l =
-        let g = over-long u K u-two (omega (arith, u-field)) in
+        let g = over-long hearer u K u-two (lt-ltb packetMost (field u 0 2) (omega (arith, u-field))) in
         record { fits = omega arith; is = (λ i. hearing [] (u-field i) K) ∙ sym g ∙ sym is-grown }
 
     pub push-keeps : n ≤ packetMost → k .held ≤ n → Pushed b x (record { receiver = k .receiver; held = k .held + 1; skip = k .skip; bad = k .bad; totals = k .totals }) o s h w′
-    push-keeps a c = one-kept (keeps u K u-two (omega (arith, u-field)) (omega (arith, u-field, u-size))) (omega arith) (k .held + 1) refl
+    push-keeps a c = one-kept (keeps hearer u K u-two (le-ltb packetMost (field u 0 2) (omega (arith, u-field))) (omega (arith, u-field, u-size))) (omega arith) (k .held + 1) refl
 
-    pub push-gives : n ≤ packetMost → n < k .held → (r : Stream) (o′ s′ h′ : List ℕ) → keptOf r o′ s′ h′ ≡ heard (take (2 + n - 2) (drop 2 w′)) K → r .held ≡ 0 → r .skip ≡ 0 → Pushed b x r o′ s′ h′ w′
+    pub push-gives : n ≤ packetMost → n < k .held → (r : Stream) (o′ s′ h′ : List ℕ) → standingOf r o′ s′ h′ ≡ heard (take (2 + n - 2) (drop 2 w′)) K → r .held ≡ 0 → r .skip ≡ 0 → Pushed b x r o′ s′ h′ w′
     push-gives a c r o′ s′ h′ e z y =
-        let g = gives u K u-two (omega (arith, u-field)) (omega (arith, u-field, u-size)) in
+        let g = gives hearer u K u-two (le-ltb packetMost (field u 0 2) (omega (arith, u-field))) (omega (arith, u-field, u-size)) in
         let p : take (2 + n - 2) (drop 2 w′) ≡ take (field u 0 2) (drop 2 u) = rw (add-sub-cancel-left 2 n, stored, ← u-field) (same-bytes w (k .held) b fits n (omega arith) (omega arith)) in
         record { fits = omega arith; is = (λ i. hearing (take (z i) w′) (y i) (e i)) ∙ ap (λ q. hearing [] 0 (heard q K)) p ∙ sym g ∙ sym is-grown }
 
@@ -135,11 +136,12 @@ step-passes k o s h w chunk at r p fits q =
       fits = omega arith;
       same =
           ap (λ v. each byte (drop (r .at) chunk) (hearingOf v o s h w)) (q .stream-is)
-          ∙ ap (λ d. each byte d (passed n (hearingOf k o s h w))) (sym behind)
-          ∙ passes n (drop at chunk) (hearingOf k o s h w) (omega (arith, q .on)) (q .most) (rw length-drop (omega (arith, q .on, q .within)));
+          ∙ ap (λ e. each byte (drop (r .at) chunk) (hearing (take (k .held) w) (k .skip - n) e)) (pick-map (λ b. standing b (k .totals) (standingOf k o s h .lent)) (eqb n (k .skip)) (more (k .bad) 1) (k .bad))
+          ∙ ap (λ d. each byte d (passed hearer n (hearingOf k o s h w))) (sym behind)
+          ∙ passes hearer n (drop at chunk) (hearingOf k o s h w) (omega (arith, q .on)) (q .most) (rw length-drop (omega (arith, q .on, q .within)));
     }
 
-pub step-gives : (k : Stream) (o s h w chunk : List ℕ) (at m : ℕ) → k .skip ≡ 0 → k .held ≡ 0 → 0 < m → Whole chunk at m → (r : Stream) (o′ s′ h′ : List ℕ) → keptOf r o′ s′ h′ ≡ heard (take (at + m - (at + 2)) (drop (at + 2) chunk)) (keptOf k o s h) → r .held ≡ 0 → r .skip ≡ 0 → Stepped chunk at (hearingOf k o s h w) (record { at = at + m; stream = r }) o′ s′ h′ w
+pub step-gives : (k : Stream) (o s h w chunk : List ℕ) (at m : ℕ) → k .skip ≡ 0 → k .held ≡ 0 → 0 < m → WholeAt chunk at m → (r : Stream) (o′ s′ h′ : List ℕ) → standingOf r o′ s′ h′ ≡ heard (take (at + m - (at + 2)) (drop (at + 2) chunk)) (standingOf k o s h) → r .held ≡ 0 → r .skip ≡ 0 → Stepped chunk at (hearingOf k o s h w) (record { at = at + m; stream = r }) o′ s′ h′ w
 step-gives k o s h w chunk at m no-skip none some q r o′ s′ h′ e z y =
     let l : List ℕ = drop at chunk in
     let f : field l 0 2 ≡ field chunk at 2 = here-length chunk at in
@@ -153,15 +155,15 @@ step-gives k o s h w chunk at m no-skip none some q r o′ s′ h′ e z y =
       fits = omega arith;
       same =
           (λ i. each byte (drop (at + m) chunk) (hearing (take (z i) w) (y i) (e i)))
-          ∙ ap (λ v. each byte (drop (at + m) chunk) (hearing [] 0 (heard v (keptOf k o s h)))) p
-          ∙ ap (λ d. each byte d (hearing [] 0 (heard (take (field l 0 2) (drop 2 l)) (keptOf k o s h)))) (sym behind)
-          ∙ at-once l (keptOf k o s h) (omega (arith, q .small)) (rw length-drop (omega (arith, q .is, q .fits)))
-          ∙ (λ i. each byte l (hearing (take (sym none i) w) (sym no-skip i) (keptOf k o s h)));
+          ∙ ap (λ v. each byte (drop (at + m) chunk) (hearing [] 0 (heard v (standingOf k o s h)))) p
+          ∙ ap (λ d. each byte d (hearing [] 0 (heard (take (field l 0 2) (drop 2 l)) (standingOf k o s h)))) (sym behind)
+          ∙ at-once hearer l (standingOf k o s h) (le-ltb packetMost (field l 0 2) (omega (arith, q .small))) (rw length-drop (omega (arith, q .is, q .fits)))
+          ∙ (λ i. each byte l (hearing (take (sym none i) w) (sym no-skip i) (standingOf k o s h)));
     }
 
 pub step-pushes : (chunk : List ℕ) (at : ℕ) (x : Hearing) (r : Stream) (o s h w : List ℕ) → at < length chunk → Pushed (getD chunk at 0) x r o s h w → Stepped chunk at x (record { at = at + 1; stream = r }) o s h w
 step-pushes chunk at x r o s h w l q =
-    record { on = omega arith; within = omega arith; fits = q .fits; same = ap (each byte (drop (at + 1) chunk)) (q .is) ∙ at-byte chunk at x l }
+    record { on = omega arith; within = omega arith; fits = q .fits; same = ap (each byte (drop (at + 1) chunk)) (q .is) ∙ at-byte hearer chunk at x l }
 
 -- ---- the loop's end
 pub ran : (chunk : List ℕ) (at : ℕ) → length chunk ≤ at → (y end : Hearing) → each byte (drop at chunk) y ≡ end → y ≡ end
@@ -170,17 +172,17 @@ ran chunk at l y end e = ap (λ d. each byte d y) (sym (drop-of-length-le chunk 
 
 -- ---- `feed`
 module _ (k : Stream) (o s h w chunk : List ℕ) where
-  pub fed-refused : feedable k (length o) (length s) (length h) (length w) ≡ false → outcome (Fed.Refused (refusal 6)) o s h w ≡ fed k o s h w chunk
+  pub fed-refused : feedable k (length o) (length s) (length h) (length w) ≡ false → feeding (Fed.Refused (refusal 6)) o s h w ≡ fed k o s h w chunk
   unfolding fed pick
   fed-refused e = simp e
 
   -- r and o′ to w′ after all bytes, z the buffer with the rest zeroed
-  pub fed-took : feedable k (length o) (length s) (length h) (length w) ≡ true → (r : Stream) (o′ s′ h′ w′ z : List ℕ) → length w′ ≡ length w → Ran chunk (hearingOf k o s h w) r o′ s′ h′ w′ → z ≡ take (r .held) w′ ++ replicate (length w′ - r .held) 0 → outcome (Fed.Took r) o′ s′ h′ z ≡ fed k o s h w chunk
+  pub fed-took : feedable k (length o) (length s) (length h) (length w) ≡ true → (r : Stream) (o′ s′ h′ w′ z : List ℕ) → length w′ ≡ length w → Ran chunk (hearingOf k o s h w) r o′ s′ h′ w′ → z ≡ take (r .held) w′ ++ replicate (length w′ - r .held) 0 → feeding (Fed.Took r) o′ s′ h′ z ≡ fed k o s h w chunk
   unfolding fed took pick
   fed-took e r o′ s′ h′ w′ z n q c =
       let len : r .held ≡ length (take (r .held) w′) = sym (length-take-le (r .held) w′ (q .fits)) in
       let buffer : z ≡ take (r .held) w′ ++ replicate (length w - length (take (r .held) w′)) 0 = c ∙ (λ i. take (r .held) w′ ++ replicate (n i - len i) 0) in
-      (λ i. outcome (Fed.Took (record { receiver = r .receiver; held = len i; skip = r .skip; bad = r .bad; totals = r .totals })) o′ s′ h′ (buffer i))
+      (λ i. feeding (Fed.Took (record { receiver = r .receiver; held = len i; skip = r .skip; bad = r .bad; totals = r .totals })) o′ s′ h′ (buffer i))
       ∙ ap (took (length w)) (q .is)
       ∙ simp e
 

@@ -1,220 +1,125 @@
--- A recording of any bytes: however it is cut, its packets are given to the receiver one after another, by recursion on the bytes that are left.
+-- A recording is its packets, each behind its length, and a rest that is no whole packet: byte by byte, a byte is one more of the rest or makes it the next packet.
 -- Assumes nothing.
-use Prim.Native.Nat.{ℕ, zero, suc, _+_, _-_, _≤_, _<_}
+use Prim.Native.Nat.{ℕ, _+_, _-_, _≤_, _<_}
 use mathlib.Core.Path.{_≡_, refl, sym, ap, subst, _∙_}
 use mathlib.Core.Logic.{inl, inr}
-use mathlib.Core.Bool.{true, false}
-use mathlib.Core.List.{List, [], _∷_}
+use mathlib.Core.List.{List, [], _∷_, _++_, append-nil}
 use native.Mathlib.Omega.{arith}
 use native.Mathlib.Decide.{decLt}
-use lib.ListN.{length, take, drop, length-drop, drop-of-length-le}
-use lib.Seq.{drop-length, drop-drop, take-all, length-take-le}
-use lib.Dec.{leb, ltb, eqb}
-use borrow.Author.Tests.{le-leb, lt-leb, lt-ltb, le-ltb, eq-eqb, ne-eqb}
-use Rattle.facts.specs.Pick.{pick, both, either}
-use Rattle.facts.specs.Limits.{packetMost}
-use Rattle.facts.specs.Pieces.{join}
-use Rattle.facts.proofs.Picks.{pick-ind, either-none}
-use Rattle.wire.specs.Le.{field}
-use Rattle.wire.specs.Records.{bad}
-use Rattle.fields.specs.Fields.{refusal}
-use Rattle.packet.specs.Packet.{Framing, framing}
-use Rattle.arbitration.specs.Stream.{feed as each, feeds}
-use Rattle.arbitration.proofs.StreamLaws as pieces
-use Rattle.receiver.specs.Receiver.{handledBy, fit, receives, receivesAll}
-use Rattle.receiver.specs.Lent.{real, Lent, Handled, handled, received, receivedAll}
-use Rattle.receiver.specs.declared.Received.{Received}
-use Rattle.recording.proofs.PacketLaws.{packets-short, packets-cut, packets-next, packets-enough}
-use Rattle.recording.specs.Stream.{more, Kept, kept, counted, heard, hears, Hearing, hearing, passed, byte, cut, streamIn}
-use Rattle.recording.specs.Whole.{packetsIn, packetsOf, packed, restOf, Inside, waiting}
-use Rattle.recording.proofs.Bytes.{passes, so-far, at-once, length-seen}
+use lib.ListN.{length, take, drop, length-take, length-drop, length-append, drop-of-length-le}
+use lib.Seq.{append-snoc, take-append-le, drop-append-le, length-take-le}
+use Rattle.wire.specs.Le.{le, field}
+use Rattle.arbitration.specs.Stream.{each}
+use Rattle.recording.specs.Carve.{Carved, carved, grown, carve}
+use Rattle.recording.specs.Whole.{collects, packetsOf, restOf, InFront, Laid, Inside}
+use Rattle.recording.proofs.Bytes.{byte-grows, keeps-one, keeps, gives}
 
--- request 13: "However a recording is cut, empty chunks included"
-pub any-cut : (ps : List (List ℕ)) (x : Hearing) → feeds byte ps x ≡ each byte (join ps) x
-any-cut = pieces.any-cut byte
+-- ---- one byte more, behind the bytes u
+module _ (u : List ℕ) (b : ℕ) where
+  abbrev pub longer : List ℕ
+  longer = u ++ (b ∷ [])
 
--- ---- the packets of a recording
--- a packet of more than 1,500 bytes is refused, as any bad one is
-framing-long : (p : List ℕ) → packetMost < length p → framing p ≡ bad (refusal 1)
-unfolding framing both pick
-framing-long p h = simp (le-leb 1 (length p) (omega arith), lt-leb (length p) packetMost h)
+  -- its length, as soon as it is there
+  abbrev pub announced : ℕ
+  announced = field longer 0 2
 
-pub heard-long : (p : List ℕ) (k : Kept) → packetMost < length p → heard p k ≡ kept (more (k .bad) 1) (k .totals) (k .lent)
-unfolding heard counted receives handledBy
-heard-long p k h =
-    pick-ind Bad (fit real (k .lent)) (handledBy real (framing p) (k .lent)) (handled (Received.Refused (refusal 6)) (k .lent))
-    (λ _. ap (λ (x : Framing). counted (handledBy real x (k .lent) .answer) (handledBy real x (k .lent) .after) k) (framing-long p h))
-    (λ _. refl)
-  where
-    Bad : Handled → Type 0
-    Bad x = counted (x .answer) (x .after) k ≡ kept (more (k .bad) 1) (k .totals) (k .lent)
+  pub size : length longer ≡ length u + 1
+  size = length-append u (b ∷ [])
 
--- ---- what the bytes that are left come to
-waiting-over : (u : List ℕ) (k : Kept) → 2 ≤ length u → packetMost < field u 0 2 → waiting u k ≡ hearing [] (field u 0 2 - (length u - 2)) k
-unfolding waiting both pick
-waiting-over u k two long = simp (le-leb 2 (length u) two, lt-ltb packetMost (field u 0 2) long)
+  -- a length that was there stays
+  pub same-length : 2 ≤ length u → announced ≡ field u 0 2
+  unfolding field
+  same-length two = ap le (take-append-le 2 u (b ∷ []) two)
 
-waiting-held : (u : List ℕ) (k : Kept) → (2 ≤ length u → field u 0 2 ≤ packetMost) → waiting u k ≡ hearing u 0 k
-unfolding waiting both pick
-waiting-held u k small = go (decLt (length u) 2)
-  where
-    go : Dec (length u < 2) → waiting u k ≡ hearing u 0 k
-    go (yes a) = simp (lt-leb 2 (length u) a)
-    go (no a) = simp (le-leb 2 (length u) (omega arith), le-ltb packetMost (field u 0 2) (small (omega arith)))
-
-module _ (t : List ℕ) (k : Kept) where
-  abbrev n : ℕ
-  n = field t 0 2
-
-  abbrev end : Hearing
-  end = each byte t (hearing [] 0 k)
-
-  -- it ends inside a length, or inside a packet that is not over-long
-  unfinished : length t < 2 + n → (2 ≤ length t → n ≤ packetMost) → end ≡ waiting t k
-  unfolding each
-  unfinished h small =
-      sym (so-far t k (length t) (omega arith) h small)
-      ∙ (λ i. each byte (drop-length t i) (hearing (take-all (length t) t (omega arith) i) 0 k))
-      ∙ sym (waiting-held t k small)
-
-  module _ (two : 2 ≤ length t) (long : packetMost < n) where
-    seen : each byte (drop 2 t) (hearing [] n k) ≡ end
-    seen = length-seen t k two long
-
-    -- inside an over-long one
-    passing : length t - 2 < n → end ≡ waiting t k
-    unfolding each passed pick
-    passing h = go (decLt 2 (length t)) ∙ sym (waiting-over t k two long)
-      where
-        go : Dec (2 < length t) → end ≡ hearing [] (n - (length t - 2)) k
-        go (yes a) =
-            let m : ℕ = length t - 2 in
-            let e : each byte (drop m (drop 2 t)) (passed m (hearing [] n k)) ≡ each byte (drop 2 t) (hearing [] n k) = passes m (drop 2 t) (hearing [] n k) (omega arith) (omega arith) (rw length-drop (omega arith)) in
-            let none : drop m (drop 2 t) ≡ [] = drop-of-length-le (drop 2 t) {i = m} (rw length-drop (omega arith)) in
-            let not-all : eqb m n ≡ false = ne-eqb m n (λ q. omega arith) in
-            sym (e ∙ seen)
-            ∙ ap (λ d. each byte d (passed m (hearing [] n k))) none
-            ∙ (λ i. hearing [] (n - m) (kept (pick (not-all i) (more (k .bad) 1) (k .bad)) (k .totals) (k .lent)))
-        go (no a) =
-            let none : drop 2 t ≡ [] = drop-of-length-le t {i = 2} (omega arith) in
-            let all : n ≡ n - (length t - 2) = omega arith in
-            sym seen ∙ ap (λ d. each byte d (hearing [] n k)) none ∙ ap (λ m. hearing [] m k) all
-
-    -- behind it
-    passed-by : n ≤ length t - 2 → each byte (drop (2 + n) t) (hearing [] 0 (heard (take n (drop 2 t)) k)) ≡ end
-    unfolding passed pick
-    passed-by h =
-        let l : n ≤ length (drop 2 t) = rw length-drop (omega arith) in
-        let size : length (take n (drop 2 t)) ≡ n = length-take-le n (drop 2 t) l in
-        let bad-one : heard (take n (drop 2 t)) k ≡ kept (more (k .bad) 1) (k .totals) (k .lent) = heard-long (take n (drop 2 t)) k (omega arith) in
-        let none : 0 ≡ n - n = omega arith in
-        let all : true ≡ eqb n n = sym (eq-eqb n n refl) in
-        (λ i. each byte (sym (drop-drop n 2 t) i) (hearing [] 0 (bad-one i)))
-        ∙ (λ i. each byte (drop n (drop 2 t)) (hearing [] (none i) (kept (pick (all i) (more (k .bad) 1) (k .bad)) (k .totals) (k .lent))))
-        ∙ passes n (drop 2 t) (hearing [] n k) (omega arith) (omega arith) l
-        ∙ seen
-
-  -- a packet that is all there
-  pub next-packet : 2 ≤ length t → n ≤ length t - 2 → each byte (drop (2 + n) t) (hearing [] 0 (heard (take n (drop 2 t)) k)) ≡ end
-  next-packet two h = go (decLt packetMost n)
+  -- where a packet is all there, no byte is behind it
+  pub exact : Inside u → 2 ≤ length longer → announced ≤ length longer - 2 → length longer ≡ 2 + announced
+  exact i two whole = go (decLt (length u) 2) i
     where
-      go : Dec (packetMost < n) → each byte (drop (2 + n) t) (hearing [] 0 (heard (take n (drop 2 t)) k)) ≡ end
-      go (yes a) = passed-by two a h
-      go (no a) = at-once t k (omega arith) (omega arith)
+      go : Dec (length u < 2) → Inside u → length longer ≡ 2 + announced
+      go (yes a) i = omega (arith, size)
+      go (no a) (inl l) = absurd (a l)
+      go (no a) (inr l) = omega (arith, size, same-length (omega arith))
 
-  -- "that last piece is dropped, not bad": it waits, and nothing is counted
-  pub last-piece : Inside t → end ≡ waiting t k
-  last-piece (inl a) = unfinished (omega arith) (λ b. absurd (omega arith))
-  last-piece (inr b) = go (decLt (length t) 2) (decLt packetMost n)
+  abbrev pub completed : List ℕ
+  completed = take announced (drop 2 longer)
+
+-- it is not all of a packet, or the packet's last
+module _ (P : Carved (List (List ℕ)) → Type 0) (b : ℕ) where
+  collected : (u : List ℕ) (ps : List (List ℕ)) → (Inside (longer u b) → P (carved (longer u b) 0 ps)) → (2 ≤ length (longer u b) → announced u b ≤ length (longer u b) - 2 → P (carved [] 0 (ps ++ (completed u b ∷ [])))) → P (carve collects b (carved u 0 ps))
+  collected u ps on end = subst P (sym (byte-grows collects b u ps)) (go (decLt (length (longer u b)) 2) (decLt (length (longer u b) - 2) (announced u b)))
     where
-      go : Dec (length t < 2) → Dec (packetMost < n) → end ≡ waiting t k
-      go (yes a) c = unfinished (omega arith) (λ d. absurd (omega arith))
-      go (no a) (yes c) = passing (omega arith) c b
-      go (no a) (no c) = unfinished (omega arith) (λ _. omega arith)
+      go : Dec (length (longer u b) < 2) → Dec (length (longer u b) - 2 < announced u b) → P (grown collects (longer u b) ps)
+      go (yes a) c = subst P (sym (keeps-one collects (longer u b) ps a)) (on (inl a))
+      go (no a) (yes c) = subst P (sym (keeps collects (longer u b) ps (omega arith) refl (omega arith))) (on (inr c))
+      go (no a) (no c) = subst P (sym (gives collects (longer u b) ps (omega arith) refl (omega arith))) (end (omega arith) (omega arith))
 
--- what holds of a last piece, and of a recording that begins with a packet if it holds of the rest, holds of every recording with its packets
-module _ (P : List ℕ → List (List ℕ) → Type 0) (last : (t : List ℕ) → Inside t → P t [])
-    (more-of : (t : List ℕ) (ps : List (List ℕ)) → 2 ≤ length t → field t 0 2 ≤ length t - 2 → P (drop (2 + field t 0 2) t) ps → P t (take (field t 0 2) (drop 2 t) ∷ ps)) where
-  packets-all-in : (f : ℕ) (t : List ℕ) → length t ≤ f → P t (packetsIn f t)
-  packets-all-in zero t l = subst (P t) (sym (packets-short zero t (omega arith))) (last t (inl (omega arith)))
-  packets-all-in (suc f) t l = go (decLt (length t) 2) (decLt (length t - 2) (field t 0 2)) (packets-all-in f rest)
-    where
-      rest : List ℕ
-      rest = drop (2 + field t 0 2) t
+  pub one-byte : (y : Carved (List (List ℕ))) → y .skip ≡ 0 → let u = y .unfinished in (Inside (longer u b) → P (carved (longer u b) 0 (y .kept))) → (2 ≤ length (longer u b) → announced u b ≤ length (longer u b) - 2 → P (carved [] 0 (y .kept ++ (completed u b ∷ [])))) → P (carve collects b y)
+  one-byte y e on end = subst (λ (m : ℕ). P (carve collects b (carved (y .unfinished) m (y .kept)))) (sym e) (collected (y .unfinished) (y .kept) on end)
 
-      go : Dec (length t < 2) → Dec (length t - 2 < field t 0 2) → (length rest ≤ f → P rest (packetsIn f rest)) → P t (packetsIn (suc f) t)
-      go (yes a) b ih = subst (P t) (sym (packets-short (suc f) t a)) (last t (inl a))
-      go (no a) (yes b) ih = subst (P t) (sym (packets-cut (suc f) t (omega arith) b)) (last t (inr b))
-      go (no a) (no b) ih =
-          let fewer : length rest ≤ f = rw length-drop (omega arith) in
-          let same : packetsIn f rest ≡ packetsIn (suc f) rest = packets-enough f (suc f) rest fewer (omega arith) in
-          subst (P t) (sym (packets-next (suc f) t (omega arith) (omega arith) l))
-          (more-of t (packetsIn (suc f) rest) (omega arith) (omega arith) (subst (P rest) same (ih fewer)))
+-- ---- a packet in front stays there, and one that is all of the rest is one packet more
+front-stays : (p t : List ℕ) (b : ℕ) → InFront p t → InFront p (longer t b) × (drop (2 + length p) (longer t b) ≡ longer (drop (2 + length p) t) b)
+front-stays p t b f =
+    let there : length p ≤ length (drop 2 t) = omega (arith, ap length (f .bytes-are), length-take (length p) (drop 2 t)) in
+    let all : 2 + length p ≤ length t = omega (arith, f .length-there, length-drop 2 t) in (
+      record {
+        length-there = omega (arith, size t b, f .length-there);
+        length-is = same-length t b (f .length-there) ∙ f .length-is;
+        bytes-are = ap (take (length p)) (drop-append-le 2 t (b ∷ []) (f .length-there)) ∙ take-append-le (length p) (drop 2 t) (b ∷ []) there ∙ f .bytes-are;
+      },
+      drop-append-le (2 + length p) t (b ∷ []) all,
+    )
 
-  pub packets-all : (t : List ℕ) → P t (packetsOf t)
-  packets-all t = packets-all-in (length t) t (omega arith)
+laid-on : (ps : List (List ℕ)) (t u : List ℕ) (b : ℕ) → Laid ps t u → Laid ps (longer t b) (longer u b)
+laid-on [] t u b e = ap (λ l. longer l b) e
+laid-on (p ∷ ps) t u b (f, r) =
+    let g = front-stays p t b f in
+    (g .0, subst (λ l. Laid ps l (longer u b)) (sym (g .1)) (laid-on ps (drop (2 + length p) t) u b r))
 
--- behind a packet's bytes
-module _ (t : List ℕ) (ps : List (List ℕ)) (two : 2 ≤ length t) (h : field t 0 2 ≤ length t - 2) where
-  packed-next : packed (take (field t 0 2) (drop 2 t) ∷ ps) ≡ 2 + field t 0 2 + packed ps
-  unfolding packed
-  packed-next = ap (λ m. 2 + m + packed ps) (length-take-le (field t 0 2) (drop 2 t) (rw length-drop h))
+laid-end : (ps : List (List ℕ)) (t v p : List ℕ) → InFront p v → length v ≡ 2 + length p → Laid ps t v → Laid (ps ++ (p ∷ [])) t []
+laid-end [] t v p f l e = subst (λ z. InFront p z × (drop (2 + length p) z ≡ [])) (sym e) (f, drop-of-length-le v {i = 2 + length p} (omega arith))
+laid-end (q ∷ ps) t v p f l (g, r) = (g, laid-end ps (drop (2 + length q) t) v p f l r)
 
-  rest-next : drop (packed ps) (drop (2 + field t 0 2) t) ≡ drop (packed (take (field t 0 2) (drop 2 t) ∷ ps)) t
-  rest-next = drop-drop (packed ps) (2 + field t 0 2) t ∙ ap (λ m. drop m t) (sym packed-next)
+-- ---- all bytes
+-- the bytes t, carved
+pub record Tiled (t : List ℕ) (y : Carved (List (List ℕ))) : Type 0 where
+  pub none-passed : y .skip ≡ 0
+  pub inside : Inside (y .unfinished)
+  pub laid : Laid (y .kept) t (y .unfinished)
 
--- "packets each behind a 2-byte length": all of them and nothing else are given to the receiver and counted, and what is left of the recording waits
-pub all-heard : (t : List ℕ) (k : Kept) → each byte t (hearing [] 0 k) ≡ waiting (restOf t) (hears (packetsOf t) k)
-unfolding hears packed
-all-heard =
-    packets-all (λ t ps. (k : Kept) → each byte t (hearing [] 0 k) ≡ waiting (drop (packed ps) t) (hears ps k)) (λ t i k. last-piece t k i)
-    (λ t ps two h ih k. sym (next-packet t k two h) ∙ ih (heard (take (field t 0 2) (drop 2 t)) k) ∙ ap (λ u. waiting u (hears ps (heard (take (field t 0 2) (drop 2 t)) k))) (rest-next t ps two h))
+pub tiled-byte : (t : List ℕ) (b : ℕ) (y : Carved (List (List ℕ))) → Tiled t y → Tiled (longer t b) (carve collects b y)
+tiled-byte t b y a =
+    let u = y .unfinished in
+    let on : Laid (y .kept) (longer t b) (longer u b) = laid-on (y .kept) t u b (a .laid) in
+    one-byte (Tiled (longer t b)) b y (a .none-passed)
+    (λ i. record { none-passed = refl; inside = i; laid = on })
+    (λ two whole.
+    let l : length (completed u b) ≡ announced u b = length-take-le (announced u b) (drop 2 (longer u b)) (rw length-drop whole) in
+    let f : InFront (completed u b) (longer u b) = record { length-there = two; length-is = sym l; bytes-are = ap (λ j. take j (drop 2 (longer u b))) l } in
+    record { none-passed = refl; inside = inl (omega arith); laid = laid-end (y .kept) (longer t b) (longer u b) (completed u b) f (omega (arith, exact u b (a .inside) two whole, l)) on })
 
-waiting-kept : (u : List ℕ) (k : Kept) → waiting u k .kept ≡ k
-unfolding waiting
-waiting-kept u k = pick-ind (λ (x : Hearing). x .kept ≡ k) (both (leb 2 (length u)) (ltb packetMost (field u 0 2))) (hearing [] (field u 0 2 - (length u - 2)) k) (hearing u 0 k) (λ _. refl) (λ _. refl)
+tiled-from : (t s : List ℕ) (y : Carved (List (List ℕ))) → Tiled s y → Tiled (s ++ t) (each (carve collects) t y)
+unfolding each
+tiled-from [] s y a = subst (λ l. Tiled l y) (sym (append-nil s)) a
+tiled-from (b ∷ t) s y a = subst (λ l. Tiled l (each (carve collects) t (carve collects b y))) (append-snoc s b t) (tiled-from t (longer s b) (carve collects b y) (tiled-byte s b y a))
 
-pub whole : (t : List ℕ) (k : Kept) → each byte t (hearing [] 0 k) .kept ≡ hears (packetsOf t) k
-whole t k = ap (λ (x : Hearing). x .kept) (all-heard t k) ∙ waiting-kept (restOf t) (hears (packetsOf t) k)
+pub none-tiled : Tiled [] (carved [] 0 [])
+none-tiled = record { none-passed = refl; inside = inl (omega arith); laid = refl }
 
--- every byte of a recording is of a length, of a packet or of the rest, and the rest is no whole packet
-pub rest-inside : (t : List ℕ) → (packed (packetsOf t) + length (restOf t) ≡ length t) × Inside (restOf t)
-unfolding packed
-rest-inside =
-    packets-all (λ t ps. (packed ps + length (drop (packed ps) t) ≡ length t) × Inside (drop (packed ps) t)) (λ t i. (omega arith, i))
-    (λ t ps two h ih. (
-      omega (arith, packed-next t ps two h, ap length (rest-next t ps two h), ih .0, length-drop (2 + field t 0 2) t),
-      subst Inside (rest-next t ps two h) (ih .1),
-    ))
+-- a recording is its packets, "each behind a 2-byte length", and the rest, which is no whole packet
+pub packets-laid : (t : List ℕ) → Laid (packetsOf t) t (restOf t) × Inside (restOf t)
+packets-laid t = let a = tiled-from t [] (carved [] 0 []) none-tiled in (a .laid, a .inside)
 
--- ---- "a recording that ends inside a length or packet gives `recording=cut`": where anything is left of it, and only there
-cut-held : (u : List ℕ) (k : Kept) → (2 ≤ length u → field u 0 2 ≤ packetMost) → cut (streamIn (waiting u k)) ≡ ltb 0 (length u)
-unfolding cut
-cut-held u k small = ap (λ (x : Hearing). cut (streamIn x)) (waiting-held u k small) ∙ either-none (ltb 0 (length u))
+-- ---- and no other packets and rest are: so what the packets of a recording are does not rest on how it is carved
+not-whole : (p t : List ℕ) → InFront p t → Inside t → ⊥
+not-whole p t f (inl a) = omega (arith, f .length-there)
+not-whole p t f (inr a) = omega (arith, f .length-there, f .length-is, ap length (f .bytes-are), length-take (length p) (drop 2 t), length-drop 2 t)
 
-cut-over : (u : List ℕ) (k : Kept) → 2 ≤ length u → packetMost < field u 0 2 → length u - 2 < field u 0 2 → cut (streamIn (waiting u k)) ≡ ltb 0 (length u)
-unfolding cut either
-cut-over u k two long h = ap (λ (x : Hearing). cut (streamIn x)) (waiting-over u k two long) ∙ lt-ltb 0 (field u 0 2 - (length u - 2)) (omega arith) ∙ sym (lt-ltb 0 (length u) (omega arith))
-
-cut-waiting : (u : List ℕ) (k : Kept) → Inside u → cut (streamIn (waiting u k)) ≡ ltb 0 (length u)
-cut-waiting u k (inl a) = cut-held u k (λ b. absurd (omega arith))
-cut-waiting u k (inr b) = go (decLt (length u) 2) (decLt packetMost (field u 0 2))
-  where
-    go : Dec (length u < 2) → Dec (packetMost < field u 0 2) → cut (streamIn (waiting u k)) ≡ ltb 0 (length u)
-    go (yes a) c = cut-held u k (λ d. absurd (omega arith))
-    go (no a) (no c) = cut-held u k (λ _. omega arith)
-    go (no a) (yes c) = cut-over u k (omega arith) c b
-
-pub cut-rest : (t : List ℕ) (k : Kept) → cut (streamIn (each byte t (hearing [] 0 k))) ≡ ltb 0 (length (restOf t))
-cut-rest t k = ap (λ (x : Hearing). cut (streamIn x)) (all-heard t k) ∙ cut-waiting (restOf t) (hears (packetsOf t) k) (rest-inside t .1)
-
--- the receiver and its tables are those of as many calls of `receive`
-counted-after : (a : Received) (after : Lent) (k : Kept) → counted a after k .lent ≡ after
-unfolding counted
-counted-after (Received.Accepted t) after k = refl
-counted-after (Received.Refused r) after k = refl
-
-pub hears-receives : (ps : List (List ℕ)) (k : Kept) → hears ps k .lent ≡ receivedAll ps (k .lent)
-unfolding hears receivesAll heard
-hears-receives [] k = refl
-hears-receives (p ∷ ps) k = hears-receives ps (heard p k) ∙ ap (receivedAll ps) (counted-after (received (k .lent) p .answer) (received (k .lent) p .after) k)
+pub laid-once : (ps qs : List (List ℕ)) (t u v : List ℕ) → Laid ps t u → Inside u → Laid qs t v → Inside v → (ps ≡ qs) × (u ≡ v)
+laid-once [] [] t u v e i g j = (refl, sym e ∙ g)
+laid-once [] (q ∷ qs) t u v e i (g, s) j = absurd (not-whole q t g (subst Inside (sym e) i))
+laid-once (p ∷ ps) [] t u v (f, r) i e j = absurd (not-whole p t f (subst Inside (sym e) j))
+laid-once (p ∷ ps) (q ∷ qs) t u v (f, r) i (g, s) j =
+    let n : length p ≡ length q = sym (f .length-is) ∙ g .length-is in
+    let e : p ≡ q = sym (f .bytes-are) ∙ ap (λ m. take m (drop 2 t)) n ∙ g .bytes-are in
+    let rest = laid-once ps qs (drop (2 + length p) t) u v r i (subst (λ m. Laid qs (drop (2 + m) t) v) (sym n) s) j in
+    ((λ k. e k ∷ rest .0 k), rest .1)

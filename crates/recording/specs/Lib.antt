@@ -1,3 +1,4 @@
+pub mod Carve
 pub mod Stream
 pub mod Steps
 pub mod Whole

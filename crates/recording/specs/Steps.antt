@@ -7,13 +7,13 @@ use lib.Dec.{eqb}
 use Rattle.facts.specs.Pick.{pick}
 use Rattle.facts.specs.Limits.{packetMost}
 use Rattle.wire.specs.Le.{field}
-use Rattle.arbitration.specs.Stream.{feed as each}
+use Rattle.arbitration.specs.Stream.{each}
 use Rattle.recording.specs.Stream.{Hearing, hearingOf, byte, more}
 use Rattle.recording.specs.declared.Stream.{Stream}
 use Rattle.recording.specs.declared.Moved.{Moved}
 
 -- m bytes at a place of a chunk: a length and its whole packet
-pub record Whole (chunk : List ℕ) (at m : ℕ) : Type 0 where
+pub record WholeAt (chunk : List ℕ) (at m : ℕ) : Type 0 where
   pub is : m ≡ 2 + field chunk at 2
   pub small : field chunk at 2 ≤ packetMost
   pub fits : at + m ≤ length chunk

@@ -1,20 +1,20 @@
--- A recording, byte by byte (document 01, "The sheet": "packets each behind a 2-byte length"; request 13: "chunks cut anywhere, even inside the 2-byte length").
+-- A recording that is heard by a receiver, in chunks of any size: its packets one after another, and what is counted of them (document 01, "The sheet").
 use Prim.Native.Nat.{ℕ, _+_, _-_, min}
 use mathlib.Core.Bool.{Bool}
 use mathlib.Core.List.{List, [], _∷_, _++_}
-use lib.ListN.{length, take, drop, replicate}
-use lib.Dec.{leb, ltb, eqb}
+use lib.ListN.{length, take, replicate}
+use lib.Dec.{leb, ltb}
 use Rattle.facts.specs.Pick.{pick, both, either}
-use Rattle.wire.specs.Le.{field}
 use Rattle.fields.specs.Fields.{refusal}
 use Rattle.facts.specs.Limits.{packetMost, holdLeast}
 use Rattle.arbitration.specs.declared.Counts.{Counts}
 use Rattle.arbitration.specs.Receive.{noCounts}
-use Rattle.arbitration.specs.Stream.{feed as each}
+use Rattle.arbitration.specs.Stream.{each}
 use Rattle.receiver.specs.Receiver.{nextOk}
 use Rattle.receiver.specs.Lent.{Lent, lent, ordersOf, symbolsOf, shelfOf, stateOf, received, sizesOk}
 use Rattle.receiver.specs.declared.State.{State}
 use Rattle.receiver.specs.declared.Received.{Received}
+use Rattle.recording.specs.Carve.{Hearer, Carved, carved, carve}
 use Rattle.recording.specs.declared.Stream.{Stream}
 use Rattle.recording.specs.declared.Fed.{Fed}
 
@@ -27,58 +27,47 @@ unfoldable pub added : Counts → Counts → Counts
 added t n = record { taken = more (n .taken) (t .taken); old = more (n .old) (t .old); far = more (n .far) (t .far); repeated = more (n .repeated) (t .repeated); differing = more (n .differing) (t .differing) }
 
 -- what packets change: the counts, and the receiver with its tables
-pub record Kept : Type 0 where
+pub record Standing : Type 0 where
   pub bad : ℕ
   pub totals : Counts
   pub lent : Lent
 
-abbrev pub kept : ℕ → Counts → Lent → Kept
-kept b n k = record { bad = b; totals = n; lent = k }
+abbrev pub standing : ℕ → Counts → Lent → Standing
+standing b n k = record { bad = b; totals = n; lent = k }
 
 -- "A refused packet is counted as bad and passed over"
-unfoldable pub counted : Received → Lent → Kept → Kept
-counted (Received.Accepted a) after k = kept (k .bad) (added (a .counts) (k .totals)) after
-counted (Received.Refused r) after k = kept (more (k .bad) 1) (k .totals) after
+unfoldable pub noted : Received → Lent → Standing → Standing
+noted (Received.Accepted a) after k = standing (k .bad) (added (a .counts) (k .totals)) after
+noted (Received.Refused r) after k = standing (more (k .bad) 1) (k .totals) after
 
-unfoldable pub heard : List ℕ → Kept → Kept
-heard p k = counted (received (k .lent) p .answer) (received (k .lent) p .after) k
+unfoldable pub heard : List ℕ → Standing → Standing
+heard p k = noted (received (k .lent) p .answer) (received (k .lent) p .after) k
 
 -- packet after packet
-unfoldable pub hears : List (List ℕ) → Kept → Kept
+unfoldable pub hears : List (List ℕ) → Standing → Standing
 hears [] k = k
 hears (p ∷ ps) k = hears ps (heard p k)
 
--- between two bytes: the bytes of an unfinished length and packet, and how many bytes of an over-long packet are still to come
-pub record Hearing : Type 0 where
-  pub unfinished : List ℕ
-  pub skip : ℕ
-  pub kept : Kept
+-- "A packet is 1 to 1,500 bytes": a longer one is passed over, and is bad when its last byte has come
+abbrev pub hearer : Hearer Standing
+hearer = record { over = λ n. ltb packetMost n; give = heard; long = λ k. standing (more (k .bad) 1) (k .totals) (k .lent) }
 
-abbrev pub hearing : List ℕ → ℕ → Kept → Hearing
-hearing u n k = record { unfinished = u; skip = n; kept = k }
+abbrev pub Hearing : Type 0
+Hearing = Carved Standing
 
--- "A packet is 1 to 1,500 bytes": a longer one is passed over, n bytes of it at once, and is bad when its last byte has come
-unfoldable pub passed : ℕ → Hearing → Hearing
-passed n x = hearing (x .unfinished) (x .skip - n) (kept (pick (eqb n (x .skip)) (more (x .kept .bad) 1) (x .kept .bad)) (x .kept .totals) (x .kept .lent))
-
--- the bytes of a length and its packet, one more than before: kept until they are all there
-unfoldable pub grown : List ℕ → Kept → Hearing
-grown u k =
-    pick (ltb (length u) 2) (hearing u 0 k)
-    (pick (ltb packetMost (field u 0 2)) (hearing [] (field u 0 2) k)
-    (pick (ltb (length u) (2 + field u 0 2)) (hearing u 0 k)
-    (hearing [] 0 (heard (take (field u 0 2) (drop 2 u)) k))))
+abbrev pub hearing : List ℕ → ℕ → Standing → Hearing
+hearing u n k = carved u n k
 
 -- what one byte does
-unfoldable pub byte : ℕ → Hearing → Hearing
-byte b x = pick (eqb (x .skip) 0) (grown (x .unfinished ++ (b ∷ [])) (x .kept)) (passed 1 x)
+abbrev pub byte : ℕ → Hearing → Hearing
+byte = carve hearer
 
 -- ---- the stream of the code: its state by value, the tables and the lent buffer
-abbrev pub keptOf : Stream → List ℕ → List ℕ → List ℕ → Kept
-keptOf k o s h = kept (k .bad) (k .totals) (lent o s h (k .receiver))
+abbrev pub standingOf : Stream → List ℕ → List ℕ → List ℕ → Standing
+standingOf k o s h = standing (k .bad) (k .totals) (lent o s h (k .receiver))
 
 abbrev pub hearingOf : Stream → List ℕ → List ℕ → List ℕ → List ℕ → Hearing
-hearingOf k o s h w = hearing (take (k .held) w) (k .skip) (keptOf k o s h)
+hearingOf k o s h w = hearing (take (k .held) w) (k .skip) (standingOf k o s h)
 
 -- nothing held, nothing to pass over, nothing counted
 abbrev pub opened : State → Stream
@@ -93,15 +82,15 @@ unfoldable pub feedable : Stream → ℕ → ℕ → ℕ → ℕ → Bool
 feedable k o s h w = both (both (sizesOk o s h) (nextOk (k .receiver .next))) (both (leb holdLeast w) (leb (k .held) w))
 
 -- an answer, and what was lent after it
-pub record Outcome : Type 0 where
+pub record Feeding : Type 0 where
   pub answer : Fed
   pub orders : List ℕ
   pub symbols : List ℕ
   pub shelf : List ℕ
   pub hold : List ℕ
 
-abbrev pub outcome : Fed → List ℕ → List ℕ → List ℕ → List ℕ → Outcome
-outcome a o s h w = record { answer = a; orders = o; symbols = s; shelf = h; hold = w }
+abbrev pub feeding : Fed → List ℕ → List ℕ → List ℕ → List ℕ → Feeding
+feeding a o s h w = record { answer = a; orders = o; symbols = s; shelf = h; hold = w }
 
 -- document 01's number of each answer, 0 where nothing is refused
 unfoldable pub fedNumber : Fed → ℕ
@@ -112,15 +101,15 @@ abbrev pub streamIn : Hearing → Stream
 streamIn x = record { receiver = stateOf (x .kept .lent); held = length (x .unfinished); skip = x .skip; bad = x .kept .bad; totals = x .kept .totals }
 
 -- the stream after a chunk: in a buffer of w bytes the unfinished ones, and zeros behind them
-unfoldable pub took : ℕ → Hearing → Outcome
+unfoldable pub took : ℕ → Hearing → Feeding
 took w x =
-    outcome (Fed.Took (streamIn x))
+    feeding (Fed.Took (streamIn x))
     (ordersOf (x .kept .lent)) (symbolsOf (x .kept .lent)) (shelfOf (x .kept .lent))
     (x .unfinished ++ replicate (w - length (x .unfinished)) 0)
 
 -- a chunk of any size, and a stream of any state with anything lent
-unfoldable pub fed : Stream → List ℕ → List ℕ → List ℕ → List ℕ → List ℕ → Outcome
+unfoldable pub fed : Stream → List ℕ → List ℕ → List ℕ → List ℕ → List ℕ → Feeding
 fed k o s h w chunk =
     pick (feedable k (length o) (length s) (length h) (length w))
     (took (length w) (each byte chunk (hearingOf k o s h w)))
-    (outcome (Fed.Refused (refusal 6)) o s h w)
+    (feeding (Fed.Refused (refusal 6)) o s h w)

@@ -1,7 +1,9 @@
--- A whole recording: what lies behind its last packet, and chunk after chunk from a start (document 01, "The sheet").
-use Prim.Native.Nat.{ℕ, zero, suc, _+_, _-_, _<_}
+-- A whole recording: its packets, what lies behind the last one, and chunk after chunk from a start (document 01, "The sheet").
+use Prim.Native.Nat.{ℕ, _+_, _-_, _≤_, _<_}
+use mathlib.Core.Path.{_≡_}
 use mathlib.Core.Logic.{_⊎_}
-use mathlib.Core.List.{List, [], _∷_}
+use mathlib.Core.Bool.{false}
+use mathlib.Core.List.{List, [], _∷_, _++_}
 use lib.ListN.{length, take, drop, replicate}
 use lib.Dec.{leb, ltb}
 use Rattle.facts.specs.Pick.{pick, both}
@@ -9,58 +11,65 @@ use Rattle.facts.specs.Limits.{packetMost}
 use Rattle.wire.specs.Le.{field}
 use Rattle.receiver.specs.Lent.{fresh, freshState}
 use Rattle.arbitration.specs.Receive.{noCounts}
-use Rattle.recording.specs.Stream.{Kept, kept, Hearing, hearing, opened, Outcome, outcome, fed}
+use Rattle.arbitration.specs.Stream.{each}
+use Rattle.recording.specs.Carve.{Hearer, Carved, carved, carve}
+use Rattle.recording.specs.Stream.{Standing, standing, Hearing, hearing, opened, Feeding, feeding, fed}
 use Rattle.recording.specs.declared.Fed.{Fed}
 
 -- ---- its packets
--- "packets each behind a 2-byte length"; "that last piece is dropped" where a recording ends inside a length or packet
-unfoldable pub packetsIn : ℕ → List ℕ → List (List ℕ)
-packetsIn zero t = []
-packetsIn (suc f) t =
-    pick (ltb (length t) 2) []
-    (pick (ltb (length t - 2) (field t 0 2)) []
-    (take (field t 0 2) (drop 2 t) ∷ packetsIn f (drop (2 + field t 0 2) t)))
+-- all of them as they are, over-long ones too, one after another
+abbrev pub collects : Hearer (List (List ℕ))
+collects = record { over = λ n. false; give = λ p ps. ps ++ (p ∷ []); long = λ ps. ps }
 
--- all of a recording; it has no more packets than bytes
+abbrev pub carvedAll : List ℕ → Carved (List (List ℕ))
+carvedAll t = each (carve collects) t (carved [] 0 [])
+
 abbrev pub packetsOf : List ℕ → List (List ℕ)
-packetsOf t = packetsIn (length t) t
+packetsOf t = carvedAll t .kept
 
--- ---- its end
--- "packets each behind a 2-byte length": how many bytes they are with their lengths
-unfoldable pub packed : List (List ℕ) → ℕ
-packed [] = 0
-packed (p ∷ ps) = 2 + length p + packed ps
-
--- what is left of a recording behind its last whole packet
+-- what is left behind the last whole packet; "that last piece is dropped"
 abbrev pub restOf : List ℕ → List ℕ
-restOf t = drop (packed (packetsOf t)) t
+restOf t = carvedAll t .unfinished
+
+-- ---- what they are (`packets-laid`, proofs/Packets.antt)
+-- a packet in front, behind its length
+pub record InFront (p t : List ℕ) : Type 0 where
+  pub length-there : 2 ≤ length t
+  pub length-is : field t 0 2 ≡ length p
+  pub bytes-are : take (length p) (drop 2 t) ≡ p
+
+-- "packets each behind a 2-byte length", and then u
+abbrev pub Laid : List (List ℕ) → List ℕ → List ℕ → Type 0
+Laid [] t u = t ≡ u
+Laid (p ∷ ps) t u = InFront p t × Laid ps (drop (2 + length p) t) u
 
 -- bytes that end "inside a length or packet", or where one would begin
 abbrev pub Inside : List ℕ → Type 0
 Inside u = (length u < 2) ⊎ (length u - 2 < field u 0 2)
 
+-- ---- its end
 -- such bytes and no more: the rest of an over-long packet is passed over, any other piece is held
-unfoldable pub waiting : List ℕ → Kept → Hearing
+unfoldable pub waiting : List ℕ → Standing → Hearing
 waiting u k = pick (both (leb 2 (length u)) (ltb packetMost (field u 0 2))) (hearing [] (field u 0 2 - (length u - 2)) k) (hearing u 0 k)
 
 -- ---- chunk after chunk
 -- over what the chunk before left; a refused one stays refused, and nothing is fed after it
-unfoldable pub fedOn : List ℕ → Outcome → Outcome
+unfoldable pub fedOn : List ℕ → Feeding → Feeding
 fedOn c x = go (x .answer)
   where
-    go : Fed → Outcome
+    go : Fed → Feeding
     go (Fed.Took k) = fed k (x .orders) (x .symbols) (x .shelf) (x .hold) c
     go (Fed.Refused r) = x
 
-unfoldable pub fedAll : List (List ℕ) → Outcome → Outcome
+unfoldable pub fedAll : List (List ℕ) → Feeding → Feeding
 fedAll [] x = x
 fedAll (c ∷ cs) x = fedAll cs (fedOn c x)
 
 -- ---- from a start
 -- nothing counted
-abbrev pub began : ℕ → ℕ → ℕ → Kept
-began o s h = kept 0 noCounts (fresh o s h)
+abbrev pub began : ℕ → ℕ → ℕ → Standing
+began o s h = standing 0 noCounts (fresh o s h)
 
 -- a stream that was opened over the tables of a start; w: the lent buffer, with any bytes
-abbrev pub openedOver : ℕ → ℕ → ℕ → List ℕ → Outcome
-openedOver o s h w = outcome (Fed.Took (opened freshState)) (replicate o 0) (replicate s 0) (replicate h 0) w
+abbrev pub openedOver : ℕ → ℕ → ℕ → List ℕ → Feeding
+openedOver o s h w = feeding (Fed.Took (opened freshState)) (replicate o 0) (replicate s 0) (replicate h 0) w

@@ -10,8 +10,8 @@ ghost use mathlib.Core.List.{_++_};
 ghost use Prim.Native.Nat.{_+_, _-_, _≤_, _<_};
 ghost use Rattle.facts.specs.Limits.{holdLeast};
 ghost use lib.ListN.{length, take, drop, set, replicate};
-ghost use Rattle.recording.specs.Stream.{more as atMost, added, heard, keptOf, hearingOf, opened, cut, feedable, outcome, fed};
-ghost use Rattle.recording.specs.Steps.{Whole, Passed, Pushed, Stepped, Ran};
+ghost use Rattle.recording.specs.Stream.{more as atMost, added, heard, standingOf, hearingOf, opened, cut, feedable, feeding, fed};
+ghost use Rattle.recording.specs.Steps.{WholeAt, Passed, Pushed, Stepped, Ran};
 
 // What a stream keeps between chunks, beside its buffer: the receiver, how many bytes of an unfinished packet are in the buffer, how many
 // of an over-long one are still to come, and the counts.
@@ -54,7 +54,7 @@ fn add(n: Counts, t: Counts) -> Counts
 
 // A whole packet: given to the receiver and counted. Nothing is held after it.
 fn hear(orders: &mut [u64], symbols: &mut [u8], shelf: &mut [u8], k: Stream, p: &[u8]) -> Stream
-    ensures { λ r. ⌜ (keptOf r (now (orders .exit)) (now (symbols .exit)) (now (shelf .exit)) ≡ heard (now (p .entry)) (keptOf k (now (orders .entry)) (now (symbols .entry)) (now (shelf .entry)))) × (r .held ≡ 0) × (r .skip ≡ 0) ⌝ }
+    ensures { λ r. ⌜ (standingOf r (now (orders .exit)) (now (symbols .exit)) (now (shelf .exit)) ≡ heard (now (p .entry)) (standingOf k (now (orders .entry)) (now (symbols .entry)) (now (shelf .entry)))) × (r .held ≡ 0) × (r .skip ≡ 0) ⌝ }
 {
     let a = receiver::receive(orders, symbols, shelf, k.receiver, p);
     let receiver = a.state;
@@ -150,7 +150,7 @@ fn push(
 // How many bytes a whole packet of at most 1,500 bytes at this place has with its length; 0 where none lies there.
 fn whole(chunk: &[u8], at: usize) -> usize
     requires { ⌜ at < length (now chunk) ⌝ }
-    ensures { λ r. ⌜ (0 < r → Whole (now (chunk .entry)) at r) ⌝ }
+    ensures { λ r. ⌜ (0 < r → WholeAt (now (chunk .entry)) at r) ⌝ }
 {
     let left = chunk.len() - at;
     let n = wire::u16_at(chunk, at) as usize;
@@ -173,8 +173,8 @@ fn give(
     at: usize,
     n: usize,
 ) -> Stream
-    requires { ⌜ Whole (now chunk) at n ⌝ }
-    ensures { λ r. ⌜ (keptOf r (now (orders .exit)) (now (symbols .exit)) (now (shelf .exit)) ≡ heard (take (at + n - (at + 2)) (drop (at + 2) (now (chunk .entry)))) (keptOf k (now (orders .entry)) (now (symbols .entry)) (now (shelf .entry)))) × (r .held ≡ 0) × (r .skip ≡ 0) ⌝ }
+    requires { ⌜ WholeAt (now chunk) at n ⌝ }
+    ensures { λ r. ⌜ (standingOf r (now (orders .exit)) (now (symbols .exit)) (now (shelf .exit)) ≡ heard (take (at + n - (at + 2)) (drop (at + 2) (now (chunk .entry)))) (standingOf k (now (orders .entry)) (now (symbols .entry)) (now (shelf .entry)))) × (r .held ≡ 0) × (r .skip ≡ 0) ⌝ }
 {
     hear(orders, symbols, shelf, k, &chunk[at + 2..at + n])
 }
@@ -280,7 +280,7 @@ pub fn feed(
     s: Stream,
     chunk: &[u8],
 ) -> Fed
-    ensures { λ r. ⌜ outcome r (now (orders .exit)) (now (symbols .exit)) (now (shelf .exit)) (now (hold .exit)) ≡ fed s (now (orders .entry)) (now (symbols .entry)) (now (shelf .entry)) (now (hold .entry)) (now (chunk .entry)) ⌝ }
+    ensures { λ r. ⌜ feeding r (now (orders .exit)) (now (symbols .exit)) (now (shelf .exit)) (now (hold .exit)) ≡ fed s (now (orders .entry)) (now (symbols .entry)) (now (shelf .entry)) (now (hold .entry)) (now (chunk .entry)) ⌝ }
 {
     if !can_feed(s, orders.len(), symbols.len(), shelf.len(), hold.len()) {
         return Fed::Refused(Refusal { number: 6 });

@@ -126,10 +126,6 @@ rows-good n h = fits-good 5 mostRows n h
 pub rows-not-good : (n : ℕ) → (RowsFit n → ⊥) → false ≡ goodRows n
 rows-not-good n h = refuted (goodRows n) (λ e. h (good-rows n e))
 
--- the most rows there may be, for bounds of sums and places
-pub rows-fit : mostRows ≤ 16384
-rows-fit = omega arith
-
 -- ---- a number that decides before the row is judged
 pub other-number : (a b : ℕ) (l : Bool) → (a ≡ b → ⊥) → false ≡ both (eqb a b) l
 unfolding both

@@ -18,17 +18,21 @@ rowOf x = record { order = getD x 0 0; key = getD x 1 0; price = getD x 2 0; siz
 unfoldable pub numbersOf : Row → List ℕ
 numbersOf r = r .order ∷ r .key ∷ r .price ∷ r .size ∷ r .rank ∷ []
 
+-- "five to a row"
+abbrev pub rowSize : ℕ
+rowSize = 5
+
 -- the rows of a table; numbers behind the last whole row are none
 unfoldable pub rows : List ℕ → List Row
-rows t = map rowOf (pieces 5 t)
+rows t = map rowOf (pieces rowSize t)
 
 -- how many rows a table has
 abbrev pub rowCount : List ℕ → ℕ
-rowCount t = length t / 5
+rowCount t = length t / rowSize
 
 -- the numbers behind the last whole row
 unfoldable pub rest : List ℕ → List ℕ
-rest t = drop (5 * rowCount t) t
+rest t = drop (rowSize * rowCount t) t
 
 -- the table of whole rows
 unfoldable pub flat : List Row → List ℕ
@@ -36,7 +40,7 @@ flat rs = join (map numbersOf rs)
 
 -- the table with r as its row i; without such a row, as it is
 unfoldable pub putRow : List ℕ → ℕ → Row → List ℕ
-putRow t i r = putPiece 5 t i (numbersOf r)
+putRow t i r = putPiece rowSize t i (numbersOf r)
 
 unfoldable pub zeroRow : Row
 zeroRow = record { order = 0; key = 0; price = 0; size = 0; rank = 0 }
@@ -61,4 +65,4 @@ spoiled r = not (either (free r) (live r))
 
 -- no refusal 6 for a table of n numbers ("Capacity 1 to 1,600 rows"; "a table size outside these limits or not in whole rows")
 unfoldable pub goodRows : ℕ → Bool
-goodRows n = both (eqb (n % 5) 0) (both (leb 1 (n / 5)) (leb (n / 5) mostRows))
+goodRows n = both (eqb (n % rowSize) 0) (both (leb 1 (n / rowSize)) (leb (n / rowSize) mostRows))

@@ -7,6 +7,9 @@ ghost use Rattle.rows.specs.Rows.{rows, rowCount, putRow, zeroRow, free,
 ghost use Rattle.rows.specs.Find.{isOrder, findOrder, findFree, heldAt, ofSymbol, ofKey, countLive};
 use facts::Found;
 
+// "five to a row"
+pub const ROW_SIZE: usize = 5;
+
 // key: the symbol and the side, by `key_for`.
 pub struct Row {
     pub order: u64,
@@ -63,7 +66,7 @@ pub fn zero_row() -> Row
 pub fn row_count(t: &[u64]) -> usize
     ensures { λ r. ⌜ r ≡ rowCount (now (t .entry)) ⌝ }
 {
-    t.len() / 5
+    t.len() / ROW_SIZE
 }
 
 // A row that is there.
@@ -71,7 +74,7 @@ fn row_in(t: &[u64], i: usize) -> Row
     requires { ⌜ i < rowCount (now t) ⌝ }
     ensures { λ r. ⌜ r ≡ getD (rows (now (t .entry))) i zeroRow ⌝ }
 {
-    let b = 5 * i;
+    let b = ROW_SIZE * i;
     Row {
         order: t[b],
         key: t[b + 1],
@@ -97,7 +100,7 @@ pub fn put_row(t: &mut [u64], i: usize, r: Row)
     if row_count(t) <= i {
         return;
     }
-    let b = 5 * i;
+    let b = ROW_SIZE * i;
     t[b] = r.order;
     t[b + 1] = r.key;
     t[b + 2] = r.price;
@@ -181,10 +184,10 @@ pub fn of_key(r: Row, key: u64) -> bool
 pub fn good_rows(n: usize) -> bool
     ensures { λ b. ⌜ b ≡ goodRows n ⌝ }
 {
-    if n % 5 != 0 {
+    if n % ROW_SIZE != 0 {
         return false;
     }
-    let k = n / 5;
+    let k = n / ROW_SIZE;
     if k < 1 {
         return false;
     }

@@ -10,8 +10,8 @@ use receiver::State;
 use recording::Fed;
 use recording::Stream;
 
-// "It uses full capacities": five numbers a row.
-const ORDERS: usize = 5 * facts::MOST_ROWS;
+// "It uses full capacities"
+const ORDERS: usize = rows::ROW_SIZE * facts::MOST_ROWS;
 
 const SYMBOLS: usize = facts::ENTRY_SIZE * facts::MOST_ENTRIES;
 

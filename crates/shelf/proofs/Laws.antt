@@ -20,7 +20,7 @@ use Rattle.wire.specs.Le.{le, toLe, field, padded}
 use Rattle.wire.proofs.Laws.{length-padded, getD-padded, padded-part, length-toLe, stored-behind}
 use Rattle.arbitration.specs.Slots.{Slot, emptySlot, slotFor, slotBody, sameBytes, sameSlot}
 use Rattle.arbitration.proofs.SlotLaws.{same-bytes-refl, bytes-differ}
-use Rattle.shelf.specs.Shelf.{slotSize, goodShelf, slotOf, bytesOf, slotAt, putSlot}
+use Rattle.shelf.specs.Shelf.{slotSize, goodShelf, slotFrom, bytesOf, slotAt, putSlot}
 use Rattle.shelf.proofs.StoreLaws.{length-bytes}
 
 -- ---- the bytes of a slot, as the code cuts them out
@@ -30,7 +30,7 @@ slot-in t i h = rw (add-sub-cancel-left (74 * i) 74) (sym (getD-pieces slotSize 
 pub slot-past : (t : List ℕ) (i : ℕ) → length t / 74 ≤ i → [] ≡ getD (pieces slotSize t) i []
 slot-past t i h = sym (List·getD-eq-default (pieces slotSize t) [] (rw length-pieces h))
 
--- whole, or none
+-- slots-64, or none
 slot-cases : (t : List ℕ) (i : ℕ) → (length (getD (pieces slotSize t) i []) ≡ 74) ⊎ ([] ≡ getD (pieces slotSize t) i [])
 slot-cases t i = go (decLt i (length t / slotSize))
   where
@@ -40,20 +40,20 @@ slot-cases t i = go (decLt i (length t / slotSize))
 
 -- ---- what is read of them
 module _ (t : List ℕ) (i : ℕ) (x : List ℕ) (is : x ≡ getD (pieces slotSize t) i []) where
-  slot-is : slotOf x ≡ slotAt t i
+  slot-is : slotFrom x ≡ slotAt t i
   unfolding slotAt
-  slot-is = ap slotOf is
+  slot-is = ap slotFrom is
 
   pub number-is : field x 0 8 ≡ slotAt t i .number
-  unfolding slotOf
+  unfolding slotFrom
   number-is = ap (λ (s : Slot). s .number) slot-is
 
   pub len-is : field x 8 2 ≡ slotAt t i .len
-  unfolding slotOf
+  unfolding slotFrom
   len-is = ap (λ (s : Slot). s .len) slot-is
 
   body-is : (n : ℕ) → n ≡ field x 8 2 → take n (padded x 10 64) ≡ slotBody (slotAt t i)
-  unfolding slotOf
+  unfolding slotFrom
   body-is n e = ap (λ (k : ℕ). take k (padded x 10 64)) e ∙ ap slotBody slot-is
 
   -- the three ways in which the code cuts the body out
@@ -78,15 +78,15 @@ module _ (t : List ℕ) (i : ℕ) (x : List ℕ) (is : x ≡ getD (pieces slotSi
   -- the three tests of `holds`
   module _ (n : ℕ) (b : List ℕ) where
     pub other-number : field x 0 8 ≢ n → false ≡ sameSlot (slotAt t i) (slotFor n b)
-    unfolding sameSlot both slotOf
+    unfolding sameSlot both slotFrom
     other-number d = rw (← slot-is, ne-eqb (field x 0 8) n d)
 
     pub other-length : field x 0 8 ≡ n → field x 8 2 ≢ length b → false ≡ sameSlot (slotAt t i) (slotFor n b)
-    unfolding sameSlot both slotOf
+    unfolding sameSlot both slotFrom
     other-length e d = rw (← slot-is, eq-eqb (field x 0 8) n e, ne-eqb (field x 8 2) (length b) d)
 
     pub bytes-decide : field x 0 8 ≡ n → field x 8 2 ≡ length b → sameBytes (padded x 10 64) (padded b 0 64) ≡ sameSlot (slotAt t i) (slotFor n b)
-    unfolding sameSlot both slotOf
+    unfolding sameSlot both slotFrom
     bytes-decide e d = rw (← slot-is, eq-eqb (field x 0 8) n e, eq-eqb (field x 8 2) (length b) d)
 
 -- ---- comparing 64 bytes behind ten with a body and the zeros behind it
@@ -147,28 +147,20 @@ module _ (x : List ℕ) (n : ℕ) (b one two y : List ℕ) (l : length x ≡ 74)
       let lr : length r ≡ 64 = rw (length-drop, length-drop) (omega arith) in
       let front : take 10 two ≡ p ++ q = rw second (take-at (p ++ q) r 10 lh) in
       let behind : drop 10 two ≡ r = rw second (drop-at (p ++ q) r 10 lh) in
-      let whole : y ≡ padded b 0 64 = rw (behind, length-take-le 64 r (omega arith)) at e3 in
-      rw (front, behind, whole, drop-of-length-le r {i = 64} (omega arith), append-nil) (append-assoc p q (padded b 0 64))
+      let slots-64 : y ≡ padded b 0 64 = rw (behind, length-take-le 64 r (omega arith)) at e3 in
+      rw (front, behind, slots-64, drop-of-length-le r {i = 64} (omega arith), append-nil) (append-assoc p q (padded b 0 64))
 
 -- ---- sizes and starts
 pub good-size : (n : ℕ) → goodShelf n ≡ true → n ≡ shelfSize
 unfolding goodShelf
 good-size n e = eqb-true n shelfSize e
 
-pub size-good : (n : ℕ) → n ≡ shelfSize → goodShelf n ≡ true
-unfolding goodShelf
-size-good n e = eq-eqb n shelfSize e
-
-pub other-size : (n : ℕ) → n ≢ shelfSize → goodShelf n ≡ false
-unfolding goodShelf
-other-size n d = ne-eqb n shelfSize d
-
 -- every slot of zeros is empty, there or not
 pub zeros-empty : (n i : ℕ) → slotAt (replicate n 0) i ≡ emptySlot
-unfolding slotAt slotOf field padded le
-zeros-empty n i = ap (λ (l : List (List ℕ)). slotOf (getD l i [])) (pieces-replicate slotSize n 0) ∙ go (n / slotSize) i
+unfolding slotAt slotFrom field padded le
+zeros-empty n i = ap (λ (l : List (List ℕ)). slotFrom (getD l i [])) (pieces-replicate slotSize n 0) ∙ go (n / slotSize) i
   where
-    go : (m j : ℕ) → slotOf (getD (replicate m (replicate slotSize 0)) j []) ≡ emptySlot
+    go : (m j : ℕ) → slotFrom (getD (replicate m (replicate slotSize 0)) j []) ≡ emptySlot
     go zero j = refl
     go (suc m) zero = refl
     go (suc m) (suc j) = go m j

@@ -14,7 +14,7 @@ use Rattle.wire.specs.Le.{toLe, field, padded}
 use Rattle.wire.proofs.Laws.{length-toLe, le-toLe}
 use Rattle.arbitration.specs.Slots.{Slot, Fits}
 use Rattle.arbitration.specs.Engine.{StoreLaws}
-use Rattle.shelf.specs.Shelf.{slotSize, slotOf, bytesOf, slotAt, putSlot}
+use Rattle.shelf.specs.Shelf.{slotSize, slotFrom, bytesOf, slotAt, putSlot}
 use Rattle.shelf.specs.Store.{shelfStore}
 
 -- ---- a slot and its bytes
@@ -22,8 +22,8 @@ pub length-bytes : (s : Slot) → length (s .bytes) ≡ 64 → length (bytesOf s
 unfolding bytesOf
 length-bytes s h = simp (length-append, length-toLe) (omega arith)
 
-pub slot-back : (s : Slot) → Fits s → slotOf (bytesOf s) ≡ s
-unfolding slotOf bytesOf field padded toLe
+pub slot-back : (s : Slot) → Fits s → slotFrom (bytesOf s) ≡ s
+unfolding slotFrom bytesOf field padded toLe
 slot-back s f = λ i. record {
   number = le-toLe 8 (s .number) (f .number-fits) i;
   len = le-toLe 2 (s .len) (f .len-fits) i;
@@ -38,23 +38,23 @@ module _ (t : List ℕ) (i : ℕ) (s : Slot) (f : Fits s) where
 
   pub slot-same : i < length t / slotSize → slotAt (putSlot t i s) i ≡ s
   unfolding slotAt
-  slot-same h = rw slots-put (ap slotOf (getD-set-same (pieces slotSize t) i (bytesOf s) [] (rw length-pieces h)) ∙ slot-back s f)
+  slot-same h = rw slots-put (ap slotFrom (getD-set-same (pieces slotSize t) i (bytesOf s) [] (rw length-pieces h)) ∙ slot-back s f)
 
   pub slot-other : (j : ℕ) → j ≢ i → slotAt (putSlot t i s) j ≡ slotAt t j
   unfolding slotAt
-  slot-other j n = rw slots-put (ap slotOf (getD-set-other (pieces slotSize t) i j (bytesOf s) [] n))
+  slot-other j n = rw slots-put (ap slotFrom (getD-set-other (pieces slotSize t) i j (bytesOf s) [] n))
 
 pub length-put-slot : (t : List ℕ) (i : ℕ) (s : Slot) → length (putSlot t i s) ≡ length t
 unfolding putSlot
 length-put-slot t i s = length-put slotSize t i (bytesOf s)
 
 -- a shelf of the right size has 64 slots
-pub whole : (t : List ℕ) → length t ≡ shelfSize → length t / slotSize ≡ 64
-whole t h = omega arith
+pub slots-64 : (t : List ℕ) → length t ≡ shelfSize → length t / slotSize ≡ 64
+slots-64 t h = omega arith
 
 pub shelfLaws : StoreLaws shelfStore
 shelfLaws = record {
   ok-put = λ t i s o h f. length-put-slot t i s ∙ o;
-  get-same = λ t i s o h f. slot-same t i s f (omega (arith, whole t o));
+  get-same = λ t i s o h f. slot-same t i s f (omega (arith, slots-64 t o));
   get-other = λ t i j s o h l n f. slot-other t i s f j n;
 }

@@ -13,13 +13,13 @@ use Rattle.arbitration.specs.Slots.{Slot}
 abbrev pub slotSize : ℕ
 slotSize = 74
 
--- no refusal 6 for a shelf of n bytes ("a table size outside these limits or not in whole rows")
+-- no refusal 6 for a shelf of n bytes ("a table size outside these limits or not in slots-64 rows")
 unfoldable pub goodShelf : ℕ → Bool
 goodShelf n = eqb n shelfSize
 
 -- the slot that its bytes are
-unfoldable pub slotOf : List ℕ → Slot
-slotOf x = record { number = field x 0 8; len = field x 8 2; bytes = padded x 10 64 }
+unfoldable pub slotFrom : List ℕ → Slot
+slotFrom x = record { number = field x 0 8; len = field x 8 2; bytes = padded x 10 64 }
 
 -- the bytes that a slot is
 unfoldable pub bytesOf : Slot → List ℕ
@@ -27,7 +27,7 @@ bytesOf s = toLe 8 (s .number) ++ (toLe 2 (s .len) ++ s .bytes)
 
 -- slot i of a run of bytes; where there is none, an empty one
 unfoldable pub slotAt : List ℕ → ℕ → Slot
-slotAt t i = slotOf (getD (pieces slotSize t) i [])
+slotAt t i = slotFrom (getD (pieces slotSize t) i [])
 
 -- the run with s as its slot i; without such a slot, as it is
 unfoldable pub putSlot : List ℕ → ℕ → Slot → List ℕ

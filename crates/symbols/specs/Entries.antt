@@ -7,7 +7,8 @@ use lib.Dec.{leb, eqb}
 use Rattle.facts.specs.Limits.{entrySize, mostEntries}
 use Rattle.facts.specs.Pick.{both, either}
 use Rattle.facts.specs.Pieces.{pieces, putPiece}
-use Rattle.wire.specs.Le.{field, padded}
+use Rattle.wire.specs.Le.{padded}
+use Rattle.fields.specs.Fields.{symbolOf}
 
 -- no refusal 6 for a table of n bytes ("1 to 1,000 entries of 42 bytes"; "a table size outside these limits or not in whole rows")
 unfoldable pub goodEntries : ℕ → Bool
@@ -43,4 +44,4 @@ spoiledEntry e = not (either (used e) (freeEntry e))
 
 -- "symbol 5-8"
 abbrev pub idOf : List ℕ → ℕ
-idOf e = field e 5 4
+idOf e = symbolOf e .id

@@ -1,6 +1,6 @@
 -- A live row has one key, and a key one symbol and side; so a symbol's two ladders hold its live shares, and a live row on each side leaves no spread none.
 -- Assumes nothing.
-use mathlib.Core.Path.{_≡_, refl, sym, ap, _∙_}
+use mathlib.Core.Path.{_≡_, refl, sym}
 use mathlib.Core.List.{List, [], _∷_}
 use mathlib.Core.Bool.{true, false}
 use Prim.Native.Nat.{ℕ, _+_, _≤_}

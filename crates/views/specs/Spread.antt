@@ -1,7 +1,7 @@
 -- The spread (document 01: "The spread is best offer less best bid in millionths, signed, so a crossed book is negative; with a side empty the answer is none").
 use Prim.Native.Nat.{ℕ}
 use mathlib.Core.List.{List, [], _∷_}
-use lib.IntN.{ℤ, pos, _-ℤ_}
+use lib.IntN.{pos, _-ℤ_}
 use Rattle.rows.specs.declared.Row.{Row}
 use Rattle.views.specs.declared.Side.{Side}
 use Rattle.views.specs.declared.SpreadAnswer.{SpreadAnswer}

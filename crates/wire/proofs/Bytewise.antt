@@ -7,9 +7,6 @@ use lib.ListN.{take, drop, getD, replicate}
 use lib.Seq.{getD-drop}
 use Rattle.wire.specs.Le.{Bytes, padded}
 
-pub bytes-none : Bytes []
-bytes-none i = omega arith
-
 pub bytes-take : (n : ℕ) (b : List ℕ) → Bytes b → Bytes (take n b)
 bytes-take zero b h i = omega arith
 bytes-take (suc n) [] h i = h i

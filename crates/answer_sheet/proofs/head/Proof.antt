@@ -1,4 +1,4 @@
--- Four appends, each where the one before ended.
+-- Four appends, each where the one before ended; the stop is a field of eight bits.
 -- Assumes nothing.
 use Rattle.answer_sheet.specs.Keys.{badKey, nextKey, stopKey}
 use Rattle.answer_sheet.specs.Sheet.{headLines}

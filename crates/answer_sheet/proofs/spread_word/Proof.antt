@@ -1,15 +1,12 @@
--- Each answer is its own case of the definition.
+-- Each answer is its own case of the definition; a signed number is its own bits read back.
 -- Assumes nothing.
-use Rattle.text.proofs.Laws.{wrote-none, wrote-as}
 use mathlib.Core.Path.{ap}
 use mir.Syntax.{w64}
 use mir.ValLaws.{toZ-ofZ}
 use Rattle.text.specs.Text.{signedOf}
--- Each answer is its own case of the definition.
--- Assumes nothing.
+use Rattle.text.proofs.Laws.{wrote-none, wrote-as}
 use Rattle.answer_sheet.specs.Keys.{noneWord}
 use Rattle.answer_sheet.specs.Sheet.{spreadWord}
-use Rattle.text.proofs.Laws.{wrote-none}
 use borrow.Author.Needs.{needs}
 use Rattle.answer_sheet.proofs.spread_word.Statement.{statement}
 use Rattle.answer_sheet.proofs.spread_word.Tie as tie

@@ -1,4 +1,4 @@
--- Three appends, each where the one before ended.
+-- Three appends, each where the one before ended; the second is an argument of 32 bits.
 -- Assumes nothing.
 use Rattle.answer_sheet.specs.Keys.{secondKey, symbolsKey, ordersKey}
 use Rattle.answer_sheet.specs.Sheet.{tableLines}

@@ -1,6 +1,6 @@
 -- Zeros in the place of what lies behind the bytes held.
 -- Assumes nothing.
-use Rattle.recording.proofs.Exits.{cleared}
+use Rattle.recording.proofs.Exits.{clear-zeros}
 use borrow.Author.Needs.{needs}
 use Rattle.recording.proofs.clear.Statement.{statement}
 use Rattle.recording.proofs.clear.Tie as tie
@@ -21,7 +21,7 @@ same-length : tie.Need-same-length
 same-length c = search needs
 
 returns : tie.Need-returns
-returns c = cleared (c .before .before .before .before .before .args .hold .now) (c .before .before .before .before .before .args .held) (c .before .before .wipe .last .0) (c .before .before .before .before .before .pre) (c .before .before .wipe .ensures)
+returns c = clear-zeros (c .before .before .before .before .before .args .hold .now) (c .before .before .before .before .before .args .held) (c .before .before .wipe .last .0) (c .before .before .before .before .before .pre) (c .before .before .wipe .ensures)
 
 pub clear-spec : {M : Type 1} → statement M
 clear-spec =

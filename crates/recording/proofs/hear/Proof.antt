@@ -2,7 +2,7 @@
 -- Assumes nothing.
 use mathlib.Core.Path.{refl}
 use Rattle.receiver.specs.Lent.{handled}
-use Rattle.recording.specs.Stream.{keptOf}
+use Rattle.recording.specs.Stream.{standingOf}
 use Rattle.recording.proofs.Exits.{heard-accepted, heard-refused}
 use borrow.Author.Needs.{needs}
 use Rattle.recording.proofs.hear.Statement.{statement}
@@ -33,7 +33,7 @@ same-length-3 : tie.Need-same-length-3
 same-length-3 c = search needs
 
 returns : tie.Need-returns
-returns c = (heard-accepted (keptOf (c .before .before .before .before .before .before .before .before .before .before .before .before .before .before .before .before .before .before .before .before .before .args .k) (c .before .before .before .before .before .before .before .before .before .before .before .before .before .before .before .before .before .before .before .before .before .args .orders .now) (c .before .before .before .before .before .before .before .before .before .before .before .before .before .before .before .before .before .before .before .before .before .args .symbols .now) (c .before .before .before .before .before .before .before .before .before .before .before .before .before .before .before .before .before .before .before .before .before .args .shelf .now)) (c .before .before .before .before .before .before .before .before .before .before .before .before .before .before .before .before .before .before .before .before .before .args .p .now) (handled (c .before .before .before .before .before .before .before .before .before .before .before .before .before .receive .result .answer) _) (c .before .before .before .before .before .before .before .before .before .before .before .before .before .receive .ensures) _ (c .before .before .before .answer .given .1) (c .add .result) (c .add .ensures), refl, refl)
+returns c = (heard-accepted (standingOf (c .before .before .before .before .before .before .before .before .before .before .before .before .before .before .before .before .before .before .before .before .before .args .k) (c .before .before .before .before .before .before .before .before .before .before .before .before .before .before .before .before .before .before .before .before .before .args .orders .now) (c .before .before .before .before .before .before .before .before .before .before .before .before .before .before .before .before .before .before .before .before .before .args .symbols .now) (c .before .before .before .before .before .before .before .before .before .before .before .before .before .before .before .before .before .before .before .before .before .args .shelf .now)) (c .before .before .before .before .before .before .before .before .before .before .before .before .before .before .before .before .before .before .before .before .before .args .p .now) (handled (c .before .before .before .before .before .before .before .before .before .before .before .before .before .receive .result .answer) _) (c .before .before .before .before .before .before .before .before .before .before .before .before .before .receive .ensures) _ (c .before .before .before .answer .given .1) (c .add .result) (c .add .ensures), refl, refl)
 
 same-length-4 : tie.Need-same-length-4
 same-length-4 c = search needs
@@ -45,7 +45,7 @@ same-length-6 : tie.Need-same-length-6
 same-length-6 c = search needs
 
 returns-2 : tie.Need-returns-2
-returns-2 c = (heard-refused (keptOf (c .before .before .before .before .before .before .before .before .before .before .before .before .before .before .before .before .before .before .before .args .k) (c .before .before .before .before .before .before .before .before .before .before .before .before .before .before .before .before .before .before .before .args .orders .now) (c .before .before .before .before .before .before .before .before .before .before .before .before .before .before .before .before .before .before .before .args .symbols .now) (c .before .before .before .before .before .before .before .before .before .before .before .before .before .before .before .before .before .before .before .args .shelf .now)) (c .before .before .before .before .before .before .before .before .before .before .before .before .before .before .before .before .before .before .before .args .p .now) (handled (c .before .before .before .before .before .before .before .before .before .before .before .receive .result .answer) _) (c .before .before .before .before .before .before .before .before .before .before .before .receive .ensures) _ (c .before .enum-told .given .1) (c .more .result) (c .more .ensures), refl, refl)
+returns-2 c = (heard-refused (standingOf (c .before .before .before .before .before .before .before .before .before .before .before .before .before .before .before .before .before .before .before .args .k) (c .before .before .before .before .before .before .before .before .before .before .before .before .before .before .before .before .before .before .before .args .orders .now) (c .before .before .before .before .before .before .before .before .before .before .before .before .before .before .before .before .before .before .before .args .symbols .now) (c .before .before .before .before .before .before .before .before .before .before .before .before .before .before .before .before .before .before .before .args .shelf .now)) (c .before .before .before .before .before .before .before .before .before .before .before .before .before .before .before .before .before .before .before .args .p .now) (handled (c .before .before .before .before .before .before .before .before .before .before .before .receive .result .answer) _) (c .before .before .before .before .before .before .before .before .before .before .before .receive .ensures) _ (c .before .enum-told .given .1) (c .more .result) (c .more .ensures), refl, refl)
 
 pub hear-spec : {M : Type 1} → statement M
 hear-spec =

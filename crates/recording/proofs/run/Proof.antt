@@ -5,7 +5,7 @@ use Prim.Native.Nat.{_-_, _≤_}
 use native.Mathlib.Omega.{arith}
 use borrow.Author.Needs.{needs}
 use lib.ListN.{length, drop}
-use Rattle.arbitration.specs.Stream.{feed as each}
+use Rattle.arbitration.specs.Stream.{each}
 use Rattle.recording.specs.Stream.{hearingOf, byte}
 use Rattle.recording.proofs.Exits.{ran}
 use Rattle.recording.proofs.run.Statement.{statement}

@@ -1,11 +1,11 @@
 -- What was added up so far and what the rows left add up to make the whole sums; each turn takes one row off. A table of good size bounds both.
 -- Assumes nothing.
-use mathlib.Core.Path.{_≡_, refl, sym, ap, _∙_}
+use mathlib.Core.Path.{_≡_, sym, ap, _∙_}
 use mathlib.Core.Bool.{true, false}
 use mathlib.Core.Logic.{⊎-elim}
-use Prim.Native.Nat.{_≤_, _+_, _-_, _/_}
+use Prim.Native.Nat.{_≤_, _+_, _-_}
 use native.Mathlib.Omega.{arith}
-use lib.ListN.{length, getD, drop}
+use lib.ListN.{getD, drop}
 use borrow.Author.Needs.{needs}
 use Rattle.facts.specs.Sums.{sumBy, countBy}
 use Rattle.facts.proofs.SumLaws.{only-yes, only-no}

@@ -1,9 +1,9 @@
 -- The nearer of the best so far and the nearest among the rows left is the nearest of all; each turn takes one row off.
 -- Assumes nothing.
-use mathlib.Core.Path.{_≡_, refl, sym, ap, _∙_}
-use Prim.Native.Nat.{_≤_, _-_, _/_, min}
+use mathlib.Core.Path.{_≡_, sym, ap, _∙_}
+use Prim.Native.Nat.{_≤_, _-_, min}
 use native.Mathlib.Omega.{arith}
-use lib.ListN.{length, getD, drop}
+use lib.ListN.{getD, drop}
 use borrow.Author.Needs.{needs}
 use Rattle.rows.specs.Rows.{rows, rowCount, zeroRow}
 use Rattle.ascend.specs.Ascend.{leastFrom}
