@@ -18,11 +18,11 @@ enum-known-answer c = search needs
 enum-known-answer-2 : tie.Need-enum-known-answer-2
 enum-known-answer-2 c = search needs
 
-cast-t21 : tie.Need-cast-t21
-cast-t21 c = search needs
-
 cast-t22 : tie.Need-cast-t22
 cast-t22 c = search needs
+
+cast-t23 : tie.Need-cast-t23
+cast-t23 c = search needs
 
 account-numbers-requires : tie.Need-account-numbers-requires
 account-numbers-requires c κs = search needs
@@ -50,7 +50,7 @@ same-length-6 : tie.Need-same-length-6
 same-length-6 c = search needs
 
 returns-2 : tie.Need-returns-2
-returns-2 c = receive-accepted _ _ _ _ _ _ (rw (c .before .before .before .before .before .before .before .before .before .before .before .before .before .before .before .state-in .ensures) at (c .before .before .before .before .before .before .before .before .before .before .before .before .before .before .receive .ensures)) _ _ _ (c .before .before .before .before .before .answer2 .given .1) _ (c .account-numbers .ensures)
+returns-2 c = receive-accepted _ _ _ _ _ _ (rw (c .before .before .before .before .before .before .before .before .before .before .before .before .before .before .before .before .state-in .ensures) at (c .before .before .before .before .before .before .before .before .before .before .before .before .before .before .before .receive .ensures)) _ _ _ (c .before .before .before .before .before .before .answer2 .given .1) _ (c .account-numbers .ensures)
 
 pub rimeheath-receive-spec : {M : Type 1} → statement M
 rimeheath-receive-spec =
@@ -60,8 +60,8 @@ rimeheath-receive-spec =
     receive-requires
     enum-known-answer
     enum-known-answer-2
-    cast-t21
     cast-t22
+    cast-t23
     account-numbers-requires
     same-length
     same-length-2

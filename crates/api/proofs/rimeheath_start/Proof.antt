@@ -15,11 +15,11 @@ enum-known-r c = search needs
 enum-known-s : tie.Need-enum-known-s
 enum-known-s c = search needs
 
-cast-t15 : tie.Need-cast-t15
-cast-t15 c = search needs
-
 cast-t16 : tie.Need-cast-t16
 cast-t16 c = search needs
+
+cast-t17 : tie.Need-cast-t17
+cast-t17 c = search needs
 
 same-length : tie.Need-same-length
 same-length c = search needs
@@ -45,7 +45,7 @@ same-length-6 c = search needs
 
 returns-2 : tie.Need-returns-2
 unfolding startAnswer
-returns-2 c = start-handed _ _ (c .before .before .before .before .s .given .1) _ _ _ _ (c .before .before .before .before .before .before .before .before .before .before .before .before .start .ensures) (c .before .before .before .before .before .before .before .before .before .before .before .before .before .before .before .before .before .before .before .args .state .now)
+returns-2 c = start-handed _ _ (c .before .before .before .before .before .s .given .1) _ _ _ _ (c .before .before .before .before .before .before .before .before .before .before .before .before .before .start .ensures) (c .before .before .before .before .before .before .before .before .before .before .before .before .before .before .before .before .before .before .before .before .args .state .now)
 
 pub rimeheath-start-spec : {M : Type 1} → statement M
 rimeheath-start-spec =
@@ -54,8 +54,8 @@ rimeheath-start-spec =
     start-requires
     enum-known-r
     enum-known-s
-    cast-t15
     cast-t16
+    cast-t17
     same-length
     same-length-2
     same-length-3

@@ -1,3 +1,5 @@
+-- What the records made is the theory's run and counts, and the answer is read off it.
+-- Assumes nothing.
 use mathlib.Core.Path.{sym, ap, _∙_}
 use mathlib.Core.List.{List}
 use native.Mathlib.Omega.{arith}
@@ -11,41 +13,28 @@ use Rattle.receiver.proofs.Accounts.{next-grows, accepted}
 use borrow.Author.Needs.{needs}
 use Rattle.receiver.proofs.accept.Statement.{statement}
 use Rattle.receiver.proofs.accept.Tie as tie
-use Rattle.receiver.proofs.accept.Reads as reads
-use Rattle.receiver.proofs.accept.Lts as lts
-use Rattle.receiver.proofs.stop_at.Reads as stop-at-reads
-use Rattle.receiver.proofs.work.Reads as work-reads
-use Rattle.shelf.proofs.highest.Reads as highest-reads
 
--- src/lib.rt:262:9
 work-requires : tie.Need-work-requires
 work-requires c κs = search needs
 
--- src/lib.rt:274:9
 stop-at-requires : tie.Need-stop-at-requires
 stop-at-requires c κs = search needs
 
--- src/lib.rt:275:9
 highest-requires : tie.Need-highest-requires
 highest-requires c κs = search needs
 
--- src/lib.rt:281:22
 sub-t28 : tie.Need-sub-t28
 sub-t28 c = omega (arith, next-grows real (c .before .before .before .before .before .before .before .before .before .before .before .before .before .before .before .before .before .before .before .before .before .before .before .before .before .before .pre .1 .cs) (lent (c .before .before .before .before .before .before .before .before .before .before .before .before .before .before .before .before .before .before .before .before .before .before .before .before .before .before .args .orders .now) (c .before .before .before .before .before .before .before .before .before .before .before .before .before .before .before .before .before .before .before .before .before .before .before .before .before .before .args .symbols .now) (c .before .before .before .before .before .before .before .before .before .before .before .before .before .before .before .before .before .before .before .before .before .before .before .before .before .before .args .shelf .now) (c .before .before .before .before .before .before .before .before .before .before .before .before .before .before .before .before .before .before .before .before .before .before .before .before .before .before .args .state)) _ (c .before .before .before .before .before .before .before .before .before .before .before .before .before .before .before .before .before .work .result .counts) (c .before .before .before .before .before .before .before .before .before .before .before .before .before .before .before .before .before .work .ensures ∙ ap (λ (x : Framing). workAll shelfStore bookEngine (recordsOf x) (record { rx = lent (c .before .before .before .before .before .before .before .before .before .before .before .before .before .before .before .before .before .before .before .before .before .before .before .before .before .before .args .orders .now) (c .before .before .before .before .before .before .before .before .before .before .before .before .before .before .before .before .before .before .before .before .before .before .before .before .before .before .args .symbols .now) (c .before .before .before .before .before .before .before .before .before .before .before .before .before .before .before .before .before .before .before .before .before .before .before .before .before .before .args .shelf .now) (c .before .before .before .before .before .before .before .before .before .before .before .before .before .before .before .before .before .before .before .before .before .before .before .before .before .before .args .state) .rx; counts = noCounts })) (c .before .before .before .before .before .before .before .before .before .before .before .before .before .before .before .before .before .before .before .before .before .before .before .before .before .before .pre .1 .framing-is)))
 
--- src/lib.rt:257:1
 same-length : tie.Need-same-length
 same-length c = search needs
 
--- src/lib.rt:257:1
 same-length-2 : tie.Need-same-length-2
 same-length-2 c = search needs
 
--- src/lib.rt:257:1
 same-length-3 : tie.Need-same-length-3
 same-length-3 c = search needs
 
--- src/lib.rt:257:1
 returns : tie.Need-returns
 returns c = accepted real (c .before .before .before .before .before .before .before .before .before .before .before .before .before .before .before .before .before .before .before .before .before .before .before .before .before .before .pre .1 .cs) (lent (c .before .before .before .before .before .before .before .before .before .before .before .before .before .before .before .before .before .before .before .before .before .before .before .before .before .before .args .orders .now) (c .before .before .before .before .before .before .before .before .before .before .before .before .before .before .before .before .before .before .before .before .before .before .before .before .before .before .args .symbols .now) (c .before .before .before .before .before .before .before .before .before .before .before .before .before .before .before .before .before .before .before .before .before .before .before .before .before .before .args .shelf .now) (c .before .before .before .before .before .before .before .before .before .before .before .before .before .before .before .before .before .before .before .before .before .before .before .before .before .before .args .state)) _ (c .before .before .before .before .before .before .before .before .before .before .before .before .before .before .before .before .before .work .result .counts) (c .before .before .before .before .before .before .before .before .before .before .before .before .before .before .before .before .before .work .ensures ∙ ap (λ (x : Framing). workAll shelfStore bookEngine (recordsOf x) (record { rx = lent (c .before .before .before .before .before .before .before .before .before .before .before .before .before .before .before .before .before .before .before .before .before .before .before .before .before .before .args .orders .now) (c .before .before .before .before .before .before .before .before .before .before .before .before .before .before .before .before .before .before .before .before .before .before .before .before .before .before .args .symbols .now) (c .before .before .before .before .before .before .before .before .before .before .before .before .before .before .before .before .before .before .before .before .before .before .before .before .before .before .args .shelf .now) (c .before .before .before .before .before .before .before .before .before .before .before .before .before .before .before .before .before .before .before .before .before .before .before .before .before .before .args .state) .rx; counts = noCounts })) (c .before .before .before .before .before .before .before .before .before .before .before .before .before .before .before .before .before .before .before .before .before .before .before .before .before .before .pre .1 .framing-is)) (c .before .before .before .before .before .stop-at .result) (c .before .before .before .highest .result) (c .before .before .before .before .before .stop-at .ensures) (c .before .before .before .highest .ensures) (framing (c .before .before .before .before .before .before .before .before .before .before .before .before .before .before .before .before .before .before .before .before .before .before .before .before .before .before .args .p .now)) (c .before .before .before .before .before .before .before .before .before .before .before .before .before .before .before .before .before .before .before .before .before .before .before .before .before .before .pre .1 .framing-is)
 

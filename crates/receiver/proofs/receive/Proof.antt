@@ -1,3 +1,5 @@
+-- The tests come in the order of `receives`: sizes, next, then the packet's own framing.
+-- Assumes nothing.
 use mathlib.Core.Path.{sym, _∙_}
 use borrow.Author.Tests.{not-true, not-false}
 use Rattle.packet.proofs.Good.{good-framing, bad-framing}
@@ -6,64 +8,45 @@ use Rattle.receiver.proofs.Accounts.{refused-sizes, refused-next, by-fr
 use borrow.Author.Needs.{needs}
 use Rattle.receiver.proofs.receive.Statement.{statement}
 use Rattle.receiver.proofs.receive.Tie as tie
-use Rattle.receiver.proofs.receive.Reads as reads
-use Rattle.receiver.proofs.receive.Lts as lts
-use Rattle.packet.proofs.read_packet.Reads as read-packet-reads
-use Rattle.receiver.proofs.accept.Reads as accept-reads
-use Rattle.receiver.proofs.next_ok.Reads as next-ok-reads
-use Rattle.receiver.proofs.sizes_ok.Reads as sizes-ok-reads
 
--- src/lib.rt:323:9
 sizes-ok-requires : tie.Need-sizes-ok-requires
 sizes-ok-requires c κs = search needs
 
--- src/lib.rt:324:9
 returns : tie.Need-returns
 returns c = refused-sizes real (lent (c .before .before .before .before .before .before .args .orders .now) (c .before .before .before .before .before .before .args .symbols .now) (c .before .before .before .before .before .before .args .shelf .now) (c .before .before .before .before .before .before .args .state)) (c .before .before .before .before .before .before .args .p .now) (sym (c .before .sizes-ok .ensures) ∙ not-true (c .before .sizes-ok .result) (c .if1 .taken))
 
--- src/lib.rt:329:9
 next-ok-requires : tie.Need-next-ok-requires
 next-ok-requires c κs = search needs
 
--- src/lib.rt:330:9
 returns-2 : tie.Need-returns-2
 returns-2 c = refused-next real (lent (c .before .before .before .before .before .before .before .before .args .orders .now) (c .before .before .before .before .before .before .before .before .args .symbols .now) (c .before .before .before .before .before .before .before .before .args .shelf .now) (c .before .before .before .before .before .before .before .before .args .state)) (c .before .before .before .before .before .before .before .before .args .p .now) (sym (c .before .before .before .sizes-ok .ensures) ∙ not-false (c .before .before .before .sizes-ok .result) (c .before .before .if1 .left)) (sym (c .before .next-ok .ensures) ∙ not-true (c .before .next-ok .result) (c .if2 .taken))
 
--- src/lib.rt:335:11
 read-packet-requires : tie.Need-read-packet-requires
 read-packet-requires c κs = search needs
 
--- src/lib.rt:336:25
 enum-known-r : tie.Need-enum-known-r
 enum-known-r c = search needs
 
--- src/lib.rt:340:35
 enum-told : tie.Need-enum-told
 enum-told c = search needs
 
--- src/lib.rt:340:28
 accept-requires : tie.Need-accept-requires
 accept-requires c κs =
     let g = good-framing (c .before .before .before .before .before .before .before .before .before .before .before .before .before .before .args .p .now) _ (sym (c .before .before .before .before .before .read-packet .ensures) ∙ c .before .before .before .enum-told .given .1) in
     (next-most (c .before .before .before .before .before .before .before .before .before .before .before .before .before .before .args .state .next) (sym (c .before .before .before .before .before .before .before .next-ok .ensures) ∙ not-false (c .before .before .before .before .before .before .before .next-ok .result) (c .before .before .before .before .before .before .if2 .left)), record { cs = g .0; framing-is = g .1 })
 
--- src/lib.rt:314:1
 returns-3 : tie.Need-returns-3
 returns-3 c = refused-packet real (lent (c .before .before .before .before .before .before .before .before .before .before .before .before .args .orders .now) (c .before .before .before .before .before .before .before .before .before .before .before .before .args .symbols .now) (c .before .before .before .before .before .before .before .before .before .before .before .before .args .shelf .now) (c .before .before .before .before .before .before .before .before .before .before .before .before .args .state)) (c .before .before .before .before .before .before .before .before .before .before .before .before .args .p .now) (sym (c .before .before .before .before .before .before .before .sizes-ok .ensures) ∙ not-false (c .before .before .before .before .before .before .before .sizes-ok .result) (c .before .before .before .before .before .before .if1 .left)) (sym (c .before .before .before .before .before .next-ok .ensures) ∙ not-false (c .before .before .before .before .before .next-ok .result) (c .before .before .before .before .if2 .left)) _ (bad-framing (c .before .before .before .before .before .before .before .before .before .before .before .before .args .p .now) _ (sym (c .before .before .before .read-packet .ensures) ∙ c .before .r .given .1))
 
--- src/lib.rt:314:1
 same-length : tie.Need-same-length
 same-length c = search needs
 
--- src/lib.rt:314:1
 same-length-2 : tie.Need-same-length-2
 same-length-2 c = search needs
 
--- src/lib.rt:314:1
 same-length-3 : tie.Need-same-length-3
 same-length-3 c = search needs
 
--- src/lib.rt:314:1
 returns-4 : tie.Need-returns-4
 returns-4 c = c .before .before .before .before .before .before .accept .ensures ∙ by-frame real (lent (c .before .before .before .before .before .before .before .before .before .before .before .before .before .before .before .before .before .before .before .before .before .args .orders .now) (c .before .before .before .before .before .before .before .before .before .before .before .before .before .before .before .before .before .before .before .before .before .args .symbols .now) (c .before .before .before .before .before .before .before .before .before .before .before .before .before .before .before .before .before .before .before .before .before .args .shelf .now) (c .before .before .before .before .before .before .before .before .before .before .before .before .before .before .before .before .before .before .before .before .before .args .state)) (c .before .before .before .before .before .before .before .before .before .before .before .before .before .before .before .before .before .before .before .before .before .args .p .now) (sym (c .before .before .before .before .before .before .before .before .before .before .before .before .before .before .before .before .sizes-ok .ensures) ∙ not-false (c .before .before .before .before .before .before .before .before .before .before .before .before .before .before .before .before .sizes-ok .result) (c .before .before .before .before .before .before .before .before .before .before .before .before .before .before .before .if1 .left)) (sym (c .before .before .before .before .before .before .before .before .before .before .before .before .before .before .next-ok .ensures) ∙ not-false (c .before .before .before .before .before .before .before .before .before .before .before .before .before .before .next-ok .result) (c .before .before .before .before .before .before .before .before .before .before .before .before .before .if2 .left))
 

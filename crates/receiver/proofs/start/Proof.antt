@@ -1,49 +1,37 @@
+-- A bad size leaves all as it is; else the three wipes make the zeros.
+-- Assumes nothing.
 use borrow.Author.Tests.{not-true, not-false}
 use Rattle.facts.specs.Pick.{pick}
 use Rattle.receiver.specs.Lent.{started}
 use borrow.Author.Needs.{needs}
 use Rattle.receiver.proofs.start.Statement.{statement}
 use Rattle.receiver.proofs.start.Tie as tie
-use Rattle.receiver.proofs.start.Reads as reads
-use Rattle.receiver.proofs.start.Lts as lts
-use Rattle.receiver.proofs.sizes_ok.Reads as sizes-ok-reads
-use Rattle.rows.proofs.wipe_rows.Reads as wipe-rows-reads
-use Rattle.wire.proofs.wipe.Reads as wipe-reads
 
--- src/lib.rt:348:9
 sizes-ok-requires : tie.Need-sizes-ok-requires
 sizes-ok-requires c κs = search needs
 
--- src/lib.rt:349:9
 returns : tie.Need-returns
 unfolding started pick
 returns c = simp (← c .before .sizes-ok .ensures, not-true (c .before .sizes-ok .result) (c .if1 .taken))
 
--- src/lib.rt:351:5
 wipe-rows-requires : tie.Need-wipe-rows-requires
 wipe-rows-requires c κs = search needs
 
--- src/lib.rt:352:5
 wipe-requires : tie.Need-wipe-requires
 wipe-requires c κs = search needs
 
--- src/lib.rt:353:5
 wipe-requires-2 : tie.Need-wipe-requires-2
 wipe-requires-2 c κs = search needs
 
--- src/lib.rt:345:1
 same-length : tie.Need-same-length
 same-length c = search needs
 
--- src/lib.rt:345:1
 same-length-2 : tie.Need-same-length-2
 same-length-2 c = search needs
 
--- src/lib.rt:345:1
 same-length-3 : tie.Need-same-length-3
 same-length-3 c = search needs
 
--- src/lib.rt:345:1
 returns-2 : tie.Need-returns-2
 unfolding started pick
 returns-2 c = simp (← c .before .before .before .before .before .before .before .before .before .before .before .before .before .sizes-ok .ensures, not-false (c .before .before .before .before .before .before .before .before .before .before .before .before .before .sizes-ok .result) (c .before .before .before .before .before .before .before .before .before .before .before .before .if1 .left), c .before .before .before .before .before .before .before .before .before .before .wipe-rows .ensures, c .before .before .before .before .before .before .wipe .ensures, c .before .before .wipe2 .ensures)

@@ -1,3 +1,5 @@
+-- Each exit is one law of Exits over the values that the calls answered.
+-- Assumes nothing.
 use mathlib.Core.Path.{sym, ap, _∙_}
 use native.Mathlib.Omega.{arith}
 use Prim.Native.Nat.{ℕ}
@@ -9,42 +11,28 @@ use Rattle.receiver.proofs.Real.{realLaws}
 use borrow.Author.Needs.{needs}
 use Rattle.receiver.proofs.stop_at.Statement.{statement}
 use Rattle.receiver.proofs.stop_at.Tie as tie
-use Rattle.receiver.proofs.stop_at.Reads as reads
-use Rattle.receiver.proofs.stop_at.Lts as lts
-use Rattle.book.proofs.rule_of.Reads as rule-of-reads
-use Rattle.shelf.proofs.slot_body.Reads as slot-body-reads
-use Rattle.shelf.proofs.slot_len.Reads as slot-len-reads
-use Rattle.shelf.proofs.slot_number.Reads as slot-number-reads
 
--- src/lib.rt:242:9
 slot-number-requires : tie.Need-slot-number-requires
 slot-number-requires c κs = search needs
 
--- src/lib.rt:244:9
 returns : tie.Need-returns
 returns c = stops-empty real realLaws (c .before .before .before .before .before .args .at .next) (book (c .before .before .before .before .before .args .orders .now) (c .before .before .before .before .before .args .symbols .now) (c .before .before .before .before .before .args .at .clock)) (c .before .before .before .before .before .args .shelf .now) (sym (c .before .slot-number .ensures) ∙ c .if1 .taken)
 
--- src/lib.rt:247:9
 returns-2 : tie.Need-returns-2
 returns-2 c = stops-other real realLaws (c .before .before .before .before .before .before .args .at .next) (book (c .before .before .before .before .before .before .args .orders .now) (c .before .before .before .before .before .before .args .symbols .now) (c .before .before .before .before .before .before .args .at .clock)) (c .before .before .before .before .before .before .args .shelf .now) (λ z. c .before .if1 .left (c .before .before .slot-number .ensures ∙ z)) (λ z. c .if2 .taken (c .before .before .slot-number .ensures ∙ z))
 
--- src/lib.rt:249:13
 slot-len-requires : tie.Need-slot-len-requires
 slot-len-requires c κs = search needs
 
--- src/lib.rt:250:9
 returns-3 : tie.Need-returns-3
 returns-3 c = stops-long real realLaws (c .before .before .before .before .before .before .before .before .args .at .next) (book (c .before .before .before .before .before .before .before .before .args .orders .now) (c .before .before .before .before .before .before .before .before .args .symbols .now) (c .before .before .before .before .before .before .before .before .args .at .clock)) (c .before .before .before .before .before .before .before .before .args .shelf .now) (λ z. c .before .before .before .if1 .left (c .before .before .before .before .slot-number .ensures ∙ z)) (sym (c .before .before .before .before .slot-number .ensures) ∙ c .before .before .if2 .left) (omega (arith, c .before .slot-len .ensures))
 
--- src/lib.rt:253:49
 slot-body-requires : tie.Need-slot-body-requires
 slot-body-requires c κs = search needs
 
--- src/lib.rt:253:5
 rule-of-requires : tie.Need-rule-of-requires
 rule-of-requires c κs = search needs
 
--- src/lib.rt:237:1
 returns-4 : tie.Need-returns-4
 returns-4 c = c .rule-of .ensures ∙ ap (λ (b : List ℕ). applied (c .before .before .before .before .before .before .before .before .before .before .before .args .at .next) b (book (c .before .before .before .before .before .before .before .before .before .before .before .args .orders .now) (c .before .before .before .before .before .before .before .before .before .before .before .args .symbols .now) (c .before .before .before .before .before .before .before .before .before .before .before .args .at .clock)) .rule) (c .before .slot-body .ensures) ∙ stops-rule real realLaws (c .before .before .before .before .before .before .before .before .before .before .before .args .at .next) (book (c .before .before .before .before .before .before .before .before .before .before .before .args .orders .now) (c .before .before .before .before .before .before .before .before .before .before .before .args .symbols .now) (c .before .before .before .before .before .before .before .before .before .before .before .args .at .clock)) (c .before .before .before .before .before .before .before .before .before .before .before .args .shelf .now) (λ z. c .before .before .before .before .before .before .if1 .left (c .before .before .before .before .before .before .before .slot-number .ensures ∙ z)) (sym (c .before .before .before .before .before .before .before .slot-number .ensures) ∙ c .before .before .before .before .before .if2 .left) (omega (arith, c .before .before .before .before .slot-len .ensures))
 

@@ -1,3 +1,5 @@
+-- Each exit is one law of Exits over the values that the calls answered.
+-- Assumes nothing.
 use mathlib.Core.Path.{sym, ap, _∙_}
 use native.Mathlib.Omega.{arith}
 use Prim.Native.Nat.{ℕ}
@@ -9,93 +11,66 @@ use Rattle.receiver.proofs.Real.{realLaws}
 use borrow.Author.Needs.{needs}
 use Rattle.receiver.proofs.turn.Statement.{statement}
 use Rattle.receiver.proofs.turn.Tie as tie
-use Rattle.receiver.proofs.turn.Reads as reads
-use Rattle.receiver.proofs.turn.Lts as lts
-use Rattle.book.proofs.apply.Reads as apply-reads
-use Rattle.shelf.proofs.empty.Reads as empty-reads
-use Rattle.shelf.proofs.slot_body.Reads as slot-body-reads
-use Rattle.shelf.proofs.slot_len.Reads as slot-len-reads
-use Rattle.shelf.proofs.slot_number.Reads as slot-number-reads
 
--- src/lib.rt:82:9
 slot-number-requires : tie.Need-slot-number-requires
 slot-number-requires c κs = search needs
 
--- src/lib.rt:84:9
 same-length : tie.Need-same-length
 same-length c = search needs
 
--- src/lib.rt:84:9
 returns : tie.Need-returns
 returns c = turn-empty real realLaws (c .before .before .before .before .before .before .before .args .at .next) (book (c .before .before .before .before .before .before .before .args .orders .now) (c .before .before .before .before .before .before .before .args .symbols .now) (c .before .before .before .before .before .before .before .args .at .clock)) (c .before .before .before .before .before .before .before .args .shelf .now) (sym (c .before .slot-number .ensures) ∙ c .if1 .taken)
 
--- src/lib.rt:87:9
 same-length-2 : tie.Need-same-length-2
 same-length-2 c = search needs
 
--- src/lib.rt:87:9
 returns-2 : tie.Need-returns-2
 returns-2 c = turn-other real realLaws (c .before .before .before .before .before .before .before .before .args .at .next) (book (c .before .before .before .before .before .before .before .before .args .orders .now) (c .before .before .before .before .before .before .before .before .args .symbols .now) (c .before .before .before .before .before .before .before .before .args .at .clock)) (c .before .before .before .before .before .before .before .before .args .shelf .now) (λ z. c .before .if1 .left (c .before .before .slot-number .ensures ∙ z)) (λ z. c .if2 .taken (c .before .before .slot-number .ensures ∙ z))
 
--- src/lib.rt:89:13
 slot-len-requires : tie.Need-slot-len-requires
 slot-len-requires c κs = search needs
 
--- src/lib.rt:90:9
 same-length-3 : tie.Need-same-length-3
 same-length-3 c = search needs
 
--- src/lib.rt:90:9
 returns-3 : tie.Need-returns-3
 returns-3 c = turn-long real realLaws (c .before .before .before .before .before .before .before .before .before .before .before .args .at .next) (book (c .before .before .before .before .before .before .before .before .before .before .before .args .orders .now) (c .before .before .before .before .before .before .before .before .before .before .before .args .symbols .now) (c .before .before .before .before .before .before .before .before .before .before .before .args .at .clock)) (c .before .before .before .before .before .before .before .before .before .before .before .args .shelf .now) (λ z. c .before .before .before .before .if1 .left (c .before .before .before .before .before .slot-number .ensures ∙ z)) (sym (c .before .before .before .before .before .slot-number .ensures) ∙ c .before .before .before .if2 .left) (omega (arith, c .before .slot-len .ensures))
 
--- src/lib.rt:92:55
 slot-body-requires : tie.Need-slot-body-requires
 slot-body-requires c κs = search needs
 
--- src/lib.rt:92:9
 apply-requires : tie.Need-apply-requires
 apply-requires c κs = search needs
 
--- src/lib.rt:95:9
 same-length-4 : tie.Need-same-length-4
 same-length-4 c = search needs
 
--- src/lib.rt:95:9
 same-length-5 : tie.Need-same-length-5
 same-length-5 c = search needs
 
--- src/lib.rt:95:9
 same-length-6 : tie.Need-same-length-6
 same-length-6 c = search needs
 
--- src/lib.rt:95:9
 returns-4 : tie.Need-returns-4
 returns-4 c =
     let told = c .before .before .before .before .before .before .before .apply .ensures ∙ ap (λ (b : List ℕ). applied (c .before .before .before .before .before .before .before .before .before .before .before .before .before .before .before .before .before .before .before .before .before .before .before .args .at .next) b (book (c .before .before .before .before .before .before .before .before .before .before .before .before .before .before .before .before .before .before .before .before .before .before .before .args .orders .now) (c .before .before .before .before .before .before .before .before .before .before .before .before .before .before .before .before .before .before .before .before .before .before .before .args .symbols .now) (c .before .before .before .before .before .before .before .before .before .before .before .before .before .before .before .before .before .before .before .before .before .before .before .args .at .clock))) (c .before .before .before .before .before .before .before .before .slot-body .ensures) in
     turn-broken real realLaws (c .before .before .before .before .before .before .before .before .before .before .before .before .before .before .before .before .before .before .before .before .before .before .before .args .at .next) (book (c .before .before .before .before .before .before .before .before .before .before .before .before .before .before .before .before .before .before .before .before .before .before .before .args .orders .now) (c .before .before .before .before .before .before .before .before .before .before .before .before .before .before .before .before .before .before .before .before .before .before .before .args .symbols .now) (c .before .before .before .before .before .before .before .before .before .before .before .before .before .before .before .before .before .before .before .before .before .before .before .args .at .clock)) (c .before .before .before .before .before .before .before .before .before .before .before .before .before .before .before .before .before .before .before .before .before .before .before .args .shelf .now) (λ z. c .before .before .before .before .before .before .before .before .before .before .before .before .before .before .before .before .if1 .left (c .before .before .before .before .before .before .before .before .before .before .before .before .before .before .before .before .before .slot-number .ensures ∙ z)) (sym (c .before .before .before .before .before .before .before .before .before .before .before .before .before .before .before .before .before .slot-number .ensures) ∙ c .before .before .before .before .before .before .before .before .before .before .before .before .before .before .before .if2 .left) (omega (arith, c .before .before .before .before .before .before .before .before .before .before .before .before .before .slot-len .ensures)) (c .before .before .before .before .before .before .before .apply .result .rule) _ (ap (λ (x : Effect). x .rule) told) (ap (λ (x : Effect). x .after) told) (c .if4 .taken)
 
--- src/lib.rt:100:5
 empty-requires : tie.Need-empty-requires
 empty-requires c κs = search needs
 
--- src/lib.rt:104:19
 add-t11 : tie.Need-add-t11
 add-t11 c = search needs
 
--- src/lib.rt:75:1
 same-length-7 : tie.Need-same-length-7
 same-length-7 c = search needs
 
--- src/lib.rt:75:1
 same-length-8 : tie.Need-same-length-8
 same-length-8 c = search needs
 
--- src/lib.rt:75:1
 same-length-9 : tie.Need-same-length-9
 same-length-9 c = search needs
 
--- src/lib.rt:75:1
 returns-5 : tie.Need-returns-5
 returns-5 c =
     let told = c .before .before .before .before .before .before .before .before .before .before .before .apply .ensures ∙ ap (λ (b : List ℕ). applied (c .before .before .before .before .before .before .before .before .before .before .before .before .before .before .before .before .before .before .before .before .before .before .before .before .before .before .before .args .at .next) b (book (c .before .before .before .before .before .before .before .before .before .before .before .before .before .before .before .before .before .before .before .before .before .before .before .before .before .before .before .args .orders .now) (c .before .before .before .before .before .before .before .before .before .before .before .before .before .before .before .before .before .before .before .before .before .before .before .before .before .before .before .args .symbols .now) (c .before .before .before .before .before .before .before .before .before .before .before .before .before .before .before .before .before .before .before .before .before .before .before .before .before .before .before .args .at .clock))) (c .before .before .before .before .before .before .before .before .before .before .before .before .slot-body .ensures) in

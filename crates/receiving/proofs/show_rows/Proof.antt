@@ -11,6 +11,9 @@ Inv-loop orders n i₀ i = i ≤ n
 abbrev μ-loop : tie.MeasureT-loop
 μ-loop orders n i₀ i = n - i
 
+row-count-requires : tie.Need-row-count-requires
+row-count-requires c κs = search needs
+
 loop-holds : tie.Need-loop-holds Inv-loop μ-loop
 loop-holds c = search needs
 
@@ -36,6 +39,7 @@ pub show-rows-spec : {M : Type 1} → statement M
 show-rows-spec =
     tie.close
     (tie.spec
+    row-count-requires
     Inv-loop
     μ-loop
     loop-holds
