@@ -129,3 +129,29 @@ example-answered (suc (suc (suc (suc (suc (suc n)))))) l h = absurd (omega arith
 -- so demand 3 says of it what it says
 pub example-demanded : (5 ≤ receiver.receivedAll given start .rx .next - 1) ⊎ Names receiver.real messages.example (receiver.zeroBook 20 entrySize) (receiver.receivedAll given start)
 example-demanded = real-demand messages.example 20 entrySize .second start given example-given 5 example-answered
+
+-- and its first side is the one that holds: all five are applied
+pub example-next : receiver.receivedAll given start .rx .next ≡ 6
+unfolding messages.numbered messages.systemTime messages.symbolUpdate messages.addOrder messages.example messages.ofExample messages.wholeExample
+    pick both either first cut pieces join putPiece le toLe field padded
+    kinds.table kinds.lookup kinds.lengthOf kinds.kindOf
+    fields.decoded
+    ranges.oneOf ranges.sideOk ranges.priceOk ranges.sizeOk ranges.testOk ranges.marketOk
+    faults.faultFrom faults.faultOf
+    read.framed read.judged read.readBody read.goodBody
+    head.numberOk head.bodyOf head.bodyJudged head.readRecord
+    packet.before packet.behind packet.framesFrom packet.framing
+    keys.sideOf rows.rowOf rows.numbersOf rows.rows rows.putRow rows.zeroRow rows.free rows.live
+    find-row.isOrder find-row.findOrder find-row.heldAt find-row.findFree
+    entries.entries entries.entryOf entries.putEntry entries.used entries.freeEntry
+    find-entry.isSymbol find-entry.findSymbol find-entry.findFreeEntry find-entry.knownSymbol find-entry.placeFor
+    entry-work.entered
+    row-work.moves row-work.remade row-work.reduced row-work.committed
+    plan.ofKnown plan.target plan.upon plan.rowFor plan.updatePlan plan.roomFor plan.addPlan plan.modifyPlan plan.executionPlan plan.planBy
+    book.planned book.carried book.applied
+    slots.sameBytes slots.sameSlot
+    theory.judge theory.goodSlot theory.try theory.drain theory.after theory.run theory.said theory.accepted
+    shelf.slotFrom shelf.bytesOf shelf.slotAt shelf.putSlot
+    rows.goodRows entries.goodEntries shelf.goodShelf
+    generic.receivesAll generic.receives generic.handledBy generic.fit generic.nextOk receiver.sizesOk
+example-next = refl
