@@ -11,7 +11,7 @@ Inv-loop orders n i₀ i = i ≤ n
 abbrev μ-loop : tie.MeasureT-loop
 μ-loop orders n i₀ i = n - i
 
-row-count-requires : tie.Need-row-count-requires
+row-count-requires : tie.Need-row-count-requires Inv-loop μ-loop
 row-count-requires c κs = search needs
 
 loop-holds : tie.Need-loop-holds Inv-loop μ-loop
@@ -39,9 +39,9 @@ pub show-rows-spec : {M : Type 1} → statement M
 show-rows-spec =
     tie.close
     (tie.spec
-    row-count-requires
     Inv-loop
     μ-loop
+    row-count-requires
     loop-holds
     row-at-requires
     show-row-requires
