@@ -38,7 +38,7 @@ pub record InFront (p t : List ℕ) : Type 0 where
   pub length-is : field t 0 2 ≡ length p
   pub bytes-are : take (length p) (drop 2 t) ≡ p
 
--- "packets each behind a 2-byte length", and then u
+-- t is "packets each behind a 2-byte length", and then u
 abbrev pub Laid : List (List ℕ) → List ℕ → List ℕ → Type 0
 Laid [] t u = t ≡ u
 Laid (p ∷ ps) t u = InFront p t × Laid ps (drop (2 + length p) t) u
@@ -48,7 +48,7 @@ abbrev pub Inside : List ℕ → Type 0
 Inside u = (length u < 2) ⊎ (length u - 2 < field u 0 2)
 
 -- ---- its end
--- such bytes and no more: the rest of an over-long packet is passed over, any other piece is held
+-- what such bytes come to where no more follow: of an over-long packet the rest is still to be passed over, any other piece is held
 unfoldable pub waiting : List ℕ → Standing → Hearing
 waiting u k = pick (both (leb 2 (length u)) (ltb packetMost (field u 0 2))) (hearing [] (field u 0 2 - (length u - 2)) k) (hearing u 0 k)
 
