@@ -3,6 +3,7 @@
     python3 tools/vectors.py stdin       all packets, each behind a 2-byte little-endian length
     python3 tools/vectors.py stdout      the text that a right reader prints for them
     python3 tools/vectors.py check FILE  compare FILE with that text, show the first difference
+    python3 tools/vectors.py messages FILE  compare the tables of docs/MESSAGES.md with the script's
     python3 tools/vectors.py counts      how many packets are good or refused (to standard error)
 
 The script rests on document 01 and on section 4 of document 003 alone. It shares nothing with
@@ -18,13 +19,96 @@ All is decimal, with one space between, and each line ends with one line feed. A
 than one letter is printed byte by byte; the Attributable ID of an Add is one number. Reserved
 bytes are not printed, nor are the nanoseconds and the test byte of a Symbol Update.
 
-The script has three parts. The reader cuts fields out by the offsets of docs/MESSAGES.md. The
-composer puts bodies together field behind field, as the tables of 003 list them. The list of
-packets states by hand what most packets must give. Each run compares the three with each other
-and fails with a message if they disagree.
+The script has four parts. The tables are copied from the documents: those of 003, section 4, and
+document 01's table of five messages. The reader cuts fields out by offsets. The composer puts
+bodies together field behind field. The list of packets states by hand what most packets must
+give. Each run compares the four with each other and fails with a message if they disagree.
 """
 
 import sys
+
+# ---------------------------------------------------------------------------------------------
+# The tables of the documents
+# ---------------------------------------------------------------------------------------------
+
+# 003, section 4: type, then section, document 01's name of the message, and each field behind the
+# MACH data as 003 prints it: name, length, data type. The first one is the type byte.
+TYPE = ("Message Type", 1, "BinaryU")
+STAMP = ("Timestamp", 4, "NanoTime")
+SYMBOL = ("Symbol ID", 4, "BinaryU")
+ORDER = ("Order ID", 8, "BinaryU")
+TRADE_ID = ("Trade ID", 8, "BinaryU")
+CORRECTION = ("Correction Number", 1, "BinaryU")
+PRICE = ("Price", 8, "BinaryPrc6U")
+SIZE = ("Size", 4, "BinaryU")
+FLAGS = ("Flags", 1, "Flags")
+PRINTED = {
+    49: ("4.1", "System Time", [TYPE, ("Time Stamp", 4, "SecTime")]),
+    1: ("4.2", "Symbol Update", [
+        TYPE, STAMP, SYMBOL, ("Ticker Symbol", 11, "Alphanumeric"), ("Reserved", 1, "BinaryU"),
+        ("Test Security Indicator", 1, "Alphanumeric"), ("Reserved", 1, "BinaryU"),
+        ("Lot Size", 2, "BinaryU"), ("Opening Time", 8, "Alphanumeric"),
+        ("Closing Time", 8, "Alphanumeric"), ("Primary Market Code", 1, "Alphanumeric")]),
+    83: ("4.3", "System State", [
+        TYPE, STAMP, ("DoM Version", 8, "Alphanumeric"), ("Session ID", 1, "BinaryU"),
+        ("System Status", 1, "Alphanumeric")]),
+    4: ("4.4", "Security Trading Status", [
+        TYPE, STAMP, SYMBOL, ("Trading Status", 1, "BinaryU"), ("Market State", 1, "BinaryU"),
+        ("Short Sale Restriction", 1, "Alphanumeric")]),
+    5: ("4.5", "Symbol Clear", [TYPE, STAMP, SYMBOL]),
+    20: ("4.6", "Add Order", [
+        TYPE, STAMP, SYMBOL, ORDER, ("Order Side", 1, "Alphanumeric"), PRICE, SIZE,
+        ("Attributable ID", 4, "Alphanumeric")]),
+    21: ("4.7", "Modify Order", [TYPE, STAMP, SYMBOL, ORDER, PRICE, SIZE, FLAGS]),
+    23: ("4.8", "Delete Order", [TYPE, STAMP, SYMBOL, ORDER]),
+    24: ("4.9", "Order Execution", [
+        TYPE, STAMP, SYMBOL, ORDER, TRADE_ID, PRICE, SIZE, FLAGS]),
+    10: ("4.10", "Trade", [TYPE, STAMP, SYMBOL, TRADE_ID, CORRECTION, PRICE, SIZE, FLAGS]),
+    11: ("4.11", "Trade Cancel", [TYPE, STAMP, SYMBOL, TRADE_ID, CORRECTION, PRICE, SIZE]),
+}
+
+# Document 01's table of message bodies, word by word: type, length, fields.
+SCOPE = {
+    49: (5, "seconds 1-4"),
+    1: (42, "nanoseconds 1-4, symbol 5-8, ticker 9-19, reserved 20, test 21, reserved 22,"
+            " lot 23-24, opening 25-32, closing 33-40, market 41"),
+    20: (34, "nanoseconds 1-4, symbol 5-8, order 9-16, side 17, price 18-25, size 26-29,"
+             " attributable ID 30-33"),
+    21: (30, "nanoseconds 1-4, symbol 5-8, order 9-16, price 17-24, size 25-28, flags 29"),
+    23: (17, "nanoseconds 1-4, symbol 5-8, order 9-16"),
+}
+
+# Document 01's field ranges, by the name of the field in 003, and the messages that have them:
+# "The price and size ranges hold in all eleven messages", the others where document 01 has them.
+RANGES = {
+    "Order Side": ("`B` or `S`", [20]),
+    "Price": ("1 to 10^15", [20, 21, 24, 10, 11]),
+    "Size": ("1 or more", [20, 21, 24, 10, 11]),
+    "Test Security Indicator": ("`Y` or `N`", [1]),
+    "Primary Market Code": ("one of A B C H I J K L M N P Q U V W X Y Z", [1]),
+    "Flags": ("bits 1-7 zero", [21]),
+}
+
+# "Order: 6, 1, then records from the front, each by 2, 5, 3, 4." No packet causes 6.
+REFUSALS_IN_ORDER = [1, 2, 5, 3, 4]
+
+
+def places(kind):
+    """The fields of a message as 003 prints them: name, first and last offset, data type."""
+    at = 0
+    for name, width, data_type in PRINTED[kind][2]:
+        yield name, at, at + width - 1, data_type
+        at += width
+
+
+def length_of(kind):
+    """The sum of the lengths that 003 prints, the type byte included."""
+    return sum(width for _, width, _ in PRINTED[kind][2])
+
+
+def span(first, last):
+    """Offsets as document 01 writes them."""
+    return str(first) if first == last else "%d-%d" % (first, last)
 
 # ---------------------------------------------------------------------------------------------
 # The reader
@@ -482,19 +566,54 @@ def add_lengths_of_packets(vectors):
     vectors.good("a good packet behind one of 65,535 bytes", (1, TIME))
 
 
+def add_long_packets(vectors):
+    """Packets of 1,501 bytes and more that hold every other fault: the length comes first."""
+    good, add = record(1, compose(TIME)), compose(ADD)
+    fill = record(1, compose(MODIFY))  # 40 bytes
+    faults = [
+        ("body past the end", record(1, add, 65535)),
+        ("number 0", record(0, add)),
+        ("number 10^12 + 1", record(10**12 + 1, add)),
+        ("empty body", record(1, b"")),
+        ("unknown type", record(1, b"\x02" + add[1:])),
+        ("wrong length", record(1, add + b"\x00")),
+        ("price 0", record(1, compose(ADD, price=0))),
+        ("size 0", record(1, compose(EXECUTION, size=0))),
+        ("side X", record(1, compose(ADD, side=ord("X")))),
+        ("flags 255", record(1, compose(MODIFY, flags=255))),
+    ]
+    for label, fault in faults:
+        behind = (good * 100)[:1501 - len(fault)]
+        vectors.bad("1,501 bytes: %s in front" % label, 1, fault + behind)
+        front = good * 99 + fault
+        vectors.bad("1,502 bytes or more: %s behind good records" % label, 1,
+                    front + bytes(max(1502 - len(front), 0)))
+    for length in (1501, 1502, 1510, 1511, 2048, 3000):
+        vectors.bad("%d zero bytes" % length, 1, bytes(length))
+        vectors.bad("%d bytes 255" % length, 1, b"\xff" * length)
+        vectors.bad("%d bytes: good records and what is left of one" % length, 1,
+                    (fill * 80)[:length])
+    vectors.bad("1,501 bytes: a good packet of 1,500 and a byte", 1, good * 100 + b"\x01")
+    vectors.bad("1,510 bytes: a good packet of 1,500 and an empty body", 1,
+                good * 100 + record(101, b""))
+    # In 11 bits these lengths would be 0 and 15, and in 15 bits the last would be 15.
+    for length in (2048, 2048 + 15, 32768 + 15):
+        vectors.bad("%d bytes: a good record and zero bytes" % length, 1,
+                    good + bytes(length - len(good)))
+    vectors.good("a good packet behind too long ones", (1, TIME))
+
+
 def add_types_and_lengths(vectors):
-    """Every type byte, and every known type with every wrong length up to 64."""
-    good_bodies = {5: compose(TIME), 30: compose(MODIFY)}
+    """Every type byte, known types with every wrong length up to 64 and with many above, and
+    every unknown type in the place of every known one."""
     for kind in range(256):
         if kind in LAYOUT:
             vectors.good("type %d with its own length" % kind, (1, kind))
-        else:
-            length = (5, 30)[kind % 2]
-            vectors.bad("type %d with length %d" % (kind, length), 3,
-                        record(1, bytes([kind]) + good_bodies[length][1:]))
-    for length in (1, 9, 12, 15, 17, 31, 34, 38, 42):
-        vectors.bad("type 0 with length %d" % length, 3,
-                    record(1, (bytes(1) + compose(UPDATE)[1:])[:length]))
+            continue
+        for other in KINDS:
+            vectors.bad("type %d in a body of type %d" % (kind, other), 3,
+                        record(1, bytes([kind]) + compose(other)[1:]))
+        vectors.bad("type %d and no more" % kind, 3, record(1, bytes([kind])))
     vectors.bad("an empty body before a good record", 3,
                 record(1, b"") + record(2, compose(TIME)))
     for kind in KINDS:
@@ -503,9 +622,20 @@ def add_types_and_lengths(vectors):
             if length != len(body):
                 vectors.bad("type %d with wrong length %d" % (kind, length), 3,
                             record(1, (body + bytes(64))[:length]))
-    for kind in (TIME, ADD, CANCEL):
-        body = compose(kind)
-        vectors.bad("type %d with 256 bytes too many" % kind, 3, record(1, body + bytes(256)))
+        # A body's own length comes back in 8 bits wherever 256 bytes are too many. 1,490 is the
+        # longest body that a packet of 1,500 bytes holds, and 74 the length of a shelf's slot.
+        wrapped = [len(body) + more for more in (256, 512, 1024)]
+        for length in [65, 66, 74, 96, 127, 128, 255, 256, *wrapped, 1490]:
+            vectors.bad("type %d with wrong length %d" % (kind, length), 3,
+                        record(1, (body + bytes(1490))[:length]))
+    for kind in (0, 2, 22, 255):
+        for length in (64, 65, 256, 256 + 34, 1490):
+            vectors.bad("type %d with length %d" % (kind, length), 3,
+                        record(1, bytes([kind]) + bytes(length - 1)))
+    vectors.bad("a body of 65 bytes behind a good record", 3,
+                record(1, compose(TIME)) + record(2, compose(ADD) + bytes(31)))
+    vectors.bad("a body of 65 bytes before a good record", 3,
+                record(1, compose(ADD) + bytes(31)) + record(2, compose(TIME)))
 
 
 def add_judged_fields(vectors):
@@ -697,14 +827,39 @@ def add_random(vectors):
         vectors.unstated("damaged packet %d" % (turn + 1), damage(dice, packet))
 
 
+def compare_tables():
+    """The reader, the composer and document 01's table against the tables of 003."""
+    if not set(PRINTED) == set(MESSAGES) == set(LAYOUT):
+        sys.exit("the tables have not the same types")
+    for kind, (_, name, _) in PRINTED.items():
+        spans = [(first, last) for _, first, last, _ in places(kind)][1:]
+        if MESSAGES[kind][:2] != (name, length_of(kind)):
+            sys.exit("%s: the reader has another name or length" % name)
+        if [(first, last) for _, first, last, _ in MESSAGES[kind][2]] != spans:
+            sys.exit("%s: the reader has other offsets" % name)
+        if [width for _, width, _ in LAYOUT[kind]] != [last - first + 1 for first, last in spans]:
+            sys.exit("%s: the composer has other lengths" % name)
+        judged = {MESSAGES[kind][2][place - 1][0]
+                  for place, (field, _, _, _) in enumerate(places(kind))
+                  if field in RANGES and kind in RANGES[field][1]}
+        if judged != {field for one, field in JUDGED if one == kind}:
+            sys.exit("%s: other fields are judged" % name)
+    for kind, (length, fields) in SCOPE.items():
+        listed = ", ".join(
+            "%s %s" % ({"reserved20": "reserved", "reserved22": "reserved",
+                        "attributable": "attributable ID"}.get(field, field), span(first, last))
+            for field, first, last, _ in MESSAGES[kind][2])
+        if (length, fields) != (MESSAGES[kind][1], listed):
+            sys.exit("type %d: document 01 has %d bytes, %s" % (kind, length, fields))
+
+
 def all_vectors():
-    """All packets, with the reader, the composer and the stated lines compared."""
-    for kind, (name, length, _) in MESSAGES.items():
-        if len(compose(kind)) != length:
-            sys.exit("%s: the composer and the reader disagree on its length" % name)
+    """All packets, with the tables, the reader, the composer and the stated lines compared."""
+    compare_tables()
     vectors = Vectors()
     add_exercises(vectors)
     add_lengths_of_packets(vectors)
+    add_long_packets(vectors)
     add_types_and_lengths(vectors)
     add_judged_fields(vectors)
     add_fields_not_judged(vectors)
@@ -765,6 +920,104 @@ def check(vectors, path):
     return 0
 
 
+def tables_of(page):
+    """The page's tables, each as its section's title and rows of (line number, {heading: cell})."""
+    title, headings, rows = "", None, []
+    for number, line in enumerate(page.splitlines() + [""], 1):
+        if line.startswith("|"):
+            cells = [cell.strip() for cell in line.strip().strip("|").split("|")]
+            if headings is None:
+                headings = cells
+            elif not set(line) <= set("|-: "):
+                rows.append((number, dict(zip(headings, cells))))
+            continue
+        if headings is not None:
+            yield title, headings, rows
+            headings, rows = None, []
+        if line.startswith("#"):
+            title = line.lstrip("#").strip()
+
+
+def wanted_tables():
+    """The tables that docs/MESSAGES.md must have, as title: (headings, rows in their order)."""
+    short = {20: "Add", 21: "Modify"}
+    price = "1 to 1,000,000,000,000,000"
+    messages = {field: ", ".join(short.get(kind, PRINTED[kind][1]) for kind in kinds)
+                for field, (_, kinds) in RANGES.items()}
+    sums = [kind for kind in PRINTED if kind not in SCOPE]
+    wanted = {
+        "Types and lengths": [
+            (["Message", "Section of 003", "Type", "Length in bytes"],
+             [[name, section, str(kind), str(length_of(kind))]
+              for kind, (section, name, _) in PRINTED.items()]),
+            (["Message", "Field lengths", "Sum"],
+             [[PRINTED[kind][1], " + ".join(str(width) for _, width, _ in PRINTED[kind][2]),
+               str(length_of(kind))] for kind in sums])],
+        "How packets and records wrap bodies (\"From the tap\")": [
+            (["Part", "Offset in the record", "Length"],
+             [["sequence number", span(0, 7), "8"], ["body length", span(8, HEADER - 1), "2"],
+              ["body", "%d on" % HEADER, "as the body length says"]])],
+        "Refusals, in their order (\"Refused, and what is left\")": [
+            (["No."], [[str(number)] for number in REFUSALS_IN_ORDER[:1]]),
+            (["No."], [[str(number)] for number in REFUSALS_IN_ORDER[1:]])],
+        "Which fields are judged (\"Field ranges\")": [
+            (["Field", "Good values", "In which messages"], [
+                ["side", "`B` (66) or `S` (83)", messages["Order Side"]],
+                ["price", price, messages["Price"]],
+                ["size", "1 to 4,294,967,295 (the most that 4 bytes hold)", "the same five"],
+                ["test indicator", "`Y` (89) or `N` (78)", messages["Test Security Indicator"]],
+                ["market", RANGES["Primary Market Code"][0], messages["Primary Market Code"]],
+                ["flags of Modify", "0 or 1: bits 1 to 7 are zero", messages["Flags"]]])],
+    }
+    for kind, (section, name, _) in PRINTED.items():
+        rows = []
+        for field, first, last, data_type in places(kind):
+            judged = kind in RANGES.get(field, ("", []))[1]
+            row = [field, span(first, last), str(last - first + 1), data_type,
+                   RANGES[field][0] if judged else "not judged"]
+            rows.append(row if first else row[:4] + ["decides the message"])
+        title = "%s (%s): type %d, %d bytes" % (name, section, kind, length_of(kind))
+        wanted[title] = [(["Field", "Offset", "Length", "Data type", "Range"], rows)]
+    return wanted
+
+
+def page_faults(page):
+    """Where the tables of docs/MESSAGES.md say another thing than the documents, a line each."""
+    wanted = wanted_tables()
+    found = {}
+    for title, headings, rows in tables_of(page):
+        found.setdefault(title, []).append((headings, rows))
+    for title, tables in wanted.items():
+        if len(found.get(title, [])) != len(tables):
+            yield "%d tables below '%s', not %d" % (
+                len(found.get(title, [])), title, len(tables))
+            continue
+        for (headings, rows), (_, have) in zip(tables, found[title]):
+            if len(rows) != len(have):
+                yield "%d rows below '%s', not %d" % (len(have), title, len(rows))
+            for row, (number, cells) in zip(rows, have):
+                for heading, cell in zip(headings, row):
+                    if cells.get(heading) != cell:
+                        yield "line %d, %s: %s, but the documents give %s" % (
+                            number, heading, cells.get(heading, "no such column"), cell)
+    # The type's row says its number in words of its own.
+    for kind, (section, name, _) in PRINTED.items():
+        for headings, rows in found.get("%s (%s): type %d, %d bytes" % (
+                name, section, kind, length_of(kind)), []):
+            if rows and rows[0][1].get("Meaning") != str(kind):
+                yield "line %d: the type's meaning is not %d" % (rows[0][0], kind)
+
+
+def check_page(path):
+    """Hold docs/MESSAGES.md to the documents; 0 if they say the same, else 1."""
+    compare_tables()
+    with open(path, encoding="utf-8") as file:
+        faults = list(page_faults(file.read()))
+    for fault in faults:
+        print("%s: %s" % (path, fault))
+    return 1 if faults else 0
+
+
 def print_counts(vectors):
     """The number of packets by outcome, and the sizes of both outputs."""
     outcomes = {}
@@ -789,6 +1042,8 @@ def main(arguments):
         print_counts(all_vectors())
     elif len(arguments) == 2 and arguments[0] == "check":
         return check(all_vectors(), arguments[1])
+    elif len(arguments) == 2 and arguments[0] == "messages":
+        return check_page(arguments[1])
     else:
         print(__doc__, file=sys.stderr)
         return 2
