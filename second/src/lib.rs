@@ -12,6 +12,7 @@
 pub mod answers;
 pub mod book;
 pub mod command;
+pub mod desk;
 pub mod examples;
 pub mod morning;
 pub mod packet;

@@ -24,7 +24,7 @@ fn the_example_through_every_call() {
     };
     assert_eq!(proved::record(&packet), Ok(head));
     let answer = receiver.receive(&packet).expect("a good packet");
-    assert_eq!(counts(&answer), [5, 0, 0, 0, 0]);
+    assert_eq!(answer.counts(), [5, 0, 0, 0, 0]);
     assert_eq!((answer.next, answer.applied, answer.stop), (6, 5, 0));
     let (orders, symbols) = (3, 1);
     assert_eq!(receiver.counts(), Ok(Counts { orders, symbols }));
