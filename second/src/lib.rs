@@ -23,6 +23,7 @@ pub mod receiver;
 #[cfg(linked)]
 pub mod scenarios;
 pub mod sheet;
+pub mod stream;
 pub mod tables;
 pub mod traffic;
 #[cfg(linked)]
