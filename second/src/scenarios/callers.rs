@@ -5,6 +5,7 @@ use crate::desk::Desk;
 use crate::morning::*;
 use crate::packet::*;
 use crate::receiver::*;
+use crate::stream::LEAST_HOLD;
 use crate::tables::*;
 use crate::twins::Twins;
 
@@ -93,7 +94,14 @@ pub(super) fn edges(dice: &mut Dice, twins: &mut Twins) -> Outcome {
             });
         }
         let packet = packet_near(dice.bits(), &list, &twins.second.shelf, next);
-        give(dice, twins, &packet)?;
+        if dice.chance(200) {
+            // Behind a next number that the first packet drove too far, the second one is bad.
+            twins.open(LEAST_HOLD)?;
+            twins.feed(&recording(&[packet.clone(), packet]))?;
+            twins.feed(&[])?;
+        } else {
+            give(dice, twins, &packet)?;
+        }
     }
     Ok(())
 }

@@ -1,6 +1,6 @@
 //! Recordings in pieces cut anywhere, through the calls for streams.
 
-use super::Outcome;
+use super::{give, Outcome};
 use crate::morning::*;
 use crate::packet::LAST_NUMBER;
 use crate::stream::LEAST_HOLD;
@@ -8,13 +8,17 @@ use crate::tables::{MOST_ENTRIES, MOST_ROWS};
 use crate::traffic::{in_packets, Traffic};
 use crate::twins::Twins;
 
-/// A morning's recording, whole or cut, with packets of no bytes and of too many. Some callers alter
-/// the stream between two pieces.
+/// A morning's recording, whole or cut, with packets of no bytes and of too many, over a receiver that
+/// may have heard packets before. Some callers alter the stream between two pieces.
 pub(super) fn pieces(dice: &mut Dice, twins: &mut Twins) -> Outcome {
     let settings = ListSettings::drawn(dice);
     let list = list(dice.bits(), settings);
     twins.restart(settings.rows, settings.entries)?;
     let mut packets = delivery(dice.bits(), &list, rough_delivery(dice.bits()));
+    let before = dice.below(10).min(packets.len() as u64) as usize;
+    for packet in packets.drain(..before) {
+        give(dice, twins, &packet)?;
+    }
     for _ in 0..dice.below(4) {
         let length = dice.pick(&[0, 1, 1_499, 1_500, 1_501, 1_502, 3_000, 65_535]);
         let place = dice.below(packets.len() as u64 + 1) as usize;
