@@ -2,9 +2,10 @@
 //! answer, then the second, both tables and the books in them. Another program that plays the same
 //! recording must come to the same bytes.
 
+use crate::desk::Desk;
 use crate::packet::Side;
 use crate::receiver::Answer;
-use crate::sheet::{play_telling, Played};
+use crate::sheet::play_telling;
 use crate::tables::*;
 use crate::views::{ladder, spread};
 use std::fmt::Display;
@@ -12,13 +13,13 @@ use std::fmt::Display;
 /// The lines of a recording played from a start at full capacities. A cut last piece gives none.
 pub fn answers_of_recording(recording: &[u8]) -> Result<Vec<u8>, u8> {
     let mut text = Vec::new();
-    let played = play_telling(recording, |answer| packet_line(&mut text, answer))?;
-    line(&mut text, "second", &[played.state.second]);
-    table_lines(&mut text, &played);
-    for place in 0..entries_in(&played.symbols) {
-        let entry = entry(&played.symbols, place);
+    let desk = play_telling(recording, |answer| packet_line(&mut text, answer)).desk;
+    line(&mut text, "second", &[desk.state.second]);
+    table_lines(&mut text, &desk);
+    for place in 0..entries_in(&desk.symbols) {
+        let entry = entry(&desk.symbols, place);
         if entry_is_used(entry) {
-            book_lines(&mut text, &played, symbol_of_entry(entry))?;
+            book_lines(&mut text, &desk, symbol_of_entry(entry))?;
         }
     }
     Ok(text)
@@ -47,15 +48,15 @@ fn packet_line(text: &mut Vec<u8>, answer: Result<Answer, u8>) {
 }
 
 /// Each row that is not free and each entry that is not free, behind its place from 0.
-fn table_lines(text: &mut Vec<u8>, played: &Played) {
-    for place in 0..rows_in(&played.orders) {
-        let row = row(&played.orders, place);
+fn table_lines(text: &mut Vec<u8>, desk: &Desk) {
+    for place in 0..rows_in(&desk.orders) {
+        let row = row(&desk.orders, place);
         if !row_is_free(row) {
             line(text, &format!("row {place}"), row);
         }
     }
-    for place in 0..entries_in(&played.symbols) {
-        let entry = entry(&played.symbols, place);
+    for place in 0..entries_in(&desk.symbols) {
+        let entry = entry(&desk.symbols, place);
         if !entry_is_free(entry) {
             line(text, &format!("entry {place}"), entry);
         }
@@ -63,10 +64,10 @@ fn table_lines(text: &mut Vec<u8>, played: &Played) {
 }
 
 /// A symbol's numbers of levels and its spread, then all its levels, bids first.
-fn book_lines(text: &mut Vec<u8>, played: &Played, symbol: u32) -> Result<(), u8> {
-    let bids = all_levels(played, symbol, Side::Buy)?;
-    let offers = all_levels(played, symbol, Side::Sell)?;
-    let spread = match spread(&played.orders, &played.symbols, symbol)? {
+fn book_lines(text: &mut Vec<u8>, desk: &Desk, symbol: u32) -> Result<(), u8> {
+    let bids = all_levels(desk, symbol, Side::Buy)?;
+    let offers = all_levels(desk, symbol, Side::Sell)?;
+    let spread = match spread(&desk.orders, &desk.symbols, symbol)? {
         Some(spread) => spread.to_string(),
         None => "none".to_string(),
     };
@@ -86,9 +87,9 @@ fn book_lines(text: &mut Vec<u8>, played: &Played, symbol: u32) -> Result<(), u8
 }
 
 /// All levels of a side from the best. There are no more levels than rows, so the run is enough.
-fn all_levels(played: &Played, symbol: u32, side: Side) -> Result<Vec<u64>, u8> {
-    let mut run = vec![0; 3 * rows_in(&played.orders)];
-    let levels = ladder(&played.orders, &played.symbols, symbol, side, &mut run)?;
+fn all_levels(desk: &Desk, symbol: u32, side: Side) -> Result<Vec<u64>, u8> {
+    let mut run = vec![0; 3 * rows_in(&desk.orders)];
+    let levels = ladder(&desk.orders, &desk.symbols, symbol, side, &mut run)?;
     run.truncate(3 * levels as usize);
     Ok(run)
 }

@@ -1,9 +1,10 @@
 //! The recordings in `examples/`: document 01's whole example, and a long one.
 
+use crate::desk::Desk;
 use crate::morning::*;
 use crate::packet::{little, read_packet};
-use crate::receiver::{highest_number, receive, slot, slot_number, start, State, SHELF_BYTES};
-use crate::tables::*;
+use crate::receiver::{highest_number, slot, slot_number};
+use crate::tables::{MOST_ENTRIES, MOST_ROWS};
 
 /// Document 01's example: "second 34200; symbol 7, ABC, lot 100; buy 500 at 10.000000 for 100;
 /// sell 501 at 10.020000 for 200; buy 502 at 10.000000 for 50".
@@ -64,16 +65,12 @@ pub fn long_list() -> Vec<Vec<u8>> {
     let mut maker = ListMaker::new(
         20_230_925,
         ListSettings {
-            messages: 0,
             rows: MOST_ROWS,
             entries: MOST_ENTRIES,
             symbols: 1,
             orders: 260,
             levels: 8,
-            crossing: 0,
-            breaking: 0,
-            filling: false,
-            ending: 0,
+            ..ListSettings::default()
         },
     );
     // The ordinary traffic is in the ten symbols that are not kept for a special book.
@@ -162,25 +159,13 @@ fn must_push(maker: &mut ListMaker, body: Vec<u8>) {
 
 /// A receiver that writes down each packet that it is given.
 struct Writer {
-    state: State,
-    orders: Vec<u64>,
-    symbols: Vec<u8>,
-    shelf: Vec<u8>,
+    desk: Desk,
     packets: Vec<Vec<u8>>,
 }
 
 impl Writer {
     fn give(&mut self, packet: Vec<u8>) {
-        let answered = receive(
-            self.state,
-            &mut self.orders,
-            &mut self.symbols,
-            &mut self.shelf,
-            &packet,
-        );
-        if let Ok((after, _)) = answered {
-            self.state = after;
-        }
+        let _ = self.desk.give(&packet); // bad packets are among them
         self.packets.push(packet);
     }
 }
@@ -202,24 +187,17 @@ pub fn long_packets() -> Vec<Vec<u8>> {
         fill: false,
     };
     let mut dice = Dice::new(93_000);
-    let mut orders = vec![0; MOST_ROWS * ROW_NUMBERS];
-    let mut symbols = vec![0; MOST_ENTRIES * ENTRY_BYTES];
-    let mut shelf = vec![0; SHELF_BYTES];
-    let state = start(&mut orders, &mut symbols, &mut shelf).expect("full capacities");
     let mut writer = Writer {
-        state,
-        orders,
-        symbols,
-        shelf,
+        desk: Desk::full(),
         packets: Vec::new(),
     };
     let mut missed = (0, 0); // a next number, and for how many packets it has been missed
     for (place, packet) in delivery(43, &list, settings).into_iter().enumerate() {
         writer.give(packet);
-        let next = writer.state.next;
+        let next = writer.desk.state.next;
         if dice.chance(120) {
-            if let Some(number) = shelved_number(&mut dice, &writer.shelf, next) {
-                let slot = slot(&writer.shelf, number);
+            if let Some(number) = shelved_number(&mut dice, &writer.desk.shelf, next) {
+                let slot = slot(&writer.desk.shelf, number);
                 let length = little(&slot[8..10]) as usize;
                 let copy = differing_copy(dice.bits(), &slot[10..10 + length]);
                 writer.give(record(number, &copy));
@@ -234,7 +212,10 @@ pub fn long_packets() -> Vec<Vec<u8>> {
         } else {
             (next, 0)
         };
-        if missed.1 >= 12 && writer.state.stop == 0 && highest_number(&writer.shelf) > next {
+        if missed.1 >= 12
+            && writer.desk.state.stop == 0
+            && highest_number(&writer.desk.shelf) > next
+        {
             gap_fill(&mut writer, &list);
             missed.1 = 0;
         }
@@ -247,7 +228,7 @@ pub fn long_packets() -> Vec<Vec<u8>> {
     }
     long.truncate(1_501);
     writer.give(long);
-    while writer.state.stop == 0 && writer.state.next <= list.len() as u64 {
+    while writer.desk.state.stop == 0 && writer.desk.state.next <= list.len() as u64 {
         gap_fill(&mut writer, &list);
     }
     assert!(writer.packets.iter().all(|packet| packet.len() <= 65_535));
@@ -270,9 +251,9 @@ fn shelved_number(dice: &mut Dice, shelf: &[u8], next: u64) -> Option<u64> {
 
 /// The messages from next to the first that is on the shelf, eight at most.
 fn gap_fill(writer: &mut Writer, list: &[Vec<u8>]) {
-    let next = writer.state.next;
+    let next = writer.desk.state.next;
     let mut most = 1;
-    while most < 8 && slot_number(slot(&writer.shelf, next + most)) == 0 {
+    while most < 8 && slot_number(slot(&writer.desk.shelf, next + most)) == 0 {
         most += 1;
     }
     let records = numbered(list, next as usize, most as usize);

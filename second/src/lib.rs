@@ -12,6 +12,7 @@
 pub mod answers;
 pub mod book;
 pub mod command;
+pub mod desk;
 pub mod examples;
 pub mod morning;
 pub mod packet;
@@ -22,6 +23,7 @@ pub mod receiver;
 #[cfg(linked)]
 pub mod scenarios;
 pub mod sheet;
+pub mod stream;
 pub mod tables;
 pub mod traffic;
 #[cfg(linked)]

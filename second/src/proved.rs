@@ -1,6 +1,6 @@
 //! The proved library, called through its C boundary (`include/rimeheath.h`).
 //!
-//! `lent` has its nine calls as they are, over memory that the caller lends; `Proved` is a receiver
+//! `lent` has its twelve calls as they are, over memory that the caller lends; `Proved` is a receiver
 //! with tables of its own, and answers in Rust's forms. All unsafe code of this crate is in `lent`.
 
 use crate::packet::Side;
@@ -10,7 +10,8 @@ use crate::tables::{ENTRY_BYTES, ROW_NUMBERS};
 /// Enough for any sheet ("1,500,000 bytes always hold it whole").
 pub const SHEET_BYTES: usize = 1_500_000;
 
-/// The nine calls. Each answers 0 or the number of a refusal, and takes any lengths and any bytes.
+/// The twelve calls. Each answers 0 or the number of a refusal, but for `cut`, which answers whether it
+/// is so, and takes any lengths and any bytes.
 ///
 /// What the header asks of its callers beyond the types of C holds for all of them by Rust's types:
 /// a slice's pointer is never null and points to as many elements as its length says, an array
@@ -19,6 +20,8 @@ pub mod lent {
     use std::ffi::c_uchar;
 
     type State = [u64; 3];
+    /// Next, second, stop; bytes held, bytes to pass over, bad packets; records by 10 to 14.
+    pub type Stream = [u64; 11];
 
     extern "C" {
         fn rimeheath_start(
@@ -87,6 +90,21 @@ pub mod lent {
             cut: bool,
             length: *mut [u64; 1],
         ) -> u8;
+        fn rimeheath_open(state: *const State, stream: *mut Stream) -> u8;
+        fn rimeheath_feed(
+            orders: *mut u64,
+            orders_len: usize,
+            symbols: *mut c_uchar,
+            symbols_len: usize,
+            shelf: *mut c_uchar,
+            shelf_len: usize,
+            hold: *mut c_uchar,
+            hold_len: usize,
+            stream: *mut Stream,
+            chunk: *const c_uchar,
+            chunk_len: usize,
+        ) -> u8;
+        fn rimeheath_cut(stream: *const Stream) -> bool;
     }
 
     pub fn start(
@@ -229,6 +247,43 @@ pub mod lent {
                 length,
             )
         }
+    }
+
+    pub fn open(state: &State, stream: &mut Stream) -> u8 {
+        // SAFETY: the state is only read; the `&mut` is apart from it.
+        unsafe { rimeheath_open(state, stream) }
+    }
+
+    pub fn feed(
+        orders: &mut [u64],
+        symbols: &mut [u8],
+        shelf: &mut [u8],
+        hold: &mut [u8],
+        stream: &mut Stream,
+        chunk: &[u8],
+    ) -> u8 {
+        // SAFETY: each pointer comes with its own slice's length; the five `&mut` are apart from
+        // each other and from the chunk, which is only read.
+        unsafe {
+            rimeheath_feed(
+                orders.as_mut_ptr(),
+                orders.len(),
+                symbols.as_mut_ptr(),
+                symbols.len(),
+                shelf.as_mut_ptr(),
+                shelf.len(),
+                hold.as_mut_ptr(),
+                hold.len(),
+                stream,
+                chunk.as_ptr(),
+                chunk.len(),
+            )
+        }
+    }
+
+    pub fn cut(stream: &Stream) -> bool {
+        // SAFETY: the stream is only read.
+        unsafe { rimeheath_cut(stream) }
     }
 }
 

@@ -40,6 +40,34 @@ pub struct Answer {
     pub stop: u8,
 }
 
+impl Answer {
+    /// How many records got each of 10 to 14.
+    pub fn counts(&self) -> [u64; 5] {
+        [
+            self.taken,
+            self.old,
+            self.too_far,
+            self.repeats,
+            self.differing,
+        ]
+    }
+}
+
+/// What one record is answered.
+#[derive(Clone, Copy, Debug, PartialEq, Eq)]
+enum Worked {
+    /// 10
+    Taken,
+    /// 11
+    Old,
+    /// 12
+    TooFar,
+    /// 13
+    Repeat,
+    /// 14
+    Differing,
+}
+
 /// "message n goes in slot n mod 64"
 pub fn slot(shelf: &[u8], number: u64) -> &[u8] {
     let start = (number % SLOTS) as usize * SLOT_BYTES;
@@ -67,6 +95,11 @@ pub fn filled_slot(number: u64, body: &[u8]) -> [u8; SLOT_BYTES] {
     slot[8..10].copy_from_slice(&(body.len() as u16).to_le_bytes());
     slot[10..10 + body.len()].copy_from_slice(body);
     slot
+}
+
+/// 6, for all that a receiver is lent and its next number.
+pub fn receiver_fits(state: State, orders: &[u64], symbols: &[u8], shelf: &[u8]) -> bool {
+    sizes_fit(orders, symbols, shelf) && next_fits(state.next)
 }
 
 /// 6: "a table size outside these limits or not in whole rows"
@@ -103,7 +136,7 @@ pub fn receive(
     shelf: &mut [u8],
     packet: &[u8],
 ) -> Result<(State, Answer), u8> {
-    if !sizes_fit(orders, symbols, shelf) || !next_fits(state.next) {
+    if !receiver_fits(state, orders, symbols, shelf) {
         return Err(6);
     }
     let records = read_packet(packet)?;
@@ -113,11 +146,11 @@ pub fn receive(
     let mut answer = Answer::default();
     for record in records {
         match work_record(&mut state, orders, symbols, shelf, &record) {
-            10 => answer.taken += 1,
-            11 => answer.old += 1,
-            12 => answer.too_far += 1,
-            13 => answer.repeats += 1,
-            _ => answer.differing += 1,
+            Worked::Taken => answer.taken += 1,
+            Worked::Old => answer.old += 1,
+            Worked::TooFar => answer.too_far += 1,
+            Worked::Repeat => answer.repeats += 1,
+            Worked::Differing => answer.differing += 1,
         }
     }
     state.stop = stop(state.next, orders, symbols, shelf);
@@ -128,27 +161,30 @@ pub fn receive(
     Ok((state, answer))
 }
 
-/// One record, and its answer of 10 to 14.
+/// One record, and what it is answered.
 fn work_record(
     state: &mut State,
     orders: &mut [u64],
     symbols: &mut [u8],
     shelf: &mut [u8],
     record: &Record,
-) -> u8 {
+) -> Worked {
     // "A record with n below next is old (11); n at or above next + 64 is too far (12)."
     if record.number < state.next {
-        return 11;
+        return Worked::Old;
     }
     if record.number >= state.next + SLOTS {
-        return 12;
+        return Worked::TooFar;
     }
     // "A slot that holds n with the same length and the same 64 padded bytes is a repeat (13);
     // any other occupied slot is a differing copy (14), and the first stays."
     let wanted = filled_slot(record.number, record.body);
     let slot = slot_mut(shelf, record.number);
     if slot_number(slot) != 0 {
-        return if slot[..] == wanted[..] { 13 } else { 14 };
+        return match slot[..] == wanted[..] {
+            true => Worked::Repeat,
+            false => Worked::Differing,
+        };
     }
     // "Otherwise it is shelved: taken (10)."
     slot.copy_from_slice(&wanted);
@@ -161,7 +197,7 @@ fn work_record(
         slot_mut(shelf, state.next).fill(0);
         state.next += 1;
     }
-    10
+    Worked::Taken
 }
 
 /// The message in next's slot, if the slot holds next and a good body. A length above 64 is no

@@ -1,7 +1,8 @@
 //! The sheet, and recordings played into a receiver at full capacities.
 
+use crate::desk::Desk;
 use crate::packet::{little, Side};
-use crate::receiver::{next_fits, receive, start, Answer, State, SHELF_BYTES};
+use crate::receiver::{next_fits, Answer, State};
 use crate::tables::*;
 use crate::views::{ladder, live_orders, spread, used_entries};
 
@@ -97,10 +98,7 @@ fn shown_ticker(ticker: &[u8]) -> String {
 /// A receiver with a recording played into it.
 #[derive(Clone, Debug, PartialEq, Eq)]
 pub struct Played {
-    pub state: State,
-    pub orders: Vec<u64>,
-    pub symbols: Vec<u8>,
-    pub shelf: Vec<u8>,
+    pub desk: Desk,
     pub bad: u64,
     pub whole: bool,
 }
@@ -127,51 +125,25 @@ pub fn packets_of(recording: &[u8]) -> (Vec<&[u8]>, bool) {
 }
 
 /// "It uses full capacities. A refused packet is counted as bad and passed over".
-pub fn play(recording: &[u8]) -> Result<Played, u8> {
+pub fn play(recording: &[u8]) -> Played {
     play_telling(recording, |_| ())
 }
 
 /// The same, with what `receive` answers to each whole packet told in order.
-pub fn play_telling(
-    recording: &[u8],
-    mut tell: impl FnMut(Result<Answer, u8>),
-) -> Result<Played, u8> {
-    let mut orders = vec![0; MOST_ROWS * ROW_NUMBERS];
-    let mut symbols = vec![0; MOST_ENTRIES * ENTRY_BYTES];
-    let mut shelf = vec![0; SHELF_BYTES];
-    let mut state = start(&mut orders, &mut symbols, &mut shelf)?;
+pub fn play_telling(recording: &[u8], mut tell: impl FnMut(Result<Answer, u8>)) -> Played {
+    let mut desk = Desk::full();
     let mut bad = 0;
     let (packets, whole) = packets_of(recording);
     for packet in packets {
-        match receive(state, &mut orders, &mut symbols, &mut shelf, packet) {
-            Ok((after, answer)) => {
-                state = after;
-                tell(Ok(answer));
-            }
-            Err(refusal) => {
-                bad += 1;
-                tell(Err(refusal));
-            }
-        }
+        let answer = desk.give(packet);
+        bad += u64::from(answer.is_err());
+        tell(answer);
     }
-    Ok(Played {
-        state,
-        orders,
-        symbols,
-        shelf,
-        bad,
-        whole,
-    })
+    Played { desk, bad, whole }
 }
 
 /// The sheet of a recording.
 pub fn sheet_of_recording(recording: &[u8]) -> Result<Vec<u8>, u8> {
-    let played = play(recording)?;
-    sheet(
-        played.state,
-        &played.orders,
-        &played.symbols,
-        played.bad,
-        played.whole,
-    )
+    let Played { desk, bad, whole } = play(recording);
+    sheet(desk.state, &desk.orders, &desk.symbols, bad, whole)
 }

@@ -18,14 +18,12 @@ pub const ENTRY_BYTES: usize = 42;
 
 /// 6: "a table size outside these limits or not in whole rows"
 pub fn order_table_fits(orders: &[u64]) -> bool {
-    let rows = orders.len() / ROW_NUMBERS;
-    orders.len() % ROW_NUMBERS == 0 && rows >= 1 && rows <= MOST_ROWS
+    orders.len() % ROW_NUMBERS == 0 && (1..=MOST_ROWS).contains(&rows_in(orders))
 }
 
 /// 6: "a table size outside these limits or not in whole rows"
 pub fn symbol_table_fits(symbols: &[u8]) -> bool {
-    let entries = symbols.len() / ENTRY_BYTES;
-    symbols.len() % ENTRY_BYTES == 0 && entries >= 1 && entries <= MOST_ENTRIES
+    symbols.len() % ENTRY_BYTES == 0 && (1..=MOST_ENTRIES).contains(&entries_in(symbols))
 }
 
 pub fn rows_in(orders: &[u64]) -> usize {
@@ -57,23 +55,15 @@ pub fn row_is_live(row: &[u64]) -> bool {
 
 /// The lowest live row of an order ID.
 pub fn live_row(orders: &[u64], order: u64) -> Option<usize> {
-    for place in 0..rows_in(orders) {
-        let row = row(orders, place);
-        if row_is_live(row) && row[ORDER_ID] == order {
-            return Some(place);
-        }
-    }
-    None
+    (0..rows_in(orders)).find(|place| {
+        let row = row(orders, *place);
+        row_is_live(row) && row[ORDER_ID] == order
+    })
 }
 
 /// The lowest free row.
 pub fn free_row(orders: &[u64]) -> Option<usize> {
-    for place in 0..rows_in(orders) {
-        if row_is_free(row(orders, place)) {
-            return Some(place);
-        }
-    }
-    None
+    (0..rows_in(orders)).find(|place| row_is_free(row(orders, *place)))
 }
 
 pub fn entries_in(symbols: &[u8]) -> usize {
@@ -105,23 +95,15 @@ pub fn symbol_of_entry(entry: &[u8]) -> u32 {
 
 /// The lowest used entry of a symbol. None: the symbol is unknown.
 pub fn used_entry(symbols: &[u8], symbol: u32) -> Option<usize> {
-    for place in 0..entries_in(symbols) {
-        let entry = entry(symbols, place);
-        if entry_is_used(entry) && symbol_of_entry(entry) == symbol {
-            return Some(place);
-        }
-    }
-    None
+    (0..entries_in(symbols)).find(|place| {
+        let entry = entry(symbols, *place);
+        entry_is_used(entry) && symbol_of_entry(entry) == symbol
+    })
 }
 
 /// The lowest free entry.
 pub fn free_entry(symbols: &[u8]) -> Option<usize> {
-    for place in 0..entries_in(symbols) {
-        if entry_is_free(entry(symbols, place)) {
-            return Some(place);
-        }
-    }
-    None
+    (0..entries_in(symbols)).find(|place| entry_is_free(entry(symbols, *place)))
 }
 
 #[cfg(test)]

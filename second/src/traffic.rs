@@ -180,8 +180,8 @@ pub fn in_packets(records: &[(u64, Vec<u8>)], most: usize) -> Vec<Vec<u8>> {
 #[cfg(test)]
 mod tests {
     use super::*;
-    use crate::receiver::{receive, start, SHELF_BYTES};
-    use crate::tables::{ENTRY_BYTES, MOST_ENTRIES, MOST_ROWS, ROW_NUMBERS};
+    use crate::desk::Desk;
+    use crate::tables::MOST_ROWS;
     use crate::views::live_orders;
 
     /// Nothing stops, and about as many orders stay live as wanted, also in full tables.
@@ -193,16 +193,12 @@ mod tests {
             for _ in 0..5_000 {
                 records.push(traffic.message());
             }
-            let mut orders = vec![0; MOST_ROWS * ROW_NUMBERS];
-            let mut symbols = vec![0; MOST_ENTRIES * ENTRY_BYTES];
-            let mut shelf = vec![0; SHELF_BYTES];
-            let mut state = start(&mut orders, &mut symbols, &mut shelf).unwrap();
+            let mut desk = Desk::full();
             for packet in in_packets(&records, 8) {
-                let got = receive(state, &mut orders, &mut symbols, &mut shelf, &packet).unwrap();
-                state = got.0;
+                desk.give(&packet).unwrap();
             }
-            assert_eq!(state.next, records.len() as u64 + 1);
-            let live = live_orders(&orders).unwrap() as usize;
+            assert_eq!(desk.state.next, records.len() as u64 + 1);
+            let live = live_orders(&desk.orders).unwrap() as usize;
             assert!(
                 live <= wanted && live > wanted * 8 / 10,
                 "{live} of {wanted}"

@@ -2,29 +2,19 @@
 //! one answers or writes, the other must too, byte for byte. What a call has no business with is
 //! filled with a mark first, so that a stray write shows.
 
+use crate::desk::{Desk, MARK, MARK_BYTE};
 use crate::morning::Dice;
-use crate::packet::{read_body, read_packet, read_record, Message, Side, HEADER_BYTES};
+use crate::packet::*;
 use crate::proved::{lent, Proved, SHEET_BYTES};
-use crate::receiver::{receive, start, Answer, State, SHELF_BYTES};
+use crate::receiver::{Answer, SLOT_BYTES};
 use crate::sheet::sheet;
+use crate::stream::Stream;
 use crate::tables::*;
 use crate::views::{ladder, live_orders, spread, used_entries};
 use std::fmt::Debug;
 
 /// What two programs answered differently, in words.
 pub type Difference = String;
-
-const MARK: u64 = 0xA5A5_5A5A_C3C3_3C3C;
-const MARK_BYTE: u8 = 0xA5;
-
-/// The second program's receiver with its tables.
-#[derive(Clone, Debug, PartialEq, Eq)]
-pub struct Desk {
-    pub orders: Vec<u64>,
-    pub symbols: Vec<u8>,
-    pub shelf: Vec<u8>,
-    pub state: State,
-}
 
 /// What was compared, so that a run can say that it tried everything.
 #[derive(Clone, Debug, Default, PartialEq, Eq)]
@@ -37,12 +27,27 @@ pub struct Tally {
     /// Records by their answer, 10 to 14.
     pub records: [u64; 5],
     pub applied: u64,
-    pub starts: u64,
     pub bodies: u64,
-    pub views: u64,
+    /// Starts, views and sheets: those that were not refused by 6, and those that were.
+    pub starts: [u64; 2],
+    pub views: [u64; 2],
+    pub sheets: [u64; 2],
     pub unknown_views: u64,
-    pub sheets: u64,
     pub cut_sheets: u64,
+    /// Pieces of recordings: those that were not refused, and those that were.
+    pub feeds: [u64; 2],
+    /// Pieces that ended inside a length or packet, and inside one that is passed over.
+    pub cut_feeds: u64,
+    pub passing_feeds: u64,
+    /// Bad packets and records by 10 to 14, as streams tell them.
+    pub fed_bad: u64,
+    pub fed_records: [u64; 5],
+    /// Messages worked over spoiled rows of their own IDs, by the places of their types.
+    pub spoiled: [u64; 11],
+    /// Ladders with a level of the most shares that there can be.
+    pub largest_levels: u64,
+    /// Spreads as far below and above 0 as there can be.
+    pub widest_spreads: [u64; 2],
 }
 
 impl Tally {
@@ -52,12 +57,60 @@ impl Tally {
         add_each(&mut self.stops, &other.stops);
         add_each(&mut self.records, &other.records);
         self.applied += other.applied;
-        self.starts += other.starts;
         self.bodies += other.bodies;
-        self.views += other.views;
+        add_each(&mut self.starts, &other.starts);
+        add_each(&mut self.views, &other.views);
+        add_each(&mut self.sheets, &other.sheets);
         self.unknown_views += other.unknown_views;
-        self.sheets += other.sheets;
         self.cut_sheets += other.cut_sheets;
+        add_each(&mut self.feeds, &other.feeds);
+        self.cut_feeds += other.cut_feeds;
+        self.passing_feeds += other.passing_feeds;
+        self.fed_bad += other.fed_bad;
+        add_each(&mut self.fed_records, &other.fed_records);
+        add_each(&mut self.spoiled, &other.spoiled);
+        self.largest_levels += other.largest_levels;
+        add_each(&mut self.widest_spreads, &other.widest_spreads);
+    }
+
+    /// All that a long run must have seen, and how often this one has.
+    pub fn seen(&self) -> Vec<(String, u64)> {
+        let mut seen = Vec::new();
+        for number in 1..=6 {
+            seen.push((format!("refusal {number}"), self.refusals[number]));
+        }
+        for stop in (0..1).chain(20..28) {
+            seen.push((format!("stop {stop}"), self.stops[stop]));
+        }
+        for place in 0..5 {
+            let answer = 10 + place;
+            seen.push((format!("answer {answer}"), self.records[place]));
+            seen.push((format!("a stream's {answer}"), self.fed_records[place]));
+        }
+        for ((kind, _), count) in TYPES_AND_LENGTHS.iter().zip(self.spoiled) {
+            seen.push((format!("type {kind} over a spoiled row"), count));
+        }
+        for (what, count) in [
+            ("starts", self.starts[0]),
+            ("refused starts", self.starts[1]),
+            ("views", self.views[0]),
+            ("views refused by 6", self.views[1]),
+            ("views refused by 30", self.unknown_views),
+            ("sheets", self.sheets[0]),
+            ("refused sheets", self.sheets[1]),
+            ("sheets in too small memory", self.cut_sheets),
+            ("pieces of recordings", self.feeds[0]),
+            ("refused pieces", self.feeds[1]),
+            ("pieces cut inside a length or packet", self.cut_feeds),
+            ("pieces cut inside too long a packet", self.passing_feeds),
+            ("a stream's bad packets", self.fed_bad),
+            ("the largest sum", self.largest_levels),
+            ("the lowest spread", self.widest_spreads[0]),
+            ("the highest spread", self.widest_spreads[1]),
+        ] {
+            seen.push((what.to_string(), count));
+        }
+        seen
     }
 }
 
@@ -70,6 +123,11 @@ fn add_each(sums: &mut [u64], numbers: &[u64]) {
 pub struct Twins {
     pub proved: Proved,
     pub second: Desk,
+    /// The stream of a recording in pieces over the second program's receiver, with its memory.
+    pub stream: Stream,
+    pub hold: Vec<u8>,
+    proved_stream: lent::Stream,
+    proved_hold: Vec<u8>,
     pub bad: u64,
     pub tally: Tally,
 }
@@ -77,16 +135,6 @@ pub struct Twins {
 impl Twins {
     /// Two receivers with the smallest tables, not started.
     pub fn new() -> Twins {
-        let second = Desk {
-            orders: vec![MARK; ROW_NUMBERS],
-            symbols: vec![MARK_BYTE; ENTRY_BYTES],
-            shelf: vec![MARK_BYTE; SHELF_BYTES],
-            state: State {
-                next: 9,
-                second: 9,
-                stop: 9,
-            },
-        };
         let mut twins = Twins {
             proved: Proved {
                 orders: Vec::new(),
@@ -94,7 +142,11 @@ impl Twins {
                 shelf: Vec::new(),
                 state: [0; 3],
             },
-            second,
+            second: Desk::unstarted(1, 1),
+            stream: Stream::default(),
+            hold: Vec::new(),
+            proved_stream: [0; 11],
+            proved_hold: Vec::new(),
             bad: 0,
             tally: Tally::default(),
         };
@@ -105,9 +157,9 @@ impl Twins {
     /// New tables of these capacities, full of marks, and a start.
     pub fn restart(&mut self, rows: usize, entries: usize) -> Result<(), Difference> {
         self.alter(|desk| {
-            desk.orders = vec![MARK; rows * ROW_NUMBERS];
-            desk.symbols = vec![MARK_BYTE; entries * ENTRY_BYTES];
-            desk.shelf = vec![MARK_BYTE; SHELF_BYTES];
+            let state = desk.state;
+            *desk = Desk::unstarted(rows, entries);
+            desk.state = state;
         });
         self.bad = 0;
         self.start()
@@ -128,6 +180,33 @@ impl Twins {
         self.proved.shelf.clone_from(&desk.shelf);
         self.proved.state = [desk.state.next, desk.state.second, desk.state.stop.into()];
         desk.state.second %= 1 << 32;
+        self.proved_stream = self.stream_numbers();
+        self.proved_hold.clone_from(&self.hold);
+    }
+
+    /// The caller alters the stream of a recording or its memory: the same for both.
+    pub fn alter_stream(&mut self, change: impl FnOnce(&mut Stream, &mut Vec<u8>)) {
+        change(&mut self.stream, &mut self.hold);
+        self.lend_again();
+    }
+
+    /// The stream's eleven numbers in the order of the boundary.
+    fn stream_numbers(&self) -> lent::Stream {
+        let (state, stream) = (&self.second.state, &self.stream);
+        let [taken, old, too_far, repeated, differing] = stream.totals;
+        [
+            state.next,
+            state.second,
+            state.stop.into(),
+            stream.held,
+            stream.to_pass,
+            stream.bad,
+            taken,
+            old,
+            too_far,
+            repeated,
+            differing,
+        ]
     }
 
     /// Sets bits of second and stop that do not count: the high 32, and all above the low 8.
@@ -137,17 +216,12 @@ impl Twins {
     }
 
     pub fn start(&mut self) -> Result<(), Difference> {
-        self.tally.starts += 1;
         let mut state = self.proved.state;
-        let desk = &mut self.second;
-        let wanted = match start(&mut desk.orders, &mut desk.symbols, &mut desk.shelf) {
-            Err(number) => number,
-            Ok(started) => {
-                desk.state = started;
-                state = [started.next, started.second, started.stop.into()];
-                0
-            }
-        };
+        let wanted = told(self.second.start());
+        if wanted == 0 {
+            let started = self.second.state;
+            state = [started.next, started.second, started.stop.into()];
+        }
         let proved = &mut self.proved;
         let number = lent::start(
             &mut proved.orders,
@@ -155,9 +229,61 @@ impl Twins {
             &mut proved.shelf,
             &mut proved.state,
         );
+        self.tally.starts[usize::from(wanted == 6)] += 1;
         same("start: answer", &number, &wanted)?;
         same("start: state", &self.proved.state, &state)?;
         self.same_tables("start")
+    }
+
+    /// A recording begins, with memory of this length for an unfinished packet, full of marks.
+    pub fn open(&mut self, hold: usize) -> Result<(), Difference> {
+        self.stream = Stream::default();
+        self.hold = vec![MARK_BYTE; hold];
+        self.bad = 0;
+        self.lend_again();
+        self.proved_stream = [MARK; 11];
+        let number = lent::open(&self.proved.state, &mut self.proved_stream);
+        same("open: answer", &number, &0)?;
+        same("open: stream", &self.proved_stream, &self.stream_numbers())
+    }
+
+    /// One piece of a recording to both: the answer, the stream with its totals, the memory for an
+    /// unfinished packet, all tables, and whether a recording that ended here would be cut.
+    pub fn feed(&mut self, chunk: &[u8]) -> Result<(), Difference> {
+        let before = self.stream;
+        let wanted = told(self.stream.feed(&mut self.second, &mut self.hold, chunk));
+        let proved = &mut self.proved;
+        let number = lent::feed(
+            &mut proved.orders,
+            &mut proved.symbols,
+            &mut proved.shelf,
+            &mut self.proved_hold,
+            &mut self.proved_stream,
+            chunk,
+        );
+        same("feed: answer", &number, &wanted)?;
+        same("feed: stream", &self.proved_stream, &self.stream_numbers())?;
+        same_runs("feed", "byte held", &self.proved_hold, &self.hold, 1)?;
+        self.same_tables("feed")?;
+        let (cut, wanted_cut) = (lent::cut(&self.proved_stream), self.stream.is_cut());
+        same("cut", &cut, &wanted_cut)?;
+        self.proved.state.copy_from_slice(&self.proved_stream[..3]);
+        self.bad = self.stream.bad;
+        self.note_feed(wanted, &before);
+        Ok(())
+    }
+
+    fn note_feed(&mut self, number: u8, before: &Stream) {
+        let (tally, stream) = (&mut self.tally, &self.stream);
+        tally.feeds[usize::from(number == 6)] += 1;
+        if number == 0 {
+            tally.cut_feeds += u64::from(stream.held > 0);
+            tally.passing_feeds += u64::from(stream.to_pass > 0);
+            tally.fed_bad += stream.bad - before.bad;
+            for (place, total) in stream.totals.iter().enumerate() {
+                tally.fed_records[place] += total - before.totals[place];
+            }
+        }
     }
 
     /// One packet to both: the reader's answers, the receiver's, and all that is left.
@@ -175,23 +301,30 @@ impl Twins {
             packet,
             &mut account,
         );
-        let desk = &mut self.second;
-        let (orders, symbols, shelf) = (&mut desk.orders, &mut desk.symbols, &mut desk.shelf);
-        let (wanted, wanted_account, answer) =
-            match receive(desk.state, orders, symbols, shelf, packet) {
-                Err(number) => (number, [MARK; 9], Err(number)),
-                Ok((after, answer)) => {
-                    desk.state = after;
-                    wanted_state = [after.next, after.second, after.stop.into()];
-                    (0, account_of(&answer), Ok(answer))
-                }
-            };
+        let answer = self.second.give(packet);
+        let (wanted, wanted_account) = match &answer {
+            Err(number) => (*number, [MARK; 9]),
+            Ok(answer) => {
+                let after = self.second.state;
+                wanted_state = [after.next, after.second, after.stop.into()];
+                (0, account_of(answer))
+            }
+        };
         same("receive: answer", &number, &wanted)?;
         same("receive: account", &account, &wanted_account)?;
         same("receive: state", &self.proved.state, &wanted_state)?;
         self.same_tables("receive")?;
         self.note(&answer);
         Ok(answer)
+    }
+
+    /// The same of a message over a spoiled row that bears its own IDs.
+    pub fn receive_over_spoiled(&mut self, kind: u8, packet: &[u8]) -> Result<(), Difference> {
+        let _ = self.receive(packet)?;
+        for (place, (known, _)) in TYPES_AND_LENGTHS.iter().enumerate() {
+            self.tally.spoiled[place] += u64::from(*known == kind);
+        }
+        Ok(())
     }
 
     fn note(&mut self, answer: &Result<Answer, u8>) {
@@ -205,7 +338,7 @@ impl Twins {
                 tally.refusals[0] += 1;
                 tally.stops[answer.stop as usize] += 1;
                 tally.applied += answer.applied;
-                add_each(&mut tally.records, &account_of(answer)[..5]);
+                add_each(&mut tally.records, &answer.counts());
             }
         }
     }
@@ -259,7 +392,8 @@ impl Twins {
         same_runs(call, "row", &proved.orders, &second.orders, width)?;
         let width = ENTRY_BYTES;
         same_runs(call, "entry", &proved.symbols, &second.symbols, width)?;
-        same_runs(call, "slot", &proved.shelf, &second.shelf, 74)
+        let width = SLOT_BYTES;
+        same_runs(call, "slot", &proved.shelf, &second.shelf, width)
     }
 
     /// Counts, and the ladders and the spread of a few symbols, known and unknown.
@@ -296,6 +430,11 @@ impl Twins {
         }
     }
 
+    fn note_view(&mut self, number: u8) {
+        self.tally.views[usize::from(number == 6)] += 1;
+        self.tally.unknown_views += u64::from(number == 30);
+    }
+
     pub fn counts(&mut self) -> Result<(), Difference> {
         let mut counts = [MARK; 2];
         let number = lent::counts(&self.proved.orders, &self.proved.symbols, &mut counts);
@@ -304,7 +443,7 @@ impl Twins {
             (Ok(orders), Ok(symbols)) => (0, [orders, symbols]),
             _ => (6, [MARK; 2]),
         };
-        self.tally.views += 1;
+        self.note_view(wanted);
         same("counts: answer", &number, &wanted)?;
         same("counts: numbers", &counts, &wanted_counts)
     }
@@ -319,8 +458,12 @@ impl Twins {
                 Ok(None) => (0, [0, 0]),
                 Ok(Some(spread)) => (0, [1, spread as u64]),
             };
-        self.tally.views += 1;
-        self.tally.unknown_views += u64::from(wanted == 30);
+        self.note_view(wanted);
+        let widest = HIGHEST_PRICE - 1;
+        let spreads = [[1, widest.wrapping_neg()], [1, widest]];
+        for (seen, spread) in self.tally.widest_spreads.iter_mut().zip(spreads) {
+            *seen += u64::from(wanted == 0 && wanted_answer == spread);
+        }
         same("spread: answer", &number, &wanted)?;
         same("spread: numbers", &answer, &wanted_answer)
     }
@@ -336,7 +479,10 @@ impl Twins {
             Err(number) => (number, [MARK]),
             Ok(levels) => (0, [levels]),
         };
-        self.tally.views += 1;
+        self.note_view(wanted);
+        let most = MOST_ROWS as u64 * u64::from(u32::MAX);
+        let largest = wanted_run.chunks_exact(3).any(|level| level[1] == most);
+        self.tally.largest_levels += u64::from(wanted == 0 && largest);
         same("ladder: answer", &number, &wanted)?;
         same("ladder: levels", &levels, &wanted_levels)?;
         same_runs("ladder", "level", &run, &wanted_run, 3)
@@ -395,7 +541,7 @@ impl Twins {
                 (0, [sheet.len() as u64])
             }
         };
-        self.tally.sheets += 1;
+        self.tally.sheets[usize::from(wanted == 6)] += 1;
         same("sheet: answer", &number, &wanted)?;
         same("sheet: length", &whole_length, &wanted_length)?;
         if text != wanted_text {
@@ -418,12 +564,13 @@ fn shown(text: &[u8]) -> String {
 
 /// The account's nine numbers in the header's order.
 pub fn account_of(answer: &Answer) -> [u64; 9] {
+    let [taken, old, too_far, repeats, differing] = answer.counts();
     [
-        answer.taken,
-        answer.old,
-        answer.too_far,
-        answer.repeats,
-        answer.differing,
+        taken,
+        old,
+        too_far,
+        repeats,
+        differing,
         answer.next,
         answer.applied,
         answer.highest,
@@ -437,6 +584,11 @@ pub fn fields_of(message: &Message) -> [u64; 8] {
     let mut fields = [0; 8];
     fields[..numbers.len()].copy_from_slice(&numbers);
     fields
+}
+
+/// The number that the boundary answers: 0 where nothing is refused.
+fn told(answer: Result<(), u8>) -> u8 {
+    answer.err().unwrap_or(0)
 }
 
 fn same<T: PartialEq + Debug>(what: &str, proved: &T, second: &T) -> Result<(), Difference> {

@@ -77,13 +77,8 @@ pub fn live_orders(orders: &[u64]) -> Result<u64, u8> {
     if !order_table_fits(orders) {
         return Err(6);
     }
-    let mut count = 0;
-    for place in 0..rows_in(orders) {
-        if row_is_live(row(orders, place)) {
-            count += 1;
-        }
-    }
-    Ok(count)
+    let live = (0..rows_in(orders)).filter(|place| row_is_live(row(orders, *place)));
+    Ok(live.count() as u64)
 }
 
 /// The number of used entries.
@@ -91,11 +86,6 @@ pub fn used_entries(symbols: &[u8]) -> Result<u64, u8> {
     if !symbol_table_fits(symbols) {
         return Err(6);
     }
-    let mut count = 0;
-    for place in 0..entries_in(symbols) {
-        if entry_is_used(entry(symbols, place)) {
-            count += 1;
-        }
-    }
-    Ok(count)
+    let used = (0..entries_in(symbols)).filter(|place| entry_is_used(entry(symbols, *place)));
+    Ok(used.count() as u64)
 }

@@ -6,7 +6,7 @@ mod common;
 use common::*;
 use second::morning::*;
 use second::packet::{read_body, read_packet, Message, Side, LAST_NUMBER};
-use second::receiver::{receive, start, Answer, State};
+use second::receiver::{Answer, State};
 use second::views;
 use std::collections::{BTreeMap, VecDeque};
 
@@ -51,16 +51,16 @@ fn live(row: &&[u64; 5]) -> bool {
 }
 
 impl Model {
-    fn of(case: &Case) -> Model {
+    fn of(desk: &Desk) -> Model {
         Model {
-            state: case.state,
-            rows: case
+            state: desk.state,
+            rows: desk
                 .orders
                 .chunks(5)
                 .map(|row| row.try_into().unwrap())
                 .collect(),
-            entries: case.symbols.chunks(42).map(<[u8]>::to_vec).collect(),
-            slots: case
+            entries: desk.symbols.chunks(42).map(<[u8]>::to_vec).collect(),
+            slots: desk
                 .shelf
                 .chunks(74)
                 .map(|slot| Slot {
@@ -72,22 +72,20 @@ impl Model {
         }
     }
 
-    fn orders(&self) -> Vec<u64> {
-        self.rows.concat()
-    }
-
-    fn symbols(&self) -> Vec<u8> {
-        self.entries.concat()
-    }
-
-    fn shelf(&self) -> Vec<u8> {
-        let mut bytes = Vec::new();
+    /// Put together again.
+    fn desk(&self) -> Desk {
+        let mut shelf = Vec::new();
         for slot in &self.slots {
-            bytes.extend(slot.number.to_le_bytes());
-            bytes.extend(slot.length.to_le_bytes());
-            bytes.extend(&slot.padded);
+            shelf.extend(slot.number.to_le_bytes());
+            shelf.extend(slot.length.to_le_bytes());
+            shelf.extend(&slot.padded);
         }
-        bytes
+        Desk {
+            state: self.state,
+            orders: self.rows.concat(),
+            symbols: self.entries.concat(),
+            shelf,
+        }
     }
 
     fn entry_of(&self, symbol: u32) -> Option<usize> {
@@ -270,12 +268,12 @@ impl Model {
     }
 }
 
-fn sizes_good(case: &Case) -> bool {
-    case.orders.len() % 5 == 0
-        && (5..=8_000).contains(&case.orders.len())
-        && case.symbols.len() % 42 == 0
-        && (42..=42_000).contains(&case.symbols.len())
-        && case.shelf.len() == 4_736
+fn sizes_good(desk: &Desk) -> bool {
+    desk.orders.len() % 5 == 0
+        && (5..=8_000).contains(&desk.orders.len())
+        && desk.symbols.len() % 42 == 0
+        && (42..=42_000).contains(&desk.symbols.len())
+        && desk.shelf.len() == 4_736
 }
 
 #[test]
@@ -284,43 +282,34 @@ fn altered_receivers() {
     let mut refused = [0; 7];
     let mut sums = [0; 6];
     for seed in seeds(4_000) {
-        let mut case = case(seed, (seed % 4) * 300);
-        let before = case.clone();
-        let answer = receive(
-            case.state,
-            &mut case.orders,
-            &mut case.symbols,
-            &mut case.shelf,
-            &case.packet,
-        );
+        let Case { mut desk, packet } = case(seed, (seed % 4) * 300);
+        let before = desk.clone();
+        let answer = desk.give(&packet);
         let good = sizes_good(&before) && (1..=LAST_NUMBER + 1).contains(&before.state.next);
         if !good {
             assert_eq!(answer, Err(6), "seed {seed}");
-        } else if let Err(number) = read_packet(&before.packet) {
+        } else if let Err(number) = read_packet(&packet) {
             assert_eq!(answer, Err(number), "seed {seed}");
         }
         match answer {
             Err(number) => {
                 refused[number as usize] += 1;
-                assert_eq!(case, before, "seed {seed}");
+                assert_eq!(desk, before, "seed {seed}");
             }
-            Ok((state, answer)) => {
+            Ok(answer) => {
                 let mut model = Model::of(&before);
-                assert_eq!(answer, model.work(&before.packet), "seed {seed}");
-                assert_eq!(state, model.state, "seed {seed}");
-                assert_eq!(case.orders, model.orders(), "seed {seed}");
-                assert_eq!(case.symbols, model.symbols(), "seed {seed}");
-                assert_eq!(case.shelf, model.shelf(), "seed {seed}");
+                assert_eq!(answer, model.work(&packet), "seed {seed}");
+                assert_eq!(desk, model.desk(), "seed {seed}");
                 stops[answer.stop as usize] += 1;
-                for (sum, count) in sums.iter_mut().zip(counts(&answer)) {
+                for (sum, count) in sums.iter_mut().zip(answer.counts()) {
                     *sum += count;
                 }
                 sums[5] += answer.applied;
-                check_views(&model, &case, seed);
+                check_views(&model, &desk, seed);
             }
         }
     }
-    if seeds(2).len() == 2 {
+    if all_seeds() {
         assert!(
             refused[1..=6].iter().all(|count| *count > 30),
             "{refused:?}"
@@ -330,7 +319,7 @@ fn altered_receivers() {
     }
 }
 
-fn check_views(model: &Model, case: &Case, seed: u64) {
+fn check_views(model: &Model, desk: &Desk, seed: u64) {
     let mut symbols: Vec<u32> = model
         .entries
         .iter()
@@ -344,7 +333,7 @@ fn check_views(model: &Model, case: &Case, seed: u64) {
             let levels = model.ladder(symbol, side);
             let mut wanted = vec![seed; (seed % 40) as usize];
             let mut run = wanted.clone();
-            let answer = views::ladder(&case.orders, &case.symbols, symbol, side, &mut run);
+            let answer = views::ladder(&desk.orders, &desk.symbols, symbol, side, &mut run);
             if known {
                 let whole = levels.len().min(wanted.len() / 3 * 3);
                 wanted[..whole].copy_from_slice(&levels[..whole]);
@@ -355,7 +344,7 @@ fn check_views(model: &Model, case: &Case, seed: u64) {
             }
             assert_eq!(run, wanted, "seed {seed}");
         }
-        let spread = views::spread(&case.orders, &case.symbols, symbol);
+        let spread = views::spread(&desk.orders, &desk.symbols, symbol);
         match best {
             _ if !known => assert_eq!(spread, Err(30), "seed {seed}"),
             [Some(bid), Some(offer)] => {
@@ -370,9 +359,9 @@ fn check_views(model: &Model, case: &Case, seed: u64) {
         }
     }
     let live_rows = model.rows.iter().filter(live).count() as u64;
-    assert_eq!(views::live_orders(&case.orders), Ok(live_rows));
+    assert_eq!(views::live_orders(&desk.orders), Ok(live_rows));
     let used = model.entries.iter().filter(|entry| entry[0] == 1).count() as u64;
-    assert_eq!(views::used_entries(&case.symbols), Ok(used));
+    assert_eq!(views::used_entries(&desk.symbols), Ok(used));
 }
 
 /// Runs of many packets with damage between them.
@@ -380,44 +369,29 @@ fn check_views(model: &Model, case: &Case, seed: u64) {
 fn altered_runs() {
     for seed in seeds(60) {
         let mut dice = Dice::new(seed ^ 0xA17E);
-        let mut now = case(dice.bits(), 0);
+        let mut desk = case(dice.bits(), 0).desk;
         for _ in 0..40 {
             let other = case(dice.bits(), 500);
-            now.packet = other.packet;
             match dice.below(12) {
-                0 => damage_orders(dice.bits(), &mut now.orders),
-                1 => damage_symbols(dice.bits(), &mut now.symbols),
-                2 => damage_shelf(dice.bits(), &mut now.shelf, now.state.next),
-                3 => damage_state(dice.bits(), &mut now.state),
-                4 => now.shelf = other.shelf,
-                5 => now.state = other.state,
+                0 => damage_orders(dice.bits(), &mut desk.orders),
+                1 => damage_symbols(dice.bits(), &mut desk.symbols),
+                2 => damage_shelf(dice.bits(), &mut desk.shelf, desk.state.next),
+                3 => damage_state(dice.bits(), &mut desk.state),
+                4 => desk.shelf = other.desk.shelf,
+                5 => desk.state = other.desk.state,
                 6 => {
-                    let started = start(&mut now.orders, &mut now.symbols, &mut now.shelf);
-                    match started {
-                        Ok(state) => now.state = state,
-                        Err(number) => assert_eq!(number, 6),
-                    }
+                    let wanted = if sizes_good(&desk) { Ok(()) } else { Err(6) };
+                    assert_eq!(desk.start(), wanted, "seed {seed}");
                 }
                 _ => {}
             }
-            let before = now.clone();
-            let answer = receive(
-                now.state,
-                &mut now.orders,
-                &mut now.symbols,
-                &mut now.shelf,
-                &now.packet,
-            );
-            match answer {
-                Err(_) => assert_eq!(now, before, "seed {seed}"),
-                Ok((state, answer)) => {
-                    now.state = state;
+            let before = desk.clone();
+            match desk.give(&other.packet) {
+                Err(_) => assert_eq!(desk, before, "seed {seed}"),
+                Ok(answer) => {
                     let mut model = Model::of(&before);
-                    assert_eq!(answer, model.work(&before.packet), "seed {seed}");
-                    assert_eq!(now.state, model.state, "seed {seed}");
-                    assert_eq!(now.orders, model.orders(), "seed {seed}");
-                    assert_eq!(now.symbols, model.symbols(), "seed {seed}");
-                    assert_eq!(now.shelf, model.shelf(), "seed {seed}");
+                    assert_eq!(answer, model.work(&other.packet), "seed {seed}");
+                    assert_eq!(desk, model.desk(), "seed {seed}");
                 }
             }
         }

@@ -1,11 +1,16 @@
 //! The lines of `answers`.
 
+mod common;
+use common::{example_file, example_path, seeds, Reference};
 use second::answers::answers_of_recording;
 use second::examples::*;
 use second::morning::{drawn_recording, packed, recording};
+use second::packet::read_packet;
 use second::sheet::{packets_of, play};
-use second::tables::*;
-use std::path::PathBuf;
+use second::tables::{MOST_ENTRIES, MOST_ROWS};
+use std::collections::BTreeMap;
+use std::fmt::Display;
+use std::fs::File;
 use std::process::{Command, Stdio};
 
 const MORNING: &str = "5 0 0 0 0 6 5 0 0
@@ -22,12 +27,6 @@ ask 10020000 200 1
 
 fn text(recording: &[u8]) -> String {
     String::from_utf8(answers_of_recording(recording).unwrap()).unwrap()
-}
-
-fn example(name: &str) -> PathBuf {
-    PathBuf::from(env!("CARGO_MANIFEST_DIR"))
-        .join("../examples")
-        .join(name)
 }
 
 #[test]
@@ -71,18 +70,101 @@ entry 0 ";
     assert!(text(&bytes).ends_with("\nsymbol 7 0 0 none\n"));
 }
 
-/// One line for each packet, row, entry and level, and the same bytes on every run.
+fn joined<T: Display>(word: &str, numbers: &[T]) -> String {
+    let mut line = word.to_string();
+    for number in numbers {
+        line.push_str(&format!(" {number}"));
+    }
+    line
+}
+
+/// The front: a line for each whole packet, which tells of as many records as it has, and a next
+/// number that grows by what was applied. Answers the lines behind, the last next and the last stop.
+fn packets_told<'a>(bytes: &[u8], lines: &'a str) -> (Vec<&'a str>, u64, u64) {
+    let mut rest = lines.lines();
+    let (mut next, mut stop) = (1, 0);
+    for packet in packets_of(bytes).0 {
+        let line = rest.next().expect("a line for each packet");
+        match read_packet(packet) {
+            Err(number) => assert_eq!(line, format!("refused {number}")),
+            Ok(records) => {
+                let numbers: Vec<u64> = line.split(' ').map(|word| word.parse().unwrap()).collect();
+                let [counts @ .., told, applied, _highest, stopped] = numbers.as_slice() else {
+                    panic!("{line}");
+                };
+                assert_eq!(counts.len(), 5);
+                assert_eq!(counts.iter().sum::<u64>(), records.len() as u64);
+                next += applied;
+                assert_eq!(*told, next);
+                stop = *stopped;
+            }
+        }
+    }
+    (rest.collect(), next, stop)
+}
+
+/// The back: the second, each row and entry that is not free, and each symbol's book, as these
+/// tables, which no caller has altered, make them.
+fn tables_told(second: u64, orders: &[u64], symbols: &[u8]) -> Vec<String> {
+    let mut lines = vec![format!("second {second}")];
+    for (place, row) in orders.chunks(5).enumerate() {
+        if row != [0; 5] {
+            lines.push(joined(&format!("row {place}"), row));
+        }
+    }
+    let used = || symbols.chunks(42).filter(|entry| entry[0] == 1);
+    for (place, entry) in used().enumerate() {
+        lines.push(joined(&format!("entry {place}"), entry));
+    }
+    for entry in used() {
+        let symbol = u32::from_le_bytes(entry[5..9].try_into().unwrap());
+        lines.extend(book_told(symbol, orders));
+    }
+    lines
+}
+
+fn book_told(symbol: u32, orders: &[u64]) -> Vec<String> {
+    let mut sides: [BTreeMap<u64, [u64; 2]>; 2] = Default::default();
+    for row in orders.chunks(5).filter(|row| *row != [0; 5]) {
+        if row[1] / 2 == u64::from(symbol) {
+            let level = sides[(row[1] % 2) as usize].entry(row[2]).or_default();
+            level[0] += row[3];
+            level[1] += 1;
+        }
+    }
+    let [bids, offers] = sides;
+    let spread = match (bids.last_key_value(), offers.first_key_value()) {
+        (Some((bid, _)), Some((offer, _))) => (*offer as i64 - *bid as i64).to_string(),
+        _ => "none".to_string(),
+    };
+    let mut lines = vec![format!(
+        "symbol {symbol} {} {} {spread}",
+        bids.len(),
+        offers.len()
+    )];
+    for (price, [shares, orders]) in bids.into_iter().rev() {
+        lines.push(joined("bid", &[price, shares, orders]));
+    }
+    for (price, [shares, orders]) in offers {
+        lines.push(joined("ask", &[price, shares, orders]));
+    }
+    lines
+}
+
+/// The long recording comes to the tables that its list's first k messages make.
 #[test]
-fn the_long_recording_is_stable() {
-    let stored = std::fs::read(example("long.rec")).unwrap();
+fn the_long_recording_line_by_line() {
+    let stored = example_file("long.rec");
     let lines = text(&stored);
-    assert_eq!(lines, text(&long_recording()));
+    let (back, next, stop) = packets_told(&stored, &lines);
+    let list = long_list();
+    let mut made = Reference::new(&list, MOST_ROWS, MOST_ENTRIES);
+    made.go_to(next - 1);
+    assert_eq!((made.rule_of_next(), stop), (Some(24), 24));
+    assert_eq!(back, tables_told(made.second, &made.orders, &made.symbols));
     for (input, arguments) in [
-        (
-            std::fs::File::open(example("long.rec")).unwrap().into(),
-            vec![],
-        ),
-        (Stdio::null(), vec![example("long.rec")]),
+        (File::open(example_path("long.rec")).unwrap().into(), vec![]),
+        (Stdio::null(), vec![example_path("long.rec")]),
     ] {
         let output = Command::new(env!("CARGO_BIN_EXE_answers"))
             .args(arguments)
@@ -91,31 +173,17 @@ fn the_long_recording_is_stable() {
             .unwrap();
         assert!(output.status.success() && output.stdout == lines.as_bytes());
     }
-    // FNV-1a of the lines: a change of the program or of the recording shows here.
-    let mut hash: u64 = 0xCBF2_9CE4_8422_2325;
-    for byte in lines.bytes() {
-        hash = (hash ^ u64::from(byte)).wrapping_mul(0x0000_0100_0000_01B3);
-    }
-    assert_eq!(
-        (lines.lines().count(), hash),
-        (802, 12_447_823_155_463_671_299)
-    );
 }
 
 #[test]
-fn as_many_lines_as_there_is_to_tell() {
-    for seed in 0..40 {
+fn seeded_recordings_line_by_line() {
+    for seed in seeds(40) {
         let bytes = drawn_recording(seed);
         let lines = text(&bytes);
-        let count = |word: &str| lines.lines().filter(|l| l.starts_with(word)).count();
-        let played = play(&bytes).unwrap();
-        let rows = (0..MOST_ROWS).filter(|i| !row_is_free(row(&played.orders, *i)));
-        assert_eq!(count("row "), rows.count(), "seed {seed}");
-        let used = (0..MOST_ENTRIES).filter(|i| entry_is_used(entry(&played.symbols, *i)));
-        assert_eq!(count("symbol "), used.count(), "seed {seed}");
-        assert_eq!(count("entry "), count("symbol "), "seed {seed}");
-        assert_eq!(count("refused ") as u64, played.bad, "seed {seed}");
-        let front = lines.lines().take_while(|l| !l.starts_with("second "));
-        assert_eq!(front.count(), packets_of(&bytes).0.len(), "seed {seed}");
+        let (back, next, stop) = packets_told(&bytes, &lines);
+        let desk = play(&bytes).desk;
+        assert_eq!((next, stop), (desk.state.next, u64::from(desk.state.stop)));
+        let wanted = tables_told(desk.state.second, &desk.orders, &desk.symbols);
+        assert_eq!(back, wanted, "seed {seed}");
     }
 }

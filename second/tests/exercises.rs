@@ -31,8 +31,8 @@ fn p1_price_10_is_these_bytes() {
 #[test]
 fn p2_fresh_64_taken_65_too_far() {
     let mut desk = Desk::new(10, 4);
-    assert_eq!(counts(&desk.records(&[(64, time(1))])), [1, 0, 0, 0, 0]);
-    assert_eq!(counts(&desk.records(&[(65, time(1))])), [0, 0, 1, 0, 0]);
+    assert_eq!(desk.records(&[(64, time(1))]).counts(), [1, 0, 0, 0, 0]);
+    assert_eq!(desk.records(&[(65, time(1))]).counts(), [0, 0, 1, 0, 0]);
 }
 
 #[test]
@@ -42,9 +42,9 @@ fn p3_next_5_68_taken_69_too_far_4_old() {
         desk.next(time(second));
     }
     assert_eq!(desk.state.next, 5);
-    assert_eq!(counts(&desk.records(&[(68, time(1))])), [1, 0, 0, 0, 0]);
-    assert_eq!(counts(&desk.records(&[(69, time(1))])), [0, 0, 1, 0, 0]);
-    assert_eq!(counts(&desk.records(&[(4, time(1))])), [0, 1, 0, 0, 0]);
+    assert_eq!(desk.records(&[(68, time(1))]).counts(), [1, 0, 0, 0, 0]);
+    assert_eq!(desk.records(&[(69, time(1))]).counts(), [0, 0, 1, 0, 0]);
+    assert_eq!(desk.records(&[(4, time(1))]).counts(), [0, 1, 0, 0, 0]);
 }
 
 #[test]
@@ -59,7 +59,7 @@ fn p4_numbers_2_3_1_in_one_packet() {
     assert_eq!(applied, [0, 0, 3]);
     let mut together = Desk::new(10, 4);
     let answer = together.records(&records);
-    assert_eq!(counts(&answer), [3, 0, 0, 0, 0]);
+    assert_eq!(answer.counts(), [3, 0, 0, 0, 0]);
     assert_eq!((answer.applied, answer.next, answer.highest), (3, 4, 0));
     assert_eq!(together, one_by_one);
 }

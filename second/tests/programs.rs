@@ -1,15 +1,11 @@
 //! The programs as they are run.
 
+mod common;
+use common::{example_file, example_path};
 use second::examples::{morning_recording, MORNING_SHEET};
 use std::fs::File;
 use std::path::PathBuf;
 use std::process::{Command, Output, Stdio};
-
-fn example(name: &str) -> PathBuf {
-    PathBuf::from(env!("CARGO_MANIFEST_DIR"))
-        .join("../examples")
-        .join(name)
-}
 
 fn sheet2(input: Stdio, arguments: &[PathBuf]) -> Output {
     Command::new(env!("CARGO_BIN_EXE_sheet2"))
@@ -22,8 +18,8 @@ fn sheet2(input: Stdio, arguments: &[PathBuf]) -> Output {
 #[test]
 fn sheet2_reads_standard_input_or_a_file() {
     for name in ["morning", "long"] {
-        let wanted = std::fs::read(example(&format!("{name}.sheet"))).unwrap();
-        let path = example(&format!("{name}.rec"));
+        let wanted = example_file(&format!("{name}.sheet"));
+        let path = example_path(&format!("{name}.rec"));
         let piped = sheet2(File::open(&path).unwrap().into(), &[]);
         assert!(piped.status.success() && piped.stdout == wanted);
         let named = sheet2(Stdio::null(), &[path]);
@@ -35,10 +31,13 @@ fn sheet2_reads_standard_input_or_a_file() {
 fn a_read_error_prints_no_sheet() {
     let folder = PathBuf::from(env!("CARGO_MANIFEST_DIR"));
     let outputs = [
-        sheet2(Stdio::null(), &[example("no.rec")]),
+        sheet2(Stdio::null(), &[example_path("no.rec")]),
         sheet2(Stdio::null(), &[folder.clone()]),
         sheet2(File::open(&folder).unwrap().into(), &[]),
-        sheet2(Stdio::null(), &[example("long.rec"), example("long.rec")]),
+        sheet2(
+            Stdio::null(),
+            &[example_path("long.rec"), example_path("long.rec")],
+        ),
     ];
     for output in outputs {
         assert!(!output.status.success());
@@ -57,7 +56,7 @@ fn make_examples_and_seeded_write_the_same_bytes_again() {
     assert!(made.status.success());
     for name in ["morning.rec", "morning.sheet", "long.rec", "long.sheet"] {
         let written = std::fs::read(folder.join(name)).unwrap();
-        assert!(written == std::fs::read(example(name)).unwrap(), "{name}");
+        assert!(written == example_file(name), "{name}");
     }
     assert!(std::fs::read(folder.join("morning.rec")).unwrap() == morning_recording());
     assert!(std::fs::read(folder.join("morning.sheet")).unwrap() == MORNING_SHEET.as_bytes());

@@ -4,10 +4,11 @@
 
 mod common;
 use common::*;
-use second::examples::{example_list, MORNING_SHEET};
+use second::examples::{example_list, morning_recording, MORNING_SHEET};
 use second::morning::*;
-use second::packet::Side;
-use second::proved::{self, Body, Counts, Head, Proved, Refusal};
+use second::packet::{Side, HIGHEST_PRICE};
+use second::proved::{self, lent, Body, Counts, Head, Proved, Refusal};
+use second::stream::LEAST_HOLD;
 
 fn example() -> (Proved, Vec<u8>) {
     let packet = packet(&numbered(&example_list(), 1, 5));
@@ -24,7 +25,7 @@ fn the_example_through_every_call() {
     };
     assert_eq!(proved::record(&packet), Ok(head));
     let answer = receiver.receive(&packet).expect("a good packet");
-    assert_eq!(counts(&answer), [5, 0, 0, 0, 0]);
+    assert_eq!(answer.counts(), [5, 0, 0, 0, 0]);
     assert_eq!((answer.next, answer.applied, answer.stop), (6, 5, 0));
     let (orders, symbols) = (3, 1);
     assert_eq!(receiver.counts(), Ok(Counts { orders, symbols }));
@@ -80,6 +81,73 @@ fn spreads_of_either_sign() {
         let wanted = (place == 2).then_some(-20_000);
         assert_eq!(receiver.spread(7), Ok(wanted));
     }
+}
+
+/// Every row with the most shares at one price, and books as wide as prices allow.
+#[test]
+fn the_largest_sums_and_the_widest_spreads() {
+    let mut receiver = Proved::new(1_600, 1).expect("sizes in the limits");
+    let answer = receiver.receive(&record(1, &update(7)));
+    assert_eq!(answer.map(|answer| answer.applied), Ok(1));
+    let most = u64::from(u32::MAX);
+    for (order, row) in receiver.orders.chunks_mut(5).enumerate() {
+        row.copy_from_slice(&[order as u64, 14, HIGHEST_PRICE, most, 1]);
+    }
+    let mut run = [9; 4];
+    assert_eq!(receiver.ladder(7, Side::Buy, &mut run), Ok(1));
+    assert_eq!(run, [HIGHEST_PRICE, 1_600 * most, 1_600, 9]);
+    let widest = HIGHEST_PRICE as i64 - 1;
+    receiver.orders[..5].copy_from_slice(&[0, 15, 1, most, 1]);
+    assert_eq!(receiver.spread(7), Ok(Some(-widest)));
+    for row in receiver.orders.chunks_mut(5) {
+        row[2] = if row[1] == 14 { 1 } else { HIGHEST_PRICE };
+    }
+    assert_eq!(receiver.spread(7), Ok(Some(widest)));
+}
+
+/// The example's recording cut in every place, through the calls for streams.
+#[test]
+fn the_example_in_pieces() {
+    let bytes = morning_recording();
+    for first in 0..=bytes.len() {
+        let (mut receiver, _) = example();
+        let mut stream = [9; 11];
+        assert_eq!(lent::open(&receiver.state, &mut stream), 0);
+        assert_eq!(stream, [1, 0, 0, 0, 0, 0, 0, 0, 0, 0, 0]);
+        let mut hold = [9; LEAST_HOLD];
+        let inside = first != 0 && first != bytes.len();
+        for (chunk, cut) in [(&bytes[..first], inside), (&bytes[first..], false)] {
+            let number = feed(&mut receiver, &mut hold, &mut stream, chunk);
+            assert_eq!((number, lent::cut(&stream)), (0, cut), "cut at {first}");
+        }
+        assert_eq!(stream, [6, 34_200, 0, 0, 0, 0, 5, 0, 0, 0, 0]);
+        assert_eq!(hold, [0; LEAST_HOLD]);
+        receiver.state.copy_from_slice(&stream[..3]);
+        assert_eq!(receiver.sheet(0, false), Ok(MORNING_SHEET.into()));
+    }
+}
+
+/// Too little memory for a packet is 6, and nothing changes.
+#[test]
+fn a_refused_piece() {
+    let (mut receiver, _) = example();
+    let mut stream = [1, 0, 0, 0, 0, 0, 0, 0, 0, 0, 0];
+    let mut hold = [9; LEAST_HOLD - 1];
+    let bytes = morning_recording();
+    assert_eq!(feed(&mut receiver, &mut hold, &mut stream, &bytes), 6);
+    assert_eq!(receiver, example().0);
+    assert_eq!(stream, [1, 0, 0, 0, 0, 0, 0, 0, 0, 0, 0]);
+    assert_eq!(hold, [9; LEAST_HOLD - 1]);
+}
+
+fn feed(receiver: &mut Proved, hold: &mut [u8], stream: &mut lent::Stream, chunk: &[u8]) -> u8 {
+    let Proved {
+        orders,
+        symbols,
+        shelf,
+        ..
+    } = receiver;
+    lent::feed(orders, symbols, shelf, hold, stream, chunk)
 }
 
 fn message(body: &[u8]) -> Body {

@@ -5,9 +5,7 @@ use common::*;
 use second::examples::*;
 use second::morning::*;
 use second::packet::{read_packet, LAST_NUMBER};
-use second::receiver::{receive, start, SHELF_BYTES};
 use second::sheet::*;
-use std::path::PathBuf;
 
 fn sheet_text(recording: &[u8]) -> String {
     String::from_utf8(sheet_of_recording(recording).unwrap()).unwrap()
@@ -187,11 +185,6 @@ fn sheets_of_altered_receivers() {
     }
 }
 
-fn example_file(name: &str) -> Vec<u8> {
-    let folder = PathBuf::from(env!("CARGO_MANIFEST_DIR")).join("../examples");
-    std::fs::read(folder.join(name)).expect(name)
-}
-
 #[test]
 fn the_example_files_are_those_that_make_examples_writes() {
     assert!(example_file("morning.rec") == morning_recording());
@@ -211,30 +204,31 @@ fn the_long_recording_shows_everything() {
     kinds.dedup();
     assert_eq!(kinds.len(), 11);
 
-    let mut orders = vec![0; 8_000];
-    let mut symbols = vec![0; 42_000];
-    let mut shelf = vec![0; SHELF_BYTES];
-    let mut state = start(&mut orders, &mut symbols, &mut shelf).unwrap();
+    let mut desk = Desk::full();
+    // The same records one to a packet, so that each record's answer is seen.
+    let mut shadow = Desk::full();
     let mut answers = [0; 5];
     let mut refused = [0; 7];
     let mut waited = 0;
     for packet in long_packets() {
-        match receive(state, &mut orders, &mut symbols, &mut shelf, &packet) {
+        match desk.give(&packet) {
             Err(number) => refused[number as usize] += 1,
-            Ok((after, answer)) => {
-                // No differing copy is ever taken, so the book is the list's.
-                for record in read_packet(&packet).unwrap() {
-                    let own = &list[record.number as usize - 1];
-                    assert!(answer.differing > 0 || own == record.body);
+            Ok(answer) => {
+                for one in read_packet(&packet).unwrap() {
+                    let alone = shadow.give(&record(one.number, one.body)).unwrap();
+                    // Whatever is no copy of the list's is told apart (14), so the book is the list's.
+                    let own = &list[one.number as usize - 1];
+                    assert_eq!(alone.differing == 1, own != one.body);
                 }
-                for (sum, count) in answers.iter_mut().zip(counts(&answer)) {
+                assert_eq!(shadow, desk);
+                for (sum, count) in answers.iter_mut().zip(answer.counts()) {
                     *sum += count;
                 }
                 waited += u64::from(answer.highest > answer.next);
-                state = after;
             }
         }
     }
+    let state = desk.state;
     assert!(answers.iter().all(|count| *count > 10), "{answers:?}");
     assert!(refused[1..=5].iter().all(|count| *count > 3), "{refused:?}");
     assert!(waited > 50);
@@ -263,13 +257,13 @@ fn seeded_recordings() {
     let mut cuts = 0;
     for seed in seeds(100) {
         let recording = drawn_recording(seed);
-        let played = play(&recording).unwrap();
-        stops.insert(played.state.stop);
+        let played = play(&recording);
+        stops.insert(played.desk.state.stop);
         cuts += u64::from(!played.whole);
         let text = sheet_text(&recording);
         assert!(text.ends_with('\n') && !text.contains("\n\n"));
     }
-    if seeds(2).len() == 2 {
+    if all_seeds() {
         for rule in [0, 20, 21, 22, 23, 24, 25, 26] {
             assert!(stops.contains(&rule), "{rule}");
         }

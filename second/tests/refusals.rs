@@ -248,15 +248,7 @@ fn made_bad_packets_are_refused_as_they_were_made() {
         5,
         ListSettings {
             messages: 80,
-            rows: 40,
-            entries: 5,
-            symbols: 5,
-            orders: 30,
-            levels: 5,
-            crossing: 0,
-            breaking: 0,
-            filling: false,
-            ending: 0,
+            ..ListSettings::default()
         },
     );
     let mut desk = Desk::new(40, 5);
@@ -272,5 +264,7 @@ fn made_bad_packets_are_refused_as_they_were_made() {
             assert_eq!(read_packet(&packet), Err(refusal), "seed {seed}");
         }
     }
-    assert!(lengths[1] > 0 || seeds(2).len() == 1);
+    if all_seeds() {
+        assert!(lengths.iter().all(|count| *count > 1_000), "{lengths:?}");
+    }
 }

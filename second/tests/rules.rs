@@ -183,13 +183,39 @@ fn the_other_four_change_no_table() {
     assert_eq!(desk.shelf, before.shelf);
 }
 
+/// Number 5 stops for want of a row, and the Delete behind it that would free one never comes to its
+/// turn, nor does anything else that a receiver can be given.
 #[test]
-fn a_stop_ends_when_a_caller_starts_again_only() {
+fn no_packet_ends_a_stop_and_a_start_does() {
     let mut desk = full();
-    desk.next(buy(7, 600, 1, 1)); // number 5 stops with 25
-    let answer = desk.records(&[(6, delete(7, 500))]);
-    assert_eq!((answer.taken, answer.applied, answer.stop), (1, 0, 25));
-    assert_eq!((answer.next, answer.highest), (5, 6));
+    let stopped = buy(7, 600, 1, 1);
+    desk.next(stopped.clone());
+    let before = desk.clone();
+    for (records, counts) in [
+        (vec![(6, delete(7, 500))], [1, 0, 0, 0, 0]),
+        (vec![(7, clear(7)), (8, clear(8))], [2, 0, 0, 0, 0]),
+        (vec![(1, clear(7))], [0, 1, 0, 0, 0]),
+        (vec![(5 + 64, delete(7, 500))], [0, 0, 1, 0, 0]),
+        (vec![(5, stopped.clone())], [0, 0, 0, 1, 0]),
+        (vec![(5, delete(7, 500))], [0, 0, 0, 0, 1]),
+    ] {
+        let answer = desk.records(&records);
+        assert_eq!(answer.counts(), counts);
+        assert_eq!((answer.next, answer.applied, answer.stop), (5, 0, 25));
+        assert_eq!(desk.state, before.state);
+        assert_eq!(
+            (&desk.orders, &desk.symbols),
+            (&before.orders, &before.symbols)
+        );
+    }
+    desk.refuses(1, &[]);
+    desk.start().unwrap();
+    assert_eq!(desk, Desk::new(2, 2));
+    // From here the list with the Delete in its place has no stop.
+    for body in [update(7), buy(7, 500, 1, 1), delete(7, 500), stopped] {
+        assert_eq!(desk.next(body).stop, 0);
+    }
+    assert_eq!(desk.row(0), [600, 14, 1, 1, 4]);
 }
 
 #[test]
@@ -197,16 +223,11 @@ fn made_breakers_break_the_rule_they_were_made_for() {
     let mut made = [0; 27];
     for seed in seeds(120) {
         let settings = ListSettings {
-            messages: 0,
             rows: 8,
             entries: 3,
-            symbols: 5,
             orders: 12,
-            levels: 4,
-            crossing: 100,
-            breaking: 0,
             filling: seed % 2 == 0,
-            ending: 0,
+            ..ListSettings::default()
         };
         let mut maker = ListMaker::new(seed, settings);
         for _ in 0..60 {
@@ -221,7 +242,7 @@ fn made_breakers_break_the_rule_they_were_made_for() {
             }
         }
     }
-    if seeds(2).len() == 2 {
+    if all_seeds() {
         assert!(made[20..].iter().all(|count| *count > 5), "{made:?}");
     }
 }

@@ -7,6 +7,7 @@ use second::morning::*;
 use second::packet::*;
 use second::receiver::{filled_slot, slot, slot_number};
 use second::tables::row_is_live;
+use std::collections::BTreeSet;
 
 fn joined(parts: &[Vec<u8>]) -> Vec<u8> {
     parts.concat()
@@ -35,15 +36,55 @@ fn number_0_past_the_end_is_2_and_number_0_with_an_empty_body_is_5() {
 
 #[test]
 fn a_known_type_with_another_length_is_3_before_a_field_is_looked_at() {
-    let mut body = update(7);
-    body[21] = 0;
-    body.pop();
-    assert_eq!(read_body(&body), Err(3));
-    // A Modify's length is a Trade Cancel's, and neither is the other.
-    assert_eq!(
-        modify(7, 1, 1, 1, 0).len(),
-        trade_cancel(0, 7, 1, 0, 1, 1).len()
-    );
+    let mut kinds = BTreeSet::new();
+    for seed in 0..300 {
+        let body = bad_body(seed, 4);
+        assert_eq!(read_body(&body), Err(4), "seed {seed}");
+        assert_eq!(read_body(&body[..body.len() - 1]), Err(3), "seed {seed}");
+        assert_eq!(
+            read_body(&[&body[..], &[0]].concat()),
+            Err(3),
+            "seed {seed}"
+        );
+        kinds.insert(body[0]);
+    }
+    // The six that have a judged field.
+    let judged = [1, 10, 11, 20, 21, 24];
+    assert_eq!(kinds.into_iter().collect::<Vec<_>>(), judged);
+}
+
+/// Modify Order and Trade Cancel both have 30 bytes, with their prices one byte apart.
+#[test]
+fn the_type_byte_decides_the_message_and_not_the_length() {
+    let mut body = modify(7, 9, 0x100, 0x100, 1);
+    let read = Message::ModifyOrder {
+        nanoseconds: 0,
+        symbol: 7,
+        order: 9,
+        price: 0x100,
+        size: 0x100,
+        flags: 1,
+    };
+    assert_eq!(read_body(&body), Ok(read));
+    body[0] = TRADE_CANCEL;
+    let read = Message::TradeCancel {
+        nanoseconds: 0,
+        symbol: 7,
+        trade: 9,
+        correction: 0,
+        price: 1,
+        size: 0x100_0001,
+    };
+    assert_eq!(read_body(&body), Ok(read));
+    // And what is good as the one may be bad as the other.
+    let mut body = modify(7, 9, 1, 1, 0);
+    assert!(read_body(&body).is_ok());
+    body[0] = TRADE_CANCEL;
+    assert_eq!(read_body(&body), Err(4));
+    let mut body = trade_cancel(0, 7, 9, 0, 1, 0x200_0001);
+    assert!(read_body(&body).is_ok());
+    body[0] = MODIFY_ORDER;
+    assert_eq!(read_body(&body), Err(4));
 }
 
 #[test]
@@ -101,13 +142,13 @@ fn old_and_too_far_are_judged_against_next_as_it_stands_at_that_record() {
     let records: Vec<_> = (1..=100).map(|n| (n, time(n as u32))).collect();
     let mut desk = Desk::new(1, 1);
     let answer = desk.records(&records);
-    assert_eq!(counts(&answer), [100, 0, 0, 0, 0]);
+    assert_eq!(answer.counts(), [100, 0, 0, 0, 0]);
     assert_eq!((answer.next, answer.applied, answer.stop), (101, 100, 0));
     assert_eq!(desk.state.second, 100);
     // 65 is too far before 1 and in reach behind it.
     let mut desk = Desk::new(1, 1);
     let answer = desk.records(&[(65, time(1)), (1, time(2)), (65, time(1)), (1, time(2))]);
-    assert_eq!(counts(&answer), [2, 1, 1, 0, 0]);
+    assert_eq!(answer.counts(), [2, 1, 1, 0, 0]);
     assert_eq!((answer.next, answer.highest), (2, 65));
 }
 
@@ -116,11 +157,11 @@ fn two_copies_in_one_packet() {
     let mut desk = Desk::new(1, 1);
     // The first was applied: old, even if it differs.
     let answer = desk.records(&[(1, time(1)), (1, time(1)), (1, time(2))]);
-    assert_eq!(counts(&answer), [1, 2, 0, 0, 0]);
+    assert_eq!(answer.counts(), [1, 2, 0, 0, 0]);
     assert_eq!(desk.state.second, 1);
     // The first lies on the shelf: repeat or differing.
     let answer = desk.records(&[(3, time(3)), (3, time(3)), (3, time(4)), (3, clear(7))]);
-    assert_eq!(counts(&answer), [1, 0, 0, 1, 2]);
+    assert_eq!(answer.counts(), [1, 0, 0, 1, 2]);
     assert_eq!(answer.highest, 3);
     // The first stays.
     desk.records(&[(2, time(2))]);
@@ -136,7 +177,7 @@ fn a_slot_whose_number_is_0_is_empty_whatever_stands_behind() {
     let answer = desk.records(&[(70, time(1))]);
     assert_eq!((answer.stop, answer.highest), (0, 0));
     let answer = desk.records(&[(2, time(2)), (1, time(1))]);
-    assert_eq!(counts(&answer), [2, 0, 0, 0, 0]);
+    assert_eq!(answer.counts(), [2, 0, 0, 0, 0]);
     assert_eq!((answer.next, answer.highest), (3, 0));
     assert!(desk.shelf.iter().all(|byte| *byte == 0));
 }
@@ -238,17 +279,17 @@ fn messages_are_worked_only_after_a_taken_record() {
     assert_eq!(desk.next(buy(7, 2, 1, 1)).stop, 25);
     desk.orders.fill(0); // the caller frees the row
     let answer = desk.records(&[(4, buy(7, 2, 1, 1))]);
-    assert_eq!(counts(&answer), [0, 0, 0, 1, 0]);
+    assert_eq!(answer.counts(), [0, 0, 0, 1, 0]);
     assert_eq!((answer.applied, answer.stop), (0, 0));
     assert_eq!((answer.next, answer.highest), (4, 4));
     assert_eq!(desk.orders, [0; 5]);
     // nor after old, too far and differing ones
     let answer = desk.records(&[(1, time(1)), (500, time(1)), (4, time(1))]);
-    assert_eq!(counts(&answer), [0, 1, 1, 0, 1]);
+    assert_eq!(answer.counts(), [0, 1, 1, 0, 1]);
     assert_eq!((answer.applied, answer.stop), (0, 0));
     // The next taken record applies it, whatever its own number.
     let answer = desk.records(&[(60, time(1))]);
-    assert_eq!(counts(&answer), [1, 0, 0, 0, 0]);
+    assert_eq!(answer.counts(), [1, 0, 0, 0, 0]);
     assert_eq!((answer.applied, answer.next, answer.stop), (1, 5, 0));
     assert_eq!(desk.row(0), [2, 14, 1, 1, 4]);
 }
@@ -265,7 +306,7 @@ fn stop_27() {
         assert_eq!(answer.highest, number.max(7));
         // An incoming copy of 5 finds the slot occupied.
         let answer = desk.records(&[(5, time(9))]);
-        assert_eq!(counts(&answer), [0, 0, 0, 0, 1]);
+        assert_eq!(answer.counts(), [0, 0, 0, 0, 1]);
         assert_eq!(answer.stop, 27);
     }
     // A body that the reader refuses, or a length above 64.
@@ -296,7 +337,7 @@ fn padding_behind_a_good_body_leaves_it_good_but_a_copy_then_differs() {
     desk.records(&[(2, time(2))]);
     desk.slot(2)[73] = 1;
     let answer = desk.records(&[(2, time(2))]);
-    assert_eq!(counts(&answer), [0, 0, 0, 0, 1]);
+    assert_eq!(answer.counts(), [0, 0, 0, 0, 1]);
     let answer = desk.records(&[(1, time(1))]);
     assert_eq!((answer.applied, answer.next, answer.stop), (2, 3, 0));
     assert!(desk.shelf.iter().all(|byte| *byte == 0));
@@ -308,7 +349,7 @@ fn the_same_bytes_under_another_length_differ() {
     desk.records(&[(2, time(0))]);
     desk.slot(2)[8] = 6;
     let answer = desk.records(&[(2, time(0))]);
-    assert_eq!(counts(&answer), [0, 0, 0, 0, 1]);
+    assert_eq!(answer.counts(), [0, 0, 0, 0, 1]);
 }
 
 #[test]
@@ -330,7 +371,7 @@ fn next_beyond_the_last_number() {
         LAST_NUMBER + 1
     );
     let answer = desk.records(&[(LAST_NUMBER, time(7)), (1, time(1))]);
-    assert_eq!(counts(&answer), [0, 2, 0, 0, 0]);
+    assert_eq!(answer.counts(), [0, 2, 0, 0, 0]);
     assert_eq!(answer.next, LAST_NUMBER + 1);
     // With it, but at 10^12 + 1, no record can be taken, so it is never worked.
     desk.slot(LAST_NUMBER + 1)
@@ -375,7 +416,7 @@ fn the_stop_is_worked_out_anew_and_a_refused_packet_leaves_the_earlier_one() {
 fn a_differing_copy_that_arrives_first_stays_and_is_applied() {
     let mut desk = Desk::new(1, 1);
     let answer = desk.records(&[(2, time(22)), (2, time(2)), (1, time(1))]);
-    assert_eq!(counts(&answer), [2, 0, 0, 0, 1]);
+    assert_eq!(answer.counts(), [2, 0, 0, 0, 1]);
     assert_eq!(desk.state.second, 22);
 }
 
@@ -426,7 +467,7 @@ fn a_stopped_message_keeps_its_slot_and_numbers_behind_it_wait() {
         (69, time(69)),
         (70, time(70)),
     ]);
-    assert_eq!(counts(&answer), [3, 0, 1, 0, 0]);
+    assert_eq!(answer.counts(), [3, 0, 1, 0, 0]);
     assert_eq!((answer.next, answer.applied), (6, 0));
     assert_eq!((answer.highest, answer.stop), (69, 22));
     assert_eq!(desk.state.second, 34_200);

@@ -5,7 +5,8 @@
 //!     compare forever [SECONDS]   fresh seeds, until it is stopped or so many seconds are over
 //!
 //! Prints each scenario in which the two differ with its seed, then what was compared. Status 1
-//! where something differed, or where a long run left a refusal, a stop or an answer untried.
+//! where something differed, or where a long run tried a scenario, a refusal, a stop, an answer or
+//! anything else of `Tally::seen` too seldom.
 #![forbid(unsafe_code)]
 
 use std::process::ExitCode;
@@ -38,8 +39,10 @@ mod linked {
 
     /// After so many differences a run has said enough.
     const MOST_DIFFERENCES: u64 = 20;
-    /// A run of so many packets must have seen every refusal, stop and answer.
+    /// A run of so many packets must have tried everything: each scenario as often as its weight says
+    /// for each hundred thousand packets, and all else so often for each of them.
     const LONG_RUN: u64 = 100_000;
+    const LEAST_SEEN: u64 = 10;
 
     const USAGE: &str = "compare SEED COUNT | compare one SEED | compare forever [SECONDS]";
 
@@ -126,7 +129,7 @@ mod linked {
             }
         }
 
-        /// Prints what was compared; true if nothing differed and nothing was left untried.
+        /// Prints what was compared; true if nothing differed and nothing was tried too seldom.
         fn verdict(&self) -> bool {
             let tally = &self.tally;
             for (place, scenario) in SCENARIOS.iter().enumerate() {
@@ -135,22 +138,16 @@ mod linked {
                     scenario.name, self.scenarios[place], self.packets[place]
                 );
             }
-            println!("compare: accepted {}", tally.refusals[0]);
-            println!("compare: refused {}", listed(&tally.refusals, 1));
-            println!("compare: stops {}", listed(&tally.stops, 0));
-            println!("compare: records by 10 to 14: {:?}", tally.records);
             println!(
-                "compare: {} messages applied, {} starts, {} bodies, {} views ({} of unknown symbols), {} sheets ({} in too small buffers)",
-                tally.applied, tally.starts, tally.bodies, tally.views, tally.unknown_views,
-                tally.sheets, tally.cut_sheets
+                "compare: {} packets accepted, {} messages applied, {} bodies read",
+                tally.refusals[0], tally.applied, tally.bodies
             );
-            let untried = if tally.packets >= LONG_RUN {
-                untried(tally)
-            } else {
-                Vec::new()
-            };
-            for what in &untried {
-                println!("compare: never tried: {what}");
+            for (what, count) in tally.seen() {
+                println!("compare: {what:36} {count:9}");
+            }
+            let seldom = self.seldom();
+            for (what, count, least) in &seldom {
+                println!("compare: {what}: {count} times, and {least} are the least");
             }
             println!(
                 "compare: {} scenarios, {} packets, {} differences",
@@ -158,46 +155,21 @@ mod linked {
                 tally.packets,
                 self.differences
             );
-            self.differences == 0 && untried.is_empty() && tally.packets > 0
+            self.differences == 0 && seldom.is_empty() && tally.packets > 0
         }
-    }
 
-    /// The counts that are not 0, each behind its place.
-    fn listed(counts: &[u64], first: usize) -> String {
-        let mut parts = Vec::new();
-        for (place, count) in counts.iter().enumerate().skip(first) {
-            if *count > 0 {
-                parts.push(format!("{place}: {count}"));
+        /// What a long run tried too seldom: what, how often, and the least.
+        fn seldom(&self) -> Vec<(String, u64, u64)> {
+            let long = self.tally.packets / LONG_RUN;
+            let mut tried = Vec::new();
+            for (scenario, count) in SCENARIOS.iter().zip(self.scenarios) {
+                tried.push((scenario.name.to_string(), count, scenario.weight * long));
             }
-        }
-        parts.join(", ")
-    }
-
-    fn untried(tally: &Tally) -> Vec<String> {
-        let mut untried = Vec::new();
-        for number in 1..=6 {
-            if tally.refusals[number] == 0 {
-                untried.push(format!("refusal {number}"));
+            for (what, count) in self.tally.seen() {
+                tried.push((what, count, LEAST_SEEN * long));
             }
+            tried.retain(|(_, count, least)| count < least);
+            tried
         }
-        for stop in (0..1).chain(20..28) {
-            if tally.stops[stop] == 0 {
-                untried.push(format!("stop {stop}"));
-            }
-        }
-        for (place, count) in tally.records.iter().enumerate() {
-            if *count == 0 {
-                untried.push(format!("answer {}", 10 + place));
-            }
-        }
-        for (scenario, seen) in [
-            ("30", tally.unknown_views),
-            ("cut sheets", tally.cut_sheets),
-        ] {
-            if seen == 0 {
-                untried.push(scenario.to_string());
-            }
-        }
-        untried
     }
 }

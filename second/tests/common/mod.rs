@@ -1,92 +1,82 @@
-//! What the tests share: a receiver with its tables, short names for bodies, and seeds.
-#![allow(dead_code)]
+//! What the tests share: what they do with a receiver, short names for bodies, example files, and
+//! seeds.
+#![allow(dead_code)] // each test uses some of it
+
+pub mod watched;
 
 use second::book::{apply, broken_rule};
-use second::morning::{add_order, delete_order, modify_order, order_execution, packet};
+pub use second::desk::Desk;
+use second::examples::example_list;
+use second::morning::{add_order, delete_order, modify_order, numbered, order_execution, packet};
 use second::morning::{symbol_clear, symbol_update, system_time};
-use second::morning::{Dice, ListSettings};
 use second::packet::read_body;
-use second::receiver::{receive, slot_mut, start, Answer, State, SHELF_BYTES};
+use second::receiver::{slot_mut, Answer};
 use second::tables::{row, ENTRY_BYTES, ROW_NUMBERS};
+use std::path::PathBuf;
 
-/// A receiver with its tables and its shelf.
-#[derive(Clone, Debug, PartialEq, Eq)]
-pub struct Desk {
-    pub state: State,
-    pub orders: Vec<u64>,
-    pub symbols: Vec<u8>,
-    pub shelf: Vec<u8>,
+/// What only tests do with a receiver.
+pub trait Tried: Sized {
+    /// Document 01's example, numbers 1 to 5 applied.
+    fn example() -> Self;
+    /// A receiver that knows symbols 7 and 8, next 3.
+    fn with_symbols(rows: usize, entries: usize) -> Self;
+    /// A good packet of these records.
+    fn records(&mut self, records: &[(u64, Vec<u8>)]) -> Answer;
+    /// The next message.
+    fn next(&mut self, body: Vec<u8>) -> Answer;
+    fn row(&self, place: usize) -> &[u64];
+    fn slot(&mut self, number: u64) -> &mut [u8];
+    /// A packet that must be refused with this number, and change nothing.
+    fn refuses(&mut self, number: u8, packet: &[u8]);
 }
 
-impl Desk {
-    /// A started receiver with these capacities.
-    pub fn new(rows: usize, entries: usize) -> Desk {
-        let mut orders = vec![9; rows * ROW_NUMBERS];
-        let mut symbols = vec![9; entries * ENTRY_BYTES];
-        let mut shelf = vec![9; SHELF_BYTES];
-        let state = start(&mut orders, &mut symbols, &mut shelf).expect("sizes in the limits");
-        Desk {
-            state,
-            orders,
-            symbols,
-            shelf,
-        }
-    }
-
-    /// Document 01's example, numbers 1 to 5 applied.
-    pub fn example() -> Desk {
+impl Tried for Desk {
+    fn example() -> Desk {
         let mut desk = Desk::new(10, 4);
-        let list = second::examples::example_list();
-        let answer = desk.give(&packet(&second::morning::numbered(&list, 1, 5)));
-        assert_eq!(answer.expect("a good packet").applied, 5);
+        let answer = desk.records(&numbered(&example_list(), 1, 5));
+        assert_eq!(answer.applied, 5);
         desk
     }
 
-    /// A receiver that knows symbols 7 and 8, next 3.
-    pub fn with_symbols(rows: usize, entries: usize) -> Desk {
+    fn with_symbols(rows: usize, entries: usize) -> Desk {
         let mut desk = Desk::new(rows, entries);
         let answer = desk.records(&[(1, update(7)), (2, update(8))]);
         assert_eq!(answer.next, 3);
         desk
     }
 
-    /// A packet, as it comes.
-    pub fn give(&mut self, packet: &[u8]) -> Result<Answer, u8> {
-        let (after, answer) = receive(
-            self.state,
-            &mut self.orders,
-            &mut self.symbols,
-            &mut self.shelf,
-            packet,
-        )?;
-        self.state = after;
-        Ok(answer)
-    }
-
-    /// A good packet of these records.
-    pub fn records(&mut self, records: &[(u64, Vec<u8>)]) -> Answer {
+    fn records(&mut self, records: &[(u64, Vec<u8>)]) -> Answer {
         self.give(&packet(records)).expect("a good packet")
     }
 
-    /// The next message.
-    pub fn next(&mut self, body: Vec<u8>) -> Answer {
+    fn next(&mut self, body: Vec<u8>) -> Answer {
         self.records(&[(self.state.next, body)])
     }
 
-    pub fn row(&self, place: usize) -> &[u64] {
+    fn row(&self, place: usize) -> &[u64] {
         row(&self.orders, place)
     }
 
-    pub fn slot(&mut self, number: u64) -> &mut [u8] {
+    fn slot(&mut self, number: u64) -> &mut [u8] {
         slot_mut(&mut self.shelf, number)
     }
 
-    /// A packet that must be refused with this number, and change nothing.
-    pub fn refuses(&mut self, number: u8, packet: &[u8]) {
+    fn refuses(&mut self, number: u8, packet: &[u8]) {
         let before = self.clone();
         assert_eq!(self.give(packet), Err(number));
         assert_eq!(*self, before);
     }
+}
+
+/// A file of examples/.
+pub fn example_path(name: &str) -> PathBuf {
+    PathBuf::from(env!("CARGO_MANIFEST_DIR"))
+        .join("../examples")
+        .join(name)
+}
+
+pub fn example_file(name: &str) -> Vec<u8> {
+    std::fs::read(example_path(name)).expect(name)
 }
 
 /// The list applied in order, in tables of its own.
@@ -128,34 +118,6 @@ impl<'a> Reference<'a> {
     }
 }
 
-/// A list for demand 3: any mix, in tables of 1 to 40 rows.
-pub fn list_settings(seed: u64) -> ListSettings {
-    let mut dice = Dice::new(seed);
-    ListSettings {
-        messages: dice.between(1, 260) as usize,
-        rows: dice.pick(&[1, 2, 5, 12, 40]),
-        entries: dice.between(1, 5) as usize,
-        symbols: dice.between(1, 7) as usize,
-        orders: dice.between(5, 60) as usize,
-        levels: dice.between(1, 14),
-        crossing: dice.pick(&[0, 50, 500]),
-        breaking: dice.pick(&[0, 0, 3, 15]),
-        filling: dice.chance(150),
-        ending: dice.pick(&[0, 0, 20, 21, 22, 23, 24, 25, 26]),
-    }
-}
-
-/// The counts of an answer: 10, 11, 12, 13, 14.
-pub fn counts(answer: &Answer) -> [u64; 5] {
-    [
-        answer.taken,
-        answer.old,
-        answer.too_far,
-        answer.repeats,
-        answer.differing,
-    ]
-}
-
 pub fn time(seconds: u32) -> Vec<u8> {
     system_time(seconds)
 }
@@ -194,4 +156,9 @@ pub fn seeds(count: u64) -> Vec<u64> {
         Ok(text) => vec![text.parse().expect("SECOND_SEED is a number")],
         Err(_) => (0..count).collect(),
     }
+}
+
+/// Whether all seeds are tried, so that what they must show together can be asked for.
+pub fn all_seeds() -> bool {
+    std::env::var("SECOND_SEED").is_err()
 }

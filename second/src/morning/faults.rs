@@ -1,0 +1,157 @@
+//! Packets, records and bodies that are refused, each with the number it is made for.
+
+use super::{messages::*, Dice};
+use crate::packet::*;
+
+/// A packet that is refused with this number (1 to 5): good records of the list in front, the
+/// fault, and behind it good records and further faults.
+pub fn bad_packet(seed: u64, list: &[Vec<u8>], refusal: u8) -> Vec<u8> {
+    let mut dice = Dice::new(seed);
+    let good = |dice: &mut Dice| {
+        let number = dice.between(1, list.len() as u64);
+        record(number, &list[number as usize - 1])
+    };
+    let mut packet = Vec::new();
+    if refusal == 1 {
+        if dice.below(3) == 0 {
+            return packet;
+        }
+        let least = dice.pick(&[1_501, 1_501, 1_600, 2_500]);
+        while packet.len() < least {
+            packet.extend_from_slice(&good(&mut dice));
+        }
+        if dice.below(2) == 0 {
+            packet.truncate(1_501);
+        }
+        return packet;
+    }
+    for _ in 0..dice.below(5) {
+        packet.extend_from_slice(&good(&mut dice));
+    }
+    if refusal == 2 {
+        packet.extend_from_slice(&faulty_end(&mut dice));
+        return packet;
+    }
+    packet.extend_from_slice(&faulty_record(&mut dice, refusal));
+    for _ in 0..dice.below(4) {
+        match dice.below(3) {
+            0 => {
+                let further = dice.between(3, 5) as u8;
+                packet.extend_from_slice(&faulty_record(&mut dice, further));
+            }
+            _ => packet.extend_from_slice(&good(&mut dice)),
+        }
+    }
+    if dice.below(4) == 0 {
+        packet.extend_from_slice(&faulty_end(&mut dice));
+    }
+    packet
+}
+
+fn any_number(dice: &mut Dice) -> u64 {
+    match dice.below(3) {
+        0 => bad_number(dice),
+        _ => dice.between(1, LAST_NUMBER),
+    }
+}
+
+fn bad_number(dice: &mut Dice) -> u64 {
+    match dice.below(4) {
+        0 => LAST_NUMBER + 1,
+        1 => dice.pick(&[1 << 40, 1 << 63, u64::MAX]),
+        _ => 0,
+    }
+}
+
+/// A body that is refused with 3 or 4.
+pub fn bad_body(seed: u64, refusal: u8) -> Vec<u8> {
+    let mut dice = Dice::new(seed);
+    let mut body = good_body(&mut dice);
+    if refusal == 4 {
+        spoil_fields(&mut dice, &mut body);
+        return body;
+    }
+    if dice.below(2) == 0 {
+        spoil_fields(&mut dice, &mut body);
+    }
+    match dice.below(4) {
+        0 => body.clear(),
+        1 => loop {
+            body[0] = dice.bits() as u8;
+            if length_of_type(body[0]).is_none() {
+                break;
+            }
+        },
+        2 => loop {
+            let length = dice.between(1, 60) as usize;
+            if length != body.len() {
+                body.resize(length, 0);
+                break;
+            }
+        },
+        _ => body.push(dice.bits() as u8),
+    }
+    body
+}
+
+/// Put one to three judged fields out of range, in a message that has such fields.
+fn spoil_fields(dice: &mut Dice, body: &mut Vec<u8>) {
+    while price_offset(body[0]).is_none() && body[0] != SYMBOL_UPDATE {
+        *body = good_body(dice);
+    }
+    for _ in 0..dice.between(1, 3) {
+        if body[0] == SYMBOL_UPDATE {
+            match dice.below(2) {
+                0 => body[21] = dice.pick(b"ynEX\0 "),
+                _ => body[41] = dice.pick(b"DEFGORSTah@[\0 "),
+            }
+            continue;
+        }
+        let at = price_offset(body[0]).unwrap_or(0);
+        match (dice.below(3), body[0]) {
+            (0, ADD_ORDER) => body[17] = dice.pick(b"bsXACRT\0 "),
+            (0, MODIFY_ORDER) => body[29] = dice.between(2, 255) as u8,
+            (1, _) => body[at + 8..at + 12].fill(0),
+            _ => {
+                let price = dice.pick(&[0, HIGHEST_PRICE + 1, 1 << 50, 1 << 63, u64::MAX]);
+                body[at..at + 8].copy_from_slice(&price.to_le_bytes());
+            }
+        }
+    }
+}
+
+/// A whole record that is refused with 5, 3 or 4, perhaps with lesser faults too.
+fn faulty_record(dice: &mut Dice, refusal: u8) -> Vec<u8> {
+    if refusal == 5 {
+        let number = bad_number(dice);
+        let body = match dice.below(3) {
+            0 => good_body(dice),
+            1 => bad_body(dice.bits(), 3),
+            _ => bad_body(dice.bits(), 4),
+        };
+        return record(number, &body);
+    }
+    let number = dice.between(1, LAST_NUMBER);
+    record(number, &bad_body(dice.bits(), refusal))
+}
+
+/// A packet's end that is refused with 2, perhaps with lesser faults too.
+fn faulty_end(dice: &mut Dice) -> Vec<u8> {
+    let number = any_number(dice);
+    let body = match dice.below(3) {
+        0 => good_body(dice),
+        1 => bad_body(dice.bits(), 3),
+        _ => bad_body(dice.bits(), 4),
+    };
+    if dice.below(2) == 0 {
+        let mut bytes = record(number, &body);
+        bytes.truncate(dice.between(1, 9) as usize);
+        return bytes;
+    }
+    let claimed = match dice.below(3) {
+        0 => 65_535,
+        1 => body.len() as u64 + 1,
+        _ => dice.between(body.len() as u64 + 1, 2_000),
+    };
+    record_claiming(number, claimed as u16, &body)
+}

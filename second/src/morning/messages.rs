@@ -1,0 +1,277 @@
+//! Bodies, records, packets and recordings: fields one behind the other, as 003 lists them.
+
+use super::Dice;
+use crate::packet::*;
+
+fn joined(kind: u8, parts: &[&[u8]]) -> Vec<u8> {
+    let mut body = vec![kind];
+    for part in parts {
+        body.extend_from_slice(part);
+    }
+    body
+}
+
+pub fn system_time(seconds: u32) -> Vec<u8> {
+    joined(SYSTEM_TIME, &[&seconds.to_le_bytes()])
+}
+
+/// A Symbol Update: reserved bytes 0, test N, 09:30:00 to 16:00:00, market H.
+pub fn symbol_update(nanoseconds: u32, symbol: u32, ticker: &[u8; 11], lot: u16) -> Vec<u8> {
+    joined(
+        SYMBOL_UPDATE,
+        &[
+            &nanoseconds.to_le_bytes(),
+            &symbol.to_le_bytes(),
+            ticker,
+            &[0],
+            b"N",
+            &[0],
+            &lot.to_le_bytes(),
+            b"09:30:00",
+            b"16:00:00",
+            b"H",
+        ],
+    )
+}
+
+pub fn system_state(nanoseconds: u32, version: &[u8; 8], session: u8, status: u8) -> Vec<u8> {
+    joined(
+        SYSTEM_STATE,
+        &[&nanoseconds.to_le_bytes(), version, &[session], &[status]],
+    )
+}
+
+pub fn trading_status(nanoseconds: u32, symbol: u32, codes: &[u8; 3]) -> Vec<u8> {
+    joined(
+        TRADING_STATUS,
+        &[&nanoseconds.to_le_bytes(), &symbol.to_le_bytes(), codes],
+    )
+}
+
+pub fn symbol_clear(nanoseconds: u32, symbol: u32) -> Vec<u8> {
+    joined(
+        SYMBOL_CLEAR,
+        &[&nanoseconds.to_le_bytes(), &symbol.to_le_bytes()],
+    )
+}
+
+/// An Add Order without attribution.
+pub fn add_order(
+    nanoseconds: u32,
+    symbol: u32,
+    order: u64,
+    side: u8,
+    price: u64,
+    size: u32,
+) -> Vec<u8> {
+    joined(
+        ADD_ORDER,
+        &[
+            &nanoseconds.to_le_bytes(),
+            &symbol.to_le_bytes(),
+            &order.to_le_bytes(),
+            &[side],
+            &price.to_le_bytes(),
+            &size.to_le_bytes(),
+            b"    ",
+        ],
+    )
+}
+
+pub fn modify_order(
+    nanoseconds: u32,
+    symbol: u32,
+    order: u64,
+    price: u64,
+    size: u32,
+    flags: u8,
+) -> Vec<u8> {
+    joined(
+        MODIFY_ORDER,
+        &[
+            &nanoseconds.to_le_bytes(),
+            &symbol.to_le_bytes(),
+            &order.to_le_bytes(),
+            &price.to_le_bytes(),
+            &size.to_le_bytes(),
+            &[flags],
+        ],
+    )
+}
+
+pub fn delete_order(nanoseconds: u32, symbol: u32, order: u64) -> Vec<u8> {
+    joined(
+        DELETE_ORDER,
+        &[
+            &nanoseconds.to_le_bytes(),
+            &symbol.to_le_bytes(),
+            &order.to_le_bytes(),
+        ],
+    )
+}
+
+pub fn order_execution(
+    nanoseconds: u32,
+    symbol: u32,
+    order: u64,
+    trade: u64,
+    price: u64,
+    size: u32,
+    flags: u8,
+) -> Vec<u8> {
+    joined(
+        ORDER_EXECUTION,
+        &[
+            &nanoseconds.to_le_bytes(),
+            &symbol.to_le_bytes(),
+            &order.to_le_bytes(),
+            &trade.to_le_bytes(),
+            &price.to_le_bytes(),
+            &size.to_le_bytes(),
+            &[flags],
+        ],
+    )
+}
+
+pub fn trade(
+    nanoseconds: u32,
+    symbol: u32,
+    trade: u64,
+    correction: u8,
+    price: u64,
+    size: u32,
+    flags: u8,
+) -> Vec<u8> {
+    joined(
+        TRADE,
+        &[
+            &nanoseconds.to_le_bytes(),
+            &symbol.to_le_bytes(),
+            &trade.to_le_bytes(),
+            &[correction],
+            &price.to_le_bytes(),
+            &size.to_le_bytes(),
+            &[flags],
+        ],
+    )
+}
+
+pub fn trade_cancel(
+    nanoseconds: u32,
+    symbol: u32,
+    trade: u64,
+    correction: u8,
+    price: u64,
+    size: u32,
+) -> Vec<u8> {
+    joined(
+        TRADE_CANCEL,
+        &[
+            &nanoseconds.to_le_bytes(),
+            &symbol.to_le_bytes(),
+            &trade.to_le_bytes(),
+            &[correction],
+            &price.to_le_bytes(),
+            &size.to_le_bytes(),
+        ],
+    )
+}
+
+/// A record whose header claims `length` bytes of body.
+pub fn record_claiming(number: u64, length: u16, body: &[u8]) -> Vec<u8> {
+    let mut bytes = number.to_le_bytes().to_vec();
+    bytes.extend_from_slice(&length.to_le_bytes());
+    bytes.extend_from_slice(body);
+    bytes
+}
+
+pub fn record(number: u64, body: &[u8]) -> Vec<u8> {
+    record_claiming(number, body.len() as u16, body)
+}
+
+/// A packet of these records.
+pub fn packet(records: &[(u64, Vec<u8>)]) -> Vec<u8> {
+    let mut bytes = Vec::new();
+    for (number, body) in records {
+        bytes.extend_from_slice(&record(*number, body));
+    }
+    bytes
+}
+
+/// Packets, each behind its 2-byte length.
+pub fn recording(packets: &[Vec<u8>]) -> Vec<u8> {
+    let mut bytes = Vec::new();
+    for packet in packets {
+        bytes.extend_from_slice(&(packet.len() as u16).to_le_bytes());
+        bytes.extend_from_slice(packet);
+    }
+    bytes
+}
+
+/// Where a type has its price, if it has one.
+pub fn price_offset(kind: u8) -> Option<usize> {
+    match kind {
+        ADD_ORDER | TRADE | TRADE_CANCEL => Some(18),
+        MODIFY_ORDER => Some(17),
+        ORDER_EXECUTION => Some(25),
+        _ => None,
+    }
+}
+
+/// Where a type has its size, which stands right behind its price.
+pub fn size_offset(kind: u8) -> Option<usize> {
+    price_offset(kind).map(|at| at + 8)
+}
+
+/// What a message tells, for those fields that its type has.
+#[derive(Clone, Copy, Debug)]
+pub struct Told {
+    pub nanoseconds: u32,
+    pub symbol: u32,
+    pub order: u64,
+    pub price: u64,
+    pub size: u32,
+}
+
+/// A good body of a type that tells this.
+pub fn body_telling(dice: &mut Dice, kind: u8, told: Told) -> Vec<u8> {
+    let Told {
+        nanoseconds,
+        symbol,
+        order,
+        price,
+        size,
+    } = told;
+    match kind {
+        SYSTEM_TIME => system_time(nanoseconds),
+        SYMBOL_UPDATE => symbol_update(nanoseconds, symbol, b"ABC        ", 100),
+        SYSTEM_STATE => system_state(nanoseconds, b"DoM1.3  ", 1, b'S'),
+        TRADING_STATUS => trading_status(nanoseconds, symbol, &[2, 3, b'N']),
+        SYMBOL_CLEAR => symbol_clear(nanoseconds, symbol),
+        ADD_ORDER => add_order(nanoseconds, symbol, order, dice.pick(b"BS"), price, size),
+        MODIFY_ORDER => modify_order(nanoseconds, symbol, order, price, size, dice.below(2) as u8),
+        DELETE_ORDER => delete_order(nanoseconds, symbol, order),
+        ORDER_EXECUTION => order_execution(nanoseconds, symbol, order, 9, price, size, 255),
+        TRADE => trade(nanoseconds, symbol, 9, 0, price, size, 255),
+        TRADE_CANCEL => trade_cancel(nanoseconds, symbol, 9, 0, price, size),
+        _ => panic!("there is no type {kind}"),
+    }
+}
+
+/// Any good body.
+pub fn good_body(dice: &mut Dice) -> Vec<u8> {
+    let symbol = dice.below(10) as u32;
+    let order = dice.below(100);
+    let nanoseconds = dice.below(1_000_000_000) as u32;
+    let price = dice.between(1, HIGHEST_PRICE);
+    let size = dice.between(1, u32::MAX as u64) as u32;
+    let told = Told {
+        nanoseconds,
+        symbol,
+        order,
+        price,
+        size,
+    };
+    let (kind, _) = dice.pick(&TYPES_AND_LENGTHS);
+    body_telling(dice, kind, told)
+}

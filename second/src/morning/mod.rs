@@ -1,0 +1,33 @@
+//! Seeded mornings to compare programs with. Everything is a function of a seed and a few settings,
+//! so that a failing seed can be run again. All chances are in 1,000.
+//!
+//! `dice` is what is drawn from, `messages` has bodies, records, packets and recordings, `lists` makes
+//! lists of well-formed messages, `delivery` their packets, `faults` bad packets, and `damage` alters
+//! tables, shelves and states.
+
+mod damage;
+mod delivery;
+mod dice;
+mod faults;
+mod lists;
+mod messages;
+
+pub use damage::*;
+pub use delivery::*;
+pub use dice::Dice;
+pub use faults::*;
+pub use lists::*;
+pub use messages::*;
+
+#[cfg(test)]
+mod tests {
+    use super::*;
+
+    #[test]
+    fn a_seed_gives_the_same_bytes_again() {
+        assert_eq!(drawn_recording(3), drawn_recording(3));
+        assert_ne!(drawn_recording(3), drawn_recording(4));
+        assert_eq!(case(3, 500), case(3, 500));
+        assert_ne!(case(3, 500), case(4, 500));
+    }
+}

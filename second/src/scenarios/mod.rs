@@ -1,0 +1,107 @@
+//! What the proved library and the second program are both given: named scenarios, each a function
+//! of its seed alone. A scenario makes calls of `Twins`, which compares.
+
+mod callers;
+mod mornings;
+mod packets;
+mod pieces;
+
+use crate::morning::Dice;
+use crate::twins::{Difference, Tally, Twins};
+
+type Outcome = Result<(), Difference>;
+
+/// A named generator, and how often its name is drawn.
+pub struct Scenario {
+    pub name: &'static str,
+    pub weight: u64,
+    run: fn(&mut Dice, &mut Twins) -> Outcome,
+}
+
+const fn scenario(
+    name: &'static str,
+    weight: u64,
+    run: fn(&mut Dice, &mut Twins) -> Outcome,
+) -> Scenario {
+    Scenario { name, weight, run }
+}
+
+pub const SCENARIOS: [Scenario; 17] = [
+    scenario("morning", 60, mornings::morning),
+    scenario("rules", 60, mornings::rules),
+    scenario("small-tables", 50, mornings::small_tables),
+    scenario("full-tables", 8, mornings::full_tables),
+    scenario("filling", 1, mornings::filling),
+    scenario("returning-ids", 50, mornings::returning_ids),
+    scenario("window", 50, mornings::window),
+    scenario("shelved-stop", 30, mornings::shelved_stop),
+    scenario("altered", 100, callers::altered),
+    scenario("spoiled", 40, callers::spoiled),
+    scenario("edges", 60, callers::edges),
+    scenario("sizes", 40, callers::sizes),
+    scenario("largest", 20, callers::largest),
+    scenario("refused", 50, packets::refused),
+    scenario("garbage", 30, packets::garbage),
+    scenario("pieces", 40, pieces::pieces),
+    scenario("long-pieces", 1, pieces::long_pieces),
+];
+
+/// What came of a seed.
+pub struct Ran {
+    pub name: &'static str,
+    pub tally: Tally,
+    pub difference: Option<Difference>,
+}
+
+/// The scenario of a seed.
+pub fn run(seed: u64) -> Ran {
+    let mut dice = Dice::new(seed);
+    let scenario = drawn(&mut dice);
+    let mut twins = Twins::new();
+    let difference = (scenario.run)(&mut dice, &mut twins)
+        .and_then(|()| twins.views(&mut dice))
+        .and_then(|()| twins.sheet(&mut dice))
+        .err();
+    Ran {
+        name: scenario.name,
+        tally: twins.tally,
+        difference,
+    }
+}
+
+/// The name that a seed draws.
+pub fn name_of(seed: u64) -> &'static str {
+    drawn(&mut Dice::new(seed)).name
+}
+
+fn drawn(dice: &mut Dice) -> &'static Scenario {
+    let mut left = dice.below(SCENARIOS.iter().map(|scenario| scenario.weight).sum());
+    for scenario in &SCENARIOS {
+        if left < scenario.weight {
+            return scenario;
+        }
+        left -= scenario.weight;
+    }
+    &SCENARIOS[0]
+}
+
+/// One packet to both, and now and then their views and sheets.
+fn give(dice: &mut Dice, twins: &mut Twins, packet: &[u8]) -> Outcome {
+    let _ = twins.receive(packet)?;
+    // Large tables make long sheets: fewer of them.
+    let small = twins.second.orders.len() <= 500;
+    if dice.chance(if small { 250 } else { 30 }) {
+        twins.views(dice)?;
+    }
+    if dice.chance(if small { 100 } else { 2 }) {
+        twins.sheet(dice)?;
+    }
+    Ok(())
+}
+
+fn give_all(dice: &mut Dice, twins: &mut Twins, packets: &[Vec<u8>]) -> Outcome {
+    for packet in packets {
+        give(dice, twins, packet)?;
+    }
+    Ok(())
+}
