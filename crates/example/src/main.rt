@@ -1,4 +1,4 @@
-// The shortest way from a recording to its sheet, for who starts with the library: lend tables, start a receiver, feed it, print.
+// The shortest way from a recording to its sheet, to start from: lend tables, start a receiver, feed it, print.
 // It reads no more than 4,096 bytes and takes a read error for the end; the program `sheet` does neither.
 use answer_sheet::Recording;
 use answer_sheet::SheetAnswer;
