@@ -1,5 +1,5 @@
-// The library for other languages: thin functions over numbers, slices and arrays of numbers (include/rimeheath.h). Each answers 0 or
-// document 01's number of the refusal, and a refusal changes no lent byte.
+// The library for other languages: thin functions over numbers, slices and arrays of numbers (include/rimeheath.h). Each but rimeheath_cut,
+// which answers yes or no, answers 0 or document 01's number of the refusal, and a refusal changes no lent byte.
 ghost use mathlib.Core.Path.{_≡_};
 ghost use Rattle.receiver.specs.Lent.{lent, received, started};
 ghost use Rattle.views.specs.Views.{ladderView, spreadView, countsView};
