@@ -1,85 +1,175 @@
-/* A first program over the proved library: a receiver with small tables is given document 01's example, numbers 1 to 5 in one packet, and
- * says where it stands, the spread of symbol 7, and its answer sheet. tools/c-example compiles it, runs it and compares with first.out. */
+/* A first program over the proved library, in two parts.
+ *
+ * One packet: a receiver is given the project's example, numbers 1 to 5 in one packet, and the program walks through the tables.
+ * A recording in chunks: the file that is named is fed in pieces of 64 bytes, and its answer sheet is printed.
+ *
+ *     first examples/morning.rec
+ *
+ * tools/c-example compiles it, runs it so, and compares what it prints with examples/first.out. */
+#include <inttypes.h>
 #include <stdio.h>
 #include <string.h>
 
 #include "rimeheath.h"
 
-/* The tables are the caller's: 4 rows of 5 numbers, 2 entries of 42 bytes, and the shelf. */
-static uint64_t orders[4 * 5];
-static uint8_t symbols[2 * 42];
-static uint8_t shelf[4736];
-static uint64_t state[3]; /* next, second, stop */
+/* The tables are the caller's, here as large as they may be. Lengths of 64-bit tables count numbers, not bytes. */
+enum { ORDERS = RIMEHEATH_MOST_ROWS * RIMEHEATH_ROW_SIZE, SYMBOLS = RIMEHEATH_MOST_ENTRIES * RIMEHEATH_ENTRY_SIZE };
+static uint64_t orders[ORDERS];
+static uint8_t symbols[SYMBOLS];
+static uint8_t shelf[RIMEHEATH_SHELF_SIZE];
 
-static uint8_t packet[1500];
+/* What a refusal means. */
+static const char *meaning(uint8_t answer) {
+    switch (answer) {
+    case RIMEHEATH_REFUSED_PACKET: return "a packet of no bytes or too many";
+    case RIMEHEATH_REFUSED_RECORD: return "a record runs past the packet's end";
+    case RIMEHEATH_REFUSED_BODY: return "no such message, or of another length";
+    case RIMEHEATH_REFUSED_FIELD: return "a field out of range";
+    case RIMEHEATH_REFUSED_NUMBER: return "a sequence number out of range";
+    case RIMEHEATH_REFUSED_SIZE: return "a table size or the next number";
+    case RIMEHEATH_REFUSED_SYMBOL: return "no such symbol";
+    default: return "done";
+    }
+}
+
+static bool refused(const char *call, uint8_t answer) {
+    if (answer == RIMEHEATH_DONE) return false;
+    printf("%s is refused with %u: %s\n", call, (unsigned)answer, meaning(answer));
+    return true;
+}
+
+/* ---- one packet ---- */
+
+static uint8_t packet[RIMEHEATH_PACKET_MOST];
 static size_t used;
 
 /* All numbers of the feed are little-endian. */
-static void number(uint64_t value, int width) {
+static void put(uint64_t value, int width) {
     for (; width > 0; width--, value >>= 8) packet[used++] = (uint8_t)value;
 }
 
-static void text(const char *bytes) {
+static void put_text(const char *bytes) {
     memcpy(packet + used, bytes, strlen(bytes));
     used += strlen(bytes);
 }
 
-/* A record's header, then the first bytes of its body. */
-static void record(uint64_t sequence, int length, uint8_t type) {
-    number(sequence, 8);
-    number((uint64_t)length, 2);
-    number(type, 1);
+/* A record's header, then the first byte of its body. */
+static void put_head(uint64_t number, int length, uint8_t type) {
+    put(number, 8);
+    put((uint64_t)length, 2);
+    put(type, 1);
 }
 
-static void add(uint64_t sequence, uint64_t order, const char *side, uint64_t price, uint32_t size) {
-    record(sequence, 34, 20);
-    number(0, 4); /* nanoseconds */
-    number(7, 4); /* symbol */
-    number(order, 8);
-    text(side);
-    number(price, 8); /* millionths of a dollar */
-    number(size, 4);
-    text("    "); /* no attribution */
+static void put_add(uint64_t number, uint64_t order, const char *side, uint64_t price, uint32_t size) {
+    put_head(number, 34, 20);
+    put(0, 4); /* nanoseconds */
+    put(7, 4); /* symbol */
+    put(order, 8);
+    put_text(side);
+    put(price, 8); /* millionths of a dollar */
+    put(size, 4);
+    put_text("    "); /* no attribution */
 }
 
-static void example(void) {
-    record(1, 5, 49); /* System Time */
-    number(34200, 4);
-    record(2, 42, 1); /* Symbol Update: no nanoseconds, symbol 7 */
-    number(0, 4);
-    number(7, 4);
-    text("ABC        ");
-    number(0, 1); /* reserved, no test symbol, reserved, lot, opening, closing, market */
-    text("N");
-    number(0, 1);
-    number(100, 2);
-    text("09:30:0016:00:00H");
-    add(3, 500, "B", 10000000, 100);
-    add(4, 501, "S", 10020000, 200);
-    add(5, 502, "B", 10000000, 50);
+static void make_packet(void) {
+    put_head(1, 5, 49); /* System Time */
+    put(34200, 4);
+    put_head(2, 42, 1); /* Symbol Update: no nanoseconds, symbol 7 */
+    put(0, 4);
+    put(7, 4);
+    put_text("ABC        ");
+    put(0, 1); /* reserved, no test symbol, reserved, lot, opening, closing, market */
+    put_text("N");
+    put(0, 1);
+    put(100, 2);
+    put_text("09:30:0016:00:00H");
+    put_add(3, 500, "B", 10000000, 100);
+    put_add(4, 501, "S", 10020000, 200);
+    put_add(5, 502, "B", 10000000, 50);
 }
 
-/* Any refusal ends the program: its number is document 01's. */
-static int refused(const char *call, uint8_t answer) {
-    if (answer != 0) printf("%s: refused with %u\n", call, (unsigned)answer);
-    return answer != 0;
+/* A number of the symbol table, lowest byte first. */
+static uint32_t number_at(const uint8_t *bytes, int width) {
+    uint32_t value = 0;
+    while (width > 0) value = value << 8 | bytes[--width];
+    return value;
 }
 
-int main(void) {
-    static uint8_t sheet[1500];
-    uint64_t account[9], answer[2], length[1];
+static void print_tables(void) {
+    for (size_t at = 0; at < SYMBOLS; at += RIMEHEATH_ENTRY_SIZE) {
+        const uint8_t *entry = symbols + at;
+        if (entry[RIMEHEATH_ENTRY_TYPE] != 1) continue; /* free */
+        printf("symbol %" PRIu32 " %.*s lot %" PRIu32 " market %c\n", number_at(entry + RIMEHEATH_ENTRY_SYMBOL, 4), RIMEHEATH_TICKER_SIZE,
+               (const char *)entry + RIMEHEATH_ENTRY_TICKER, number_at(entry + RIMEHEATH_ENTRY_LOT, 2), entry[RIMEHEATH_ENTRY_MARKET]);
+    }
+    for (size_t at = 0; at < ORDERS; at += RIMEHEATH_ROW_SIZE) {
+        const uint64_t *row = orders + at;
+        if (row[RIMEHEATH_ROW_RANK] == 0) continue; /* free */
+        printf("order %" PRIu64 " symbol %" PRIu64 " %s %" PRIu64 " at %" PRIu64 " rank %" PRIu64 "\n", row[RIMEHEATH_ROW_ORDER],
+               row[RIMEHEATH_ROW_KEY] / 2, row[RIMEHEATH_ROW_KEY] % 2 == 0 ? "buy" : "sell", row[RIMEHEATH_ROW_SHARES],
+               row[RIMEHEATH_ROW_PRICE], row[RIMEHEATH_ROW_RANK]);
+    }
+}
 
-    example();
-    if (refused("start", rimeheath_start(orders, 4 * 5, symbols, 2 * 42, shelf, sizeof shelf, state))) return 1;
-    if (refused("receive", rimeheath_receive(orders, 4 * 5, symbols, 2 * 42, shelf, sizeof shelf, state, packet, used, account))) return 1;
-    printf("next %llu, stop %llu\n", (unsigned long long)state[0], (unsigned long long)state[2]);
+static bool one_packet(void) {
+    uint64_t state[RIMEHEATH_STATE_SIZE], account[RIMEHEATH_ACCOUNT_SIZE], spread[2];
 
-    if (refused("spread", rimeheath_spread(orders, 4 * 5, symbols, 2 * 42, 7, answer))) return 1;
-    if (answer[0] == 1) printf("spread %lld millionths\n", (long long)(int64_t)answer[1]);
+    make_packet();
+    if (refused("start", rimeheath_start(orders, ORDERS, symbols, SYMBOLS, shelf, sizeof shelf, state))) return false;
+    if (refused("receive", rimeheath_receive(orders, ORDERS, symbols, SYMBOLS, shelf, sizeof shelf, state, packet, used, account)))
+        return false;
+    printf("taken %" PRIu64 ", applied %" PRIu64 ", next %" PRIu64 "\n", account[RIMEHEATH_ACCOUNT_TAKEN],
+           account[RIMEHEATH_ACCOUNT_APPLIED], state[RIMEHEATH_STATE_NEXT]);
+    if (state[RIMEHEATH_STATE_STOP] != RIMEHEATH_STOP_NONE) return false;
 
-    /* No packet was bad and nothing was cut. */
-    if (refused("sheet", rimeheath_sheet(sheet, sizeof sheet, orders, 4 * 5, symbols, 2 * 42, state, 0, false, length))) return 1;
-    if (length[0] > sizeof sheet) return 1; /* it did not fit */
-    fwrite(sheet, 1, (size_t)length[0], stdout);
-    return 0;
+    print_tables();
+    if (refused("spread", rimeheath_spread(orders, ORDERS, symbols, SYMBOLS, 7, spread))) return false;
+    if (spread[0] == 1) printf("spread %" PRId64 " millionths\n", (int64_t)spread[1]);
+
+    /* Nine bytes are no packet. A refusal changes nothing, so the receiver could go on. */
+    refused("a front of the packet",
+            rimeheath_receive(orders, ORDERS, symbols, SYMBOLS, shelf, sizeof shelf, state, packet, 9, account));
+    return true;
+}
+
+/* ---- a recording in chunks ---- */
+
+static bool recording(FILE *file) {
+    static uint8_t hold[RIMEHEATH_HOLD_LEAST], sheet[RIMEHEATH_SHEET_MOST];
+    uint64_t state[RIMEHEATH_STATE_SIZE], stream[RIMEHEATH_STREAM_SIZE], length[1];
+    uint8_t chunk[64]; /* any size will do */
+    size_t n;
+
+    if (refused("start", rimeheath_start(orders, ORDERS, symbols, SYMBOLS, shelf, sizeof shelf, state))) return false;
+    if (refused("open", rimeheath_open(state, stream))) return false;
+    while ((n = fread(chunk, 1, sizeof chunk, file)) > 0)
+        if (refused("feed", rimeheath_feed(orders, ORDERS, symbols, SYMBOLS, shelf, sizeof shelf, hold, sizeof hold, stream, chunk, n)))
+            return false;
+    if (ferror(file)) return false;
+    printf("records taken %" PRIu64 ", repeated %" PRIu64 "\n", stream[RIMEHEATH_STREAM_TAKEN], stream[RIMEHEATH_STREAM_REPEATED]);
+
+    /* The stream begins with the receiver's state, so it can stand for one. */
+    if (refused("sheet", rimeheath_sheet(sheet, sizeof sheet, orders, ORDERS, symbols, SYMBOLS, stream, stream[RIMEHEATH_STREAM_BAD],
+                                         rimeheath_cut(stream), length)))
+        return false;
+    return fwrite(sheet, 1, (size_t)length[0], stdout) == length[0];
+}
+
+int main(int count, char **words) {
+    FILE *file;
+    bool good;
+
+    if (count != 2) {
+        fprintf(stderr, "usage: first RECORDING\n");
+        return 2;
+    }
+    if (!one_packet()) return 1;
+    file = fopen(words[1], "rb");
+    if (file == NULL) {
+        perror(words[1]);
+        return 1;
+    }
+    good = recording(file);
+    fclose(file);
+    return good ? 0 : 1;
 }

@@ -1,13 +1,33 @@
-/* Rimeheath for C: the proved library's calls over numbers and lent memory.
+/* Rimeheath for C: the order book of the MIAX Pearl Equities Depth of Market feed (DoM 1.3.b), kept in memory that the caller lends.
  *
- * Each call answers 0, or document 01's number of the refusal: 6 (a table size or a next number), 1, 2, 5, 3, 4 (a packet), 30 (a view of
- * an unknown symbol). A refusal changes no byte of what is lent. No call asks that anything was checked before; what the type system of C
- * cannot say must hold: a pointer points to as many elements as its length says (a pointer with length 0 still must not be null), an array
- * has the size that is written here, memory of 64-bit numbers is aligned as uint64_t is (a pointer with length 0 too), a bool holds 0 or 1,
- * and memory that is lent for writing overlaps nothing else that is lent to the same call.
+ * The calls are proved functions of the crate `api`; what each does is stated there as an equation. tools/archive writes the archive to
+ * link, target/staticlib/libapi.a, for x86-64 Linux, and examples/first.c is a first program:
  *
- * orders: the order table, 5 numbers a row, 1 to 1,600 rows.  symbols: the symbol table, 42 bytes an entry, 1 to 1,000 entries.
- * shelf: 4,736 bytes.  state: next, second (its low 32 bits count), stop (its low 8 bits count). */
+ *     cc -std=c99 -Iinclude examples/first.c target/staticlib/libapi.a -o first
+ *
+ * WHAT COMES IN. A message has a sequence number, 1 to 10^12, and a body, whose first byte is its type. A record is a sequence number in
+ * 8 bytes, the body's length in 2, the body. A packet is 1 to 1,500 bytes of records, back to back. A recording is packets, each behind
+ * its length in 2 bytes. All numbers are unsigned and little-endian, the lowest byte first. Packets may come late, twice or never, from
+ * several lines: messages are applied in the order of their numbers, and those that came too early wait on the shelf.
+ *
+ * THE WAY THROUGH. rimeheath_start; then rimeheath_receive for each packet, or rimeheath_open and rimeheath_feed for a recording in chunks
+ * of any size; then views (rimeheath_ladder, rimeheath_spread, rimeheath_counts) and rimeheath_sheet, whenever they are wanted.
+ *
+ * LENGTHS COUNT ELEMENTS. orders_len and run_len count 64-bit numbers, not bytes: for `uint64_t orders[4 * RIMEHEATH_ROW_SIZE]` the length
+ * is 4 * RIMEHEATH_ROW_SIZE, and not sizeof orders. All other lengths count bytes.
+ *
+ * ANSWERS. Every call but rimeheath_cut answers RIMEHEATH_DONE or a refusal, by its number. A refusal changes no byte of what is lent. Any
+ * bytes, numbers and lengths may be given: no call asks that anything was checked before.
+ *
+ * POINTERS. What the types of C cannot say, the caller must see to:
+ *   - a pointer points to as many elements as its length says, and an array has the size that is written here;
+ *   - no pointer is null, even where its length is 0;
+ *   - memory of 64-bit numbers is aligned as uint64_t is, even where its length is 0;
+ *   - memory that is lent for writing (no const) overlaps nothing else that is lent to the same call;
+ *   - a bool holds 0 or 1.
+ *
+ * THREADS. No call keeps anything between calls, allocates, reads or writes files, or locks: all that is remembered is in the lent memory.
+ * So calls on different memory may run side by side. While a call writes to memory, no other call may use that memory. */
 #ifndef RIMEHEATH_H
 #define RIMEHEATH_H
 
@@ -19,43 +39,183 @@
 extern "C" {
 #endif
 
-/* Starts a receiver: zeroes the three tables; state becomes 1, 0, 0. */
+/* ---- sizes ---- */
+enum {
+    RIMEHEATH_ROW_SIZE = 5,        /* numbers in a row of the order table */
+    RIMEHEATH_MOST_ROWS = 1600,    /* an order table has 1 to this many rows */
+    RIMEHEATH_ENTRY_SIZE = 42,     /* bytes in an entry of the symbol table */
+    RIMEHEATH_MOST_ENTRIES = 1000, /* a symbol table has 1 to this many entries */
+    RIMEHEATH_SHELF_SIZE = 4736,   /* bytes of a shelf: always this many */
+    RIMEHEATH_HOLD_LEAST = 1502,   /* bytes of the buffer for an unfinished packet: this many or more */
+    RIMEHEATH_PACKET_MOST = 1500,  /* bytes in the longest packet */
+    RIMEHEATH_LEVEL_SIZE = 3,      /* numbers in a level of a ladder */
+    RIMEHEATH_SHEET_MOST = 1500000 /* a buffer of this many bytes holds any sheet whole */
+};
+
+/* ---- answers of the calls ---- */
+enum {
+    RIMEHEATH_DONE = 0,
+    RIMEHEATH_REFUSED_PACKET = 1, /* a packet of 0 bytes, or of more than RIMEHEATH_PACKET_MOST */
+    RIMEHEATH_REFUSED_RECORD = 2, /* fewer than 10 bytes are left for a record's header, or its body runs past the end */
+    RIMEHEATH_REFUSED_BODY = 3,   /* no such type, an empty body, or not that type's length */
+    RIMEHEATH_REFUSED_FIELD = 4,  /* a field out of range: side, price, size, test indicator, market, the flags of a Modify Order */
+    RIMEHEATH_REFUSED_NUMBER = 5, /* a sequence number of 0 or above 10^12 */
+    RIMEHEATH_REFUSED_SIZE = 6,   /* a table or buffer whose size is not as said above, or a next number outside 1 to 10^12 + 1 */
+    RIMEHEATH_REFUSED_SYMBOL = 30 /* a view of a symbol that no entry in use has */
+};
+/* Where several apply, the first of this order is told: 6; 1; then record by record from the front 2, 5, 3, 4. Of a view: 6, then 30. */
+
+/* ---- the receiver's state, three numbers; a start makes it ---- */
+enum {
+    RIMEHEATH_STATE_NEXT,   /* the number of the message that is applied next */
+    RIMEHEATH_STATE_SECOND, /* the second that the last System Time told; the low 32 bits count */
+    RIMEHEATH_STATE_STOP,   /* why the message next, which has come, is not applied: one of the stops; the low 8 bits count */
+    RIMEHEATH_STATE_SIZE
+};
+
+/* ---- stops: the first rule that the message next breaks; until it can be applied, no other is ---- */
+enum {
+    RIMEHEATH_STOP_NONE = 0,          /* it has not stopped: the message next is waited for */
+    RIMEHEATH_STOP_SYMBOL = 20,       /* the message names a symbol that no entry in use has */
+    RIMEHEATH_STOP_LIVE = 21,         /* an Add of an order that is live already */
+    RIMEHEATH_STOP_NOT_LIVE = 22,     /* a Modify, Delete or Execution of an order that is not live */
+    RIMEHEATH_STOP_OTHER_SYMBOL = 23, /* a Modify, Delete or Execution of an order that is live under another symbol */
+    RIMEHEATH_STOP_SIZE = 24,         /* an Execution of more shares than the order has */
+    RIMEHEATH_STOP_ROWS = 25,         /* an Add, and no row is free */
+    RIMEHEATH_STOP_ENTRIES = 26,      /* a Symbol Update of a new symbol, and no entry is free */
+    RIMEHEATH_STOP_SHELF = 27         /* the shelf holds another number or no good message at the place of next: the caller altered it */
+};
+
+/* ---- a packet's account, nine numbers ----
+ * Each record of an accepted packet gets one of five answers (10 to 14 of docs/NUMBERS.md); the first five numbers count them. */
+enum {
+    RIMEHEATH_ACCOUNT_TAKEN,     /* 10: new, and put on the shelf */
+    RIMEHEATH_ACCOUNT_OLD,       /* 11: its number is below next */
+    RIMEHEATH_ACCOUNT_FAR,       /* 12: its number is next + 64 or more, too far for the shelf */
+    RIMEHEATH_ACCOUNT_REPEATED,  /* 13: the shelf has the same number with the same bytes */
+    RIMEHEATH_ACCOUNT_DIFFERING, /* 14: its place on the shelf is taken by other bytes, which stay */
+    RIMEHEATH_ACCOUNT_NEXT,      /* next after the packet */
+    RIMEHEATH_ACCOUNT_APPLIED,   /* how many messages the packet had applied: the growth of next */
+    RIMEHEATH_ACCOUNT_HIGHEST,   /* the highest number that waits on the shelf, 0 if none */
+    RIMEHEATH_ACCOUNT_STOP,      /* the stop after the packet */
+    RIMEHEATH_ACCOUNT_SIZE
+};
+
+/* ---- a stream, eleven numbers: a recording that is read in chunks ----
+ * The first three are the receiver's state, so that a stream may be lent wherever a state is read. A count that would
+ * pass 2^64 - 1 stays there. */
+enum {
+    RIMEHEATH_STREAM_NEXT,
+    RIMEHEATH_STREAM_SECOND,
+    RIMEHEATH_STREAM_STOP,
+    RIMEHEATH_STREAM_HELD,  /* bytes of an unfinished length and packet that stand in the buffer */
+    RIMEHEATH_STREAM_SKIP,  /* bytes of an over-long packet (above RIMEHEATH_PACKET_MOST) that are still to be passed over */
+    RIMEHEATH_STREAM_BAD,   /* packets that were refused, over-long ones included once their last byte has come */
+    RIMEHEATH_STREAM_TAKEN, /* records of all accepted packets, by their answers, as in an account */
+    RIMEHEATH_STREAM_OLD,
+    RIMEHEATH_STREAM_FAR,
+    RIMEHEATH_STREAM_REPEATED,
+    RIMEHEATH_STREAM_DIFFERING,
+    RIMEHEATH_STREAM_SIZE
+};
+
+/* ---- the order table: row i begins at orders[i * RIMEHEATH_ROW_SIZE] ----
+ * A row of five zeros is free. A row is live where its rank is 1 or more, its key below 2^33, its price 1 to 10^15 and its shares 1 to
+ * 2^32 - 1. From a start there are no others; a row that a caller made otherwise is passed over. */
+enum {
+    RIMEHEATH_ROW_ORDER,  /* order ID */
+    RIMEHEATH_ROW_KEY,    /* symbol ID times 2, plus 0 for a buy or 1 for a sell */
+    RIMEHEATH_ROW_PRICE,  /* millionths of a dollar */
+    RIMEHEATH_ROW_SHARES, /* the order's size */
+    RIMEHEATH_ROW_RANK    /* the sequence number that gave the order its place: at one price the lower rank is first */
+};
+
+/* ---- the symbol table: entry i begins at symbols[i * RIMEHEATH_ENTRY_SIZE] ----
+ * An entry is the body of the last Symbol Update of its symbol, 42 bytes. From a start, entries in use stand in front, in the order in
+ * which their symbols came first, and free ones behind them. These are offsets in an entry; numbers have their lowest byte first. */
+enum {
+    RIMEHEATH_ENTRY_TYPE = 0,     /* 1 byte: 1 where the entry is in use, 0 where it is free; any other is passed over */
+    RIMEHEATH_ENTRY_NANOS = 1,    /* 4 bytes: nanoseconds since the second */
+    RIMEHEATH_ENTRY_SYMBOL = 5,   /* 4 bytes: symbol ID */
+    RIMEHEATH_ENTRY_TICKER = 9,   /* 11 bytes: the name, with spaces behind it */
+    RIMEHEATH_ENTRY_TEST = 21,    /* 1 byte: 'Y' for a test security, 'N' for any other (20 and 22 are reserved) */
+    RIMEHEATH_ENTRY_LOT = 23,     /* 2 bytes: round lot in shares */
+    RIMEHEATH_ENTRY_OPENING = 25, /* 8 bytes, as 09:30:00 */
+    RIMEHEATH_ENTRY_CLOSING = 33, /* 8 bytes, as 16:00:00 */
+    RIMEHEATH_ENTRY_MARKET = 41,  /* 1 byte: the letter of the primary market */
+    RIMEHEATH_TICKER_SIZE = 11    /* bytes of a ticker */
+};
+
+/* ---- receiving ---- */
+
+/* Starts a receiver: zeroes the three tables; state becomes 1, 0, 0. A small table is filled sooner: RIMEHEATH_MOST_ROWS rows and
+ * RIMEHEATH_MOST_ENTRIES entries are what the program `sheet` uses. Refused by 6. */
 uint8_t rimeheath_start(uint64_t *orders, size_t orders_len, uint8_t *symbols, size_t symbols_len, uint8_t *shelf, size_t shelf_len,
                         uint64_t state[3]);
 
-/* Gives a packet to a receiver: state becomes the state after the packet, and the tables and the shelf what they are after it. account
- * becomes: how many records were taken, old, too far, repeated, differing; then next, how many messages were applied, the highest number on
- * the shelf, the stop. */
+/* Gives a packet to a receiver: state, tables and shelf become what they are after it, and account what is said above. A packet whose
+ * messages stop the receiver is accepted all the same: look at the stop. Refused by 6, 1, 2, 5, 3, 4. */
 uint8_t rimeheath_receive(uint64_t *orders, size_t orders_len, uint8_t *symbols, size_t symbols_len, uint8_t *shelf, size_t shelf_len,
                           uint64_t state[3], const uint8_t *packet, size_t packet_len, uint64_t account[9]);
 
-/* The price levels of a symbol's bids, or of its offers where sell is true, best first: price, shares, orders, into run while a whole level
- * fits; the rest of run stays untouched, and levels[0] becomes the number of all levels, written or not. */
+/* ---- a recording in chunks ---- */
+
+/* Opens a stream over a receiver: stream becomes its state and eight zeros. From here on the stream has the receiver's state, and the
+ * three numbers that it was opened with are not written again. Always answers RIMEHEATH_DONE: a bad next number is refused when the stream
+ * is fed. */
+uint8_t rimeheath_open(const uint64_t state[3], uint64_t stream[11]);
+
+/* Gives the next chunk of a recording, of any length, cut anywhere. Every packet that ends in it is given to the receiver; one that is
+ * refused is counted as bad and passed over. stream, tables and shelf become what they are after it; in hold stand the bytes of the
+ * unfinished packet and zeros behind them: lend the same hold to the next call. However a recording is cut, it comes to the same in the
+ * end. Refused by 6 alone: also where stream says that more bytes are held than hold has. */
+uint8_t rimeheath_feed(uint64_t *orders, size_t orders_len, uint8_t *symbols, size_t symbols_len, uint8_t *shelf, size_t shelf_len,
+                       uint8_t *hold, size_t hold_len, uint64_t stream[11], const uint8_t *chunk, size_t chunk_len);
+
+/* Whether a recording that ends here is cut: it ends inside a length or a packet. That last piece is dropped and is not counted as bad. */
+bool rimeheath_cut(const uint64_t stream[11]);
+
+/* ---- views ---- */
+
+/* The price levels of a symbol's bids, or of its offers where sell is true, best first: price in millionths of a dollar, shares, number of
+ * orders, into run while a whole level fits. The rest of run stays untouched, and levels[0] becomes the number of all levels, written or
+ * not. Refused by 6, 30. */
 uint8_t rimeheath_ladder(const uint64_t *orders, size_t orders_len, const uint8_t *symbols, size_t symbols_len, uint32_t symbol, bool sell,
                          uint64_t *run, size_t run_len, uint64_t levels[1]);
 
-/* Best offer less best bid in millionths: answer[0] becomes 1 and answer[1] the spread in two's complement (cast it to int64_t), or both
- * become 0 where a side is empty. */
+/* Best offer less best bid in millionths of a dollar: answer[0] becomes 1 and answer[1] the spread in two's complement (cast it to int64_t:
+ * it is below 0 where the book is crossed), or both become 0 where a side is empty. Refused by 6, 30. */
 uint8_t rimeheath_spread(const uint64_t *orders, size_t orders_len, const uint8_t *symbols, size_t symbols_len, uint32_t symbol,
                          uint64_t answer[2]);
 
-/* counts becomes: live orders, used entries. */
+/* counts[0] becomes the number of live orders, counts[1] that of entries in use. Refused by 6. */
 uint8_t rimeheath_counts(const uint64_t *orders, size_t orders_len, const uint8_t *symbols, size_t symbols_len, uint64_t counts[2]);
 
-/* Judges a packet: records[0] becomes the number of its records. */
+/* ---- the sheet ---- */
+
+/* Writes the answer sheet into text as far as it reaches: lines key=value, each ended by one line feed, with no zero byte behind them. The
+ * number of bad packets and whether the recording was cut are the caller's: of a stream they are stream[RIMEHEATH_STREAM_BAD] and
+ * rimeheath_cut(stream), and stream may be lent as state. length[0] becomes the length of the whole sheet, written or not: where it is
+ * above text_len, the sheet did not fit and its first text_len bytes stand in text. RIMEHEATH_SHEET_MOST bytes always hold it whole.
+ * Refused by 6. */
+uint8_t rimeheath_sheet(uint8_t *text, size_t text_len, const uint64_t *orders, size_t orders_len, const uint8_t *symbols,
+                        size_t symbols_len, const uint64_t state[3], uint64_t bad, bool cut, uint64_t length[1]);
+
+/* ---- reading ---- */
+
+/* Judges a packet: records[0] becomes the number of its records. Refused by 1, 2, 5, 3, 4. */
 uint8_t rimeheath_packet(const uint8_t *packet, size_t packet_len, uint64_t records[1]);
 
 /* Judges the first record of what is left of a packet: head becomes its number and the length of its body, which stands behind 10 bytes.
  * The next record starts behind that body. With nothing left the answer is 2, as with any part of a header, and never 1: a caller stops by
- * itself at the packet's end. */
+ * itself at the packet's end. Refused by 2, 5, 3, 4. */
 uint8_t rimeheath_record(const uint8_t *rest, size_t rest_len, uint64_t head[2]);
 
-/* Judges a body and reads its numbers. fields[0] becomes the type; behind it stand the numbers of the message in the order of their places
- * (docs/MESSAGES.md), then zeros:
+/* Judges a body and reads its numbers. fields[0] becomes the type; behind it stand the numbers of the message in the order of their places,
+ * then zeros. Letters are their codes; of an attributable ID, four letters, the first is the lowest byte. Refused by 3, 4.
  *    49 System Time              second
- *     1 Symbol Update            symbol, lot, market (left out, and in the body: nanoseconds at 1, ticker at 9, test indicator at 21,
- *                                opening time at 25, closing time at 33)
- *    83 System State             nanoseconds, session, status (left out, and in the body: the version at 5)
+ *     1 Symbol Update            symbol, lot, market (left out: the others of RIMEHEATH_ENTRY_.., which are its offsets in the body)
+ *    83 System State             nanoseconds, session, status (left out, and in the body: the version, 8 bytes at 5)
  *     4 Security Trading Status  nanoseconds, symbol, trading status, market, short sale restriction
  *     5 Symbol Clear             nanoseconds, symbol
  *    20 Add Order                nanoseconds, symbol, order, side, price, size, attributable ID
@@ -66,12 +226,6 @@ uint8_t rimeheath_record(const uint8_t *rest, size_t rest_len, uint64_t head[2])
  *    11 Trade Cancel             nanoseconds, symbol, trade, correction, price, size
  */
 uint8_t rimeheath_body(const uint8_t *body, size_t body_len, uint64_t fields[8]);
-
-/* Writes the answer sheet into text as far as it reaches: bad packets and whether the recording was cut are the caller's. length[0] becomes
- * the length of the whole sheet, written or not: where it is above text_len, the sheet did not fit and its first text_len bytes stand in text.
- * 1,500,000 bytes always hold it whole. */
-uint8_t rimeheath_sheet(uint8_t *text, size_t text_len, const uint64_t *orders, size_t orders_len, const uint8_t *symbols,
-                        size_t symbols_len, const uint64_t state[3], uint64_t bad, bool cut, uint64_t length[1]);
 
 #ifdef __cplusplus
 }

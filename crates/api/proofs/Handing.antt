@@ -33,7 +33,7 @@ use Rattle.api.specs.Messages.{typed, kindIn, fieldsOf, bodyAnswer}
 use Rattle.api.proofs.Types.{type-told}
 
 -- x is the answer and k its case; g puts it beside what was lent, and f hands that on
-handed : {A B C : Type 0} (f : B → C) (g : A → B) (x k : A) (b : B) → x ≡ k → g x ≡ b → f (g k) ≡ f b
+pub handed : {A B C : Type 0} (f : B → C) (g : A → B) (x k : A) (b : B) → x ≡ k → g x ≡ b → f (g k) ≡ f b
 handed f g x k b q e = ap f (ap g (sym q) ∙ e)
 
 pub start-handed : (x k : Started) → x ≡ k → (o s h : List ℕ) (b : Begun) → begun x o s h ≡ b → (l : List ℕ) → startAnswer (begun k o s h) l ≡ startAnswer b l

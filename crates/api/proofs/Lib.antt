@@ -2,3 +2,4 @@ pub mod Bits
 pub mod Handing
 pub mod Types
 pub mod Chain
+pub mod Streams

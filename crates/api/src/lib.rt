@@ -1,5 +1,5 @@
-// The library for other languages: thin functions over numbers, slices and arrays of numbers (include/rimeheath.h). Each answers 0 or
-// document 01's number of the refusal, and a refusal changes no lent byte.
+// The library for other languages: thin functions over numbers, slices and arrays of numbers (include/rimeheath.h). Each but rimeheath_cut,
+// which answers yes or no, answers 0 or document 01's number of the refusal, and a refusal changes no lent byte.
 ghost use mathlib.Core.Path.{_≡_};
 ghost use Rattle.receiver.specs.Lent.{lent, received, started};
 ghost use Rattle.views.specs.Views.{ladderView, spreadView, countsView};
@@ -7,10 +7,13 @@ ghost use Rattle.packet.specs.Record.{readRecord};
 ghost use Rattle.packet.specs.Packet.{readPacket};
 ghost use Rattle.body.specs.Read.{readBody};
 ghost use Rattle.answer_sheet.specs.Sheet.{sheetView};
+ghost use Rattle.recording.specs.Stream.{opened, fed, cut as isCut};
 ghost use Rattle.api.specs.Calls.{stateIn, accountNumbers, sideAsked, startCall, startAnswer, receiveCall, receiveAnswer, fillCall, ladderAnswer, call, bitsOf, spreadAnswer, countsAnswer, packetAnswer, recordAnswer, wordOf, sheetAnswer};
+ghost use Rattle.api.specs.Streams.{streamNumbers, streamFrom, openAnswer, feedCall, feedAnswer};
 ghost use Rattle.api.specs.Messages.{symbolFields, stateFields, statusFields, clearFields, addFields, modifyFields, deleteFields, executionFields, tradeFields, cancelFields, typed, bodyAnswer};
 use answer_sheet::Recording;
 use answer_sheet::SheetAnswer;
+use arbitration::Counts;
 use book::Clock;
 use fields::AddOrder;
 use fields::Body;
@@ -29,6 +32,8 @@ use receiver::Account;
 use receiver::Received;
 use receiver::Started;
 use receiver::State;
+use recording::Fed;
+use recording::Stream;
 use views::CountsAnswer;
 use views::LadderAnswer;
 use views::Side;
@@ -109,6 +114,89 @@ pub extern "C" fn rimeheath_receive(
             0
         }
     }
+}
+
+// A stream of eleven lent numbers.
+fn stream_from(l: &[u64; 11]) -> Stream
+    ensures { λ r. ⌜ r ≡ streamFrom (now (l .entry)) ⌝ }
+{
+    let head = [l[0], l[1], l[2]];
+    let receiver = state_in(&head);
+    let totals = Counts {
+        taken: l[6],
+        old: l[7],
+        far: l[8],
+        repeated: l[9],
+        differing: l[10],
+    };
+    Stream {
+        receiver,
+        held: l[3] as usize,
+        skip: l[4] as usize,
+        bad: l[5],
+        totals,
+    }
+}
+
+// A stream as eleven numbers.
+fn stream_numbers(k: Stream) -> [u64; 11]
+    ensures { λ r. ⌜ r ≡ streamNumbers k ⌝ }
+{
+    let s = k.receiver;
+    let clock = s.clock;
+    let t = k.totals;
+    [
+        s.next,
+        clock.second as u64,
+        s.stop as u64,
+        k.held as u64,
+        k.skip as u64,
+        k.bad,
+        t.taken,
+        t.old,
+        t.far,
+        t.repeated,
+        t.differing,
+    ]
+}
+
+// Opens a stream over a receiver, before the first chunk of a recording.
+#[no_mangle]
+pub extern "C" fn rimeheath_open(state: &[u64; 3], stream: &mut [u64; 11]) -> u8
+    ensures { λ r. ⌜ call r (now (stream .exit)) ≡ openAnswer (opened (stateIn (now (state .entry)))) ⌝ }
+{
+    let k = recording::open(state_in(state));
+    *stream = stream_numbers(k);
+    0
+}
+
+// Gives the next chunk of a recording: the stream, the tables and the buffer become what they are after it.
+#[no_mangle]
+pub extern "C" fn rimeheath_feed(
+    orders: &mut [u64],
+    symbols: &mut [u8],
+    shelf: &mut [u8],
+    hold: &mut [u8],
+    stream: &mut [u64; 11],
+    chunk: &[u8],
+) -> u8
+    ensures { λ r. ⌜ feedCall r (now (stream .exit)) (now (orders .exit)) (now (symbols .exit)) (now (shelf .exit)) (now (hold .exit)) ≡ feedAnswer (fed (streamFrom (now (stream .entry))) (now (orders .entry)) (now (symbols .entry)) (now (shelf .entry)) (now (hold .entry)) (now (chunk .entry))) (now (stream .entry)) ⌝ }
+{
+    match recording::feed(orders, symbols, shelf, hold, stream_from(stream), chunk) {
+        Fed::Refused(r) => r.number,
+        Fed::Took(k) => {
+            *stream = stream_numbers(k);
+            0
+        }
+    }
+}
+
+// Whether a recording that ends here ends inside a length or packet.
+#[no_mangle]
+pub extern "C" fn rimeheath_cut(stream: &[u64; 11]) -> bool
+    ensures { λ r. ⌜ r ≡ isCut (streamFrom (now (stream .entry))) ⌝ }
+{
+    recording::is_cut(stream_from(stream))
 }
 
 fn side_asked(sell: bool) -> Side

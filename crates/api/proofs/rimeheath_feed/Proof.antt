@@ -1,0 +1,74 @@
+-- A refused chunk leaves the stream; another tells it.
+-- Assumes nothing.
+use Rattle.api.specs.Streams.{feedAnswer}
+use Rattle.recording.specs.Stream.{fedNumber}
+use Rattle.api.proofs.Streams.{feed-handed, feed-took}
+use borrow.Author.Needs.{needs}
+use Rattle.api.proofs.rimeheath_feed.Statement.{statement}
+use Rattle.api.proofs.rimeheath_feed.Tie as tie
+
+stream-from-requires : tie.Need-stream-from-requires
+stream-from-requires c κs = search needs
+
+feed-requires : tie.Need-feed-requires
+feed-requires c κs = search needs
+
+enum-known-r : tie.Need-enum-known-r
+enum-known-r c = search needs
+
+enum-known-k : tie.Need-enum-known-k
+enum-known-k c = search needs
+
+stream-numbers-requires : tie.Need-stream-numbers-requires
+stream-numbers-requires c κs = search needs
+
+same-length : tie.Need-same-length
+same-length c = search needs
+
+same-length-2 : tie.Need-same-length-2
+same-length-2 c = search needs
+
+same-length-3 : tie.Need-same-length-3
+same-length-3 c = search needs
+
+same-length-4 : tie.Need-same-length-4
+same-length-4 c = search needs
+
+returns : tie.Need-returns
+unfolding feedAnswer fedNumber
+returns c = feed-handed _ _ _ _ _ _ (rw (c .before .before .before .before .before .before .before .before .before .before .before .before .stream-from .ensures) at (c .before .before .before .before .before .before .before .before .before .before .before .feed .ensures)) (c .before .before .before .before .before .before .before .before .before .before .before .before .before .before .before .before .before .before .before .before .before .before .before .args .stream .now) _ (c .before .r .given .1)
+
+same-length-5 : tie.Need-same-length-5
+same-length-5 c = search needs
+
+same-length-6 : tie.Need-same-length-6
+same-length-6 c = search needs
+
+same-length-7 : tie.Need-same-length-7
+same-length-7 c = search needs
+
+same-length-8 : tie.Need-same-length-8
+same-length-8 c = search needs
+
+returns-2 : tie.Need-returns-2
+returns-2 c = feed-took _ _ _ _ _ _ (rw (c .before .before .before .before .before .before .before .before .before .before .before .before .before .stream-from .ensures) at (c .before .before .before .before .before .before .before .before .before .before .before .before .feed .ensures)) _ _ (c .before .before .k .given .1) _ (c .stream-numbers .ensures)
+
+pub rimeheath-feed-spec : {M : Type 1} → statement M
+rimeheath-feed-spec =
+    tie.close
+    (tie.spec
+    stream-from-requires
+    feed-requires
+    enum-known-r
+    enum-known-k
+    stream-numbers-requires
+    same-length
+    same-length-2
+    same-length-3
+    same-length-4
+    returns
+    same-length-5
+    same-length-6
+    same-length-7
+    same-length-8
+    returns-2)

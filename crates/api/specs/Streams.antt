@@ -1,0 +1,51 @@
+-- What the calls for a recording in chunks answer: a stream is eleven lent numbers, and the meaning is that of `recording`.
+use Prim.Native.Nat.{ℕ}
+use mathlib.Core.List.{List, [], _∷_}
+use lib.ListN.{getD}
+use Rattle.recording.specs.declared.Stream.{Stream}
+use Rattle.recording.specs.declared.Fed.{Fed}
+use Rattle.recording.specs.Stream.{Feeding, fedNumber}
+use Rattle.api.specs.Calls.{stateIn, Call, call}
+
+-- next, second, stop; bytes held, bytes to pass over, bad packets; records taken, old, too far, repeated, differing over all accepted packets
+abbrev pub streamNumbers : Stream → List ℕ
+streamNumbers k =
+    k .receiver .next ∷ k .receiver .clock .second ∷ k .receiver .stop ∷ k .held ∷ k .skip ∷ k .bad
+    ∷ k .totals .taken ∷ k .totals .old ∷ k .totals .far ∷ k .totals .repeated ∷ k .totals .differing ∷ []
+
+-- a stream in eleven lent numbers: the first three as of a receiver's state, so that the second is the low 32 bits of its number and the stop the low 8
+abbrev pub streamFrom : List ℕ → Stream
+streamFrom l =
+    record {
+      receiver = stateIn l;
+      held = getD l 3 0;
+      skip = getD l 4 0;
+      bad = getD l 5 0;
+      totals = record { taken = getD l 6 0; old = getD l 7 0; far = getD l 8 0; repeated = getD l 9 0; differing = getD l 10 0 };
+    }
+
+-- ---- a stream over a receiver
+-- any state is taken: one that is refused is refused by 6 when it is fed
+unfoldable pub openAnswer : Stream → Call
+openAnswer k = call 0 (streamNumbers k)
+
+-- ---- a chunk
+-- its number, the stream lent for it, the tables and the buffer
+pub record FeedCall : Type 0 where
+  pub number : ℕ
+  pub stream : List ℕ
+  pub orders : List ℕ
+  pub symbols : List ℕ
+  pub shelf : List ℕ
+  pub hold : List ℕ
+
+abbrev pub feedCall : ℕ → List ℕ → List ℕ → List ℕ → List ℕ → List ℕ → FeedCall
+feedCall n l o s h w = record { number = n; stream = l; orders = o; symbols = s; shelf = h; hold = w }
+
+-- a refusal leaves the lent stream as it is
+abbrev pub streamFed : Fed → List ℕ → List ℕ
+streamFed (Fed.Took k) l = streamNumbers k
+streamFed (Fed.Refused r) l = l
+
+unfoldable pub feedAnswer : Feeding → List ℕ → FeedCall
+feedAnswer f l = feedCall (fedNumber (f .answer)) (streamFed (f .answer) l) (f .orders) (f .symbols) (f .shelf) (f .hold)
