@@ -35,7 +35,8 @@ is read from the file RECORDING, or from standard input. Nothing is printed
 before it has been read to its end.
 
   --progress  tells on standard error how many MB have been read, and how many
-              percent where the size is known; on a terminal that is always told
+              percent where the size is known; a terminal is told unasked, where
+              the reading takes longer than a second
   --help      prints this
   --version   prints the version
 
