@@ -175,7 +175,6 @@ fn read_all(
     block: &mut [u8],
     start: Stream,
 ) -> Outcome {
-    let watched = libc::isatty(STDERR_FILENO) != 0;
     let mut s = start;
     let mut blocks: u64 = 0;
     while blocks < u64::MAX {
@@ -185,7 +184,6 @@ fn read_all(
         };
         s = next;
         blocks = blocks + 1;
-        show_progress(watched, blocks);
     }
     Outcome::More(s)
 }
@@ -215,19 +213,6 @@ fn turn(
         Fed::Took(t) => Outcome::More(t),
         Fed::Refused(_) => Outcome::Refused,
     }
-}
-
-// A line now and then for who watches a long recording.
-fn show_progress(watched: bool, blocks: u64) {
-    if !watched {
-        return;
-    }
-    if blocks % 1024 != 0 {
-        return;
-    }
-    say(STDERR_FILENO, b"rimeheath: reading, blocks so far: ");
-    io::print_decimal(STDERR_FILENO, blocks);
-    say(STDERR_FILENO, b"\n");
 }
 
 fn print(orders: &[u64], symbols: &[u8], text: &mut [u8], s: Stream) {

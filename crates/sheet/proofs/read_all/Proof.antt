@@ -8,14 +8,11 @@ use Rattle.sheet.proofs.read_all.Statement.{statement}
 use Rattle.sheet.proofs.read_all.Tie as tie
 
 abbrev Inv-loop : tie.InvT-loop
-Inv-loop orders₀ symbols₀ shelf₀ hold₀ block₀ watched s₀ blocks₀ orders symbols shelf hold block s blocks =
+Inv-loop orders₀ symbols₀ shelf₀ hold₀ block₀ s₀ blocks₀ orders symbols shelf hold block s blocks =
     (length orders ≡ length orders₀) × (length symbols ≡ length symbols₀) × (length shelf ≡ length shelf₀) × (length hold ≡ length hold₀) × (length block ≡ length block₀)
 
 abbrev μ-loop : tie.MeasureT-loop
-μ-loop orders₀ symbols₀ shelf₀ hold₀ block₀ watched s₀ blocks₀ orders symbols shelf hold block s blocks = 18446744073709551615 - blocks
-
-isatty-requires : tie.Need-isatty-requires Inv-loop μ-loop
-isatty-requires c κs = search needs
+μ-loop orders₀ symbols₀ shelf₀ hold₀ block₀ s₀ blocks₀ orders symbols shelf hold block s blocks = 18446744073709551615 - blocks
 
 loop-holds : tie.Need-loop-holds Inv-loop μ-loop
 loop-holds c = search needs
@@ -47,9 +44,6 @@ returns c = search needs
 add-blocks : tie.Need-add-blocks Inv-loop μ-loop
 add-blocks c = search needs
 
-show-progress-requires : tie.Need-show-progress-requires Inv-loop μ-loop
-show-progress-requires c κs = search needs
-
 loop-less : tie.Need-loop-less Inv-loop μ-loop
 loop-less c = search needs
 
@@ -80,7 +74,6 @@ read-all-spec =
     (tie.spec
     Inv-loop
     μ-loop
-    isatty-requires
     loop-holds
     turn-requires
     enum-known-t
@@ -91,7 +84,6 @@ read-all-spec =
     same-length-5
     returns
     add-blocks
-    show-progress-requires
     loop-less
     loop-again
     same-length-6

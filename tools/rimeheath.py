@@ -1,0 +1,391 @@
+# The command ./rimeheath: reads the words, sees that the proved program behind them is built, and feeds it a recording.
+# What is printed of a recording is the proved program's output, byte for byte, and none of it before the recording was read to its end.
+import fcntl
+import hashlib
+import os
+import shutil
+import signal
+import stat
+import subprocess
+import sys
+import tempfile
+import threading
+import time
+
+ROOT = os.path.dirname(os.path.dirname(os.path.realpath(__file__)))
+# The program `sheet` says the same of itself; tools/try-command holds them to each other.
+VERSION = "rimeheath 1.0, for DoM 1.3.b\n"
+BLOCK = 65536
+IN_MEMORY = 1 << 26  # longer outputs wait on disk
+
+USAGE = """\
+usage: ./rimeheath sheet   [--progress] [RECORDING]
+       ./rimeheath answers [--progress] [RECORDING]
+       ./rimeheath read    [--progress] [RECORDING]
+       ./rimeheath --help | --version
+
+sheet    prints the order book that a recording leaves, as an answer sheet
+answers  prints the receiver's answer to each packet, then the tables and views
+read     prints what each packet holds, record by record
+"""
+
+COMMON = """
+A recording is packets, each behind its length in two bytes, low byte first. It
+is read from the file RECORDING, or from standard input. Nothing is printed
+before it has been read to its end.
+
+  --progress  tells on standard error how many MB have been read, and how many
+              percent where the size is known; a terminal is told unasked, where
+              the reading takes longer than a second
+  --help      prints this
+  --version   prints the version
+
+The program behind each command is proved and built on first use, which takes
+some minutes, and again where its sources have changed.
+
+The status is 0 where all was printed, 1 where it was not and standard error
+says why, and 2 where the words are wrong.
+"""
+
+SHEET = """\
+usage: ./rimeheath sheet [--progress] [RECORDING]
+
+Prints the order book that a recording leaves, as an answer sheet: whether the
+recording is whole or cut, bad packets, next, stop, second, and each symbol with
+its ladders. A packet that the recording cuts off is not taken.
+"""
+
+ANSWERS = """\
+usage: ./rimeheath answers [--progress] [RECORDING]
+
+Prints the receiver's answer to each packet: records taken, old, too far,
+repeated, differing; next, applied, highest on the shelf, stop; or 'refused' and
+the number. Then the second, the rows, the entries, and each symbol's levels and
+spread. A packet that the recording cuts off is left out.
+"""
+
+READ = """\
+usage: ./rimeheath read [--progress] [RECORDING]
+
+Prints what each packet holds: 'records' and how many, and for each record a
+line with its sequence number, its type byte and its fields in the order of
+their places; or 'refused' and the number. A packet that the recording cuts off
+is left out.
+"""
+
+# What each command runs and says of itself, and whether its program prints something of every recording.
+COMMANDS = {
+    "sheet": ("sheet", SHEET, True),
+    "answers": ("receiving", ANSWERS, True),
+    "read": ("reading", READ, False),
+}
+
+
+def tell(text):
+    try:
+        os.write(2, text.encode(errors="backslashreplace"))
+    except OSError:
+        pass
+
+
+def fail(text, status=1):
+    tell(f"rimeheath: {text}\n")
+    sys.exit(status)
+
+
+def wrong(text):
+    fail(text, 2)
+
+
+def write_all(fd, data):
+    view = memoryview(data)
+    while view:
+        view = view[os.write(fd, view):]
+
+
+# A reader such as head may leave before the end, and then this ends without a word, as other commands do.
+def put(blocks):
+    signal.signal(signal.SIGPIPE, signal.SIG_DFL)
+    try:
+        for block in blocks:
+            write_all(1, block)
+    except OSError as e:
+        fail(f"standard output: {e.strerror}")
+
+
+# ---- the program behind a command
+
+
+# The crates of this repository that the program is made of, itself last.
+def crates_of(program):
+    needs = {}
+    with open(f"{ROOT}/crates.txt") as f:
+        for line in f:
+            name, colon, rest = line.split("#")[0].partition(":")
+            if colon:
+                needs[name.strip()] = rest.split()
+    reached, todo = set(), [program]
+    while todo:
+        name = todo.pop()
+        if name in needs and name not in reached:
+            reached.add(name)
+            todo += needs[name]
+    return [name for name in needs if name in reached]
+
+
+def sum_of_file(path):
+    with open(path, "rb") as f:
+        return hashlib.sha256(f.read()).hexdigest()
+
+
+# A sum over all that is proved and compiled: contents, so that a file put back with an old time counts too.
+def sum_of_sources(crates):
+    files = [f"{ROOT}/crates.txt"]
+    for crate in crates:
+        for part in ("src", "specs", "proofs"):
+            for folder, _, names in os.walk(f"{ROOT}/crates/{crate}/{part}"):
+                files += [f"{folder}/{n}" for n in names if n.endswith((".rt", ".antt"))]
+    lines = [f"{sum_of_file(f)} {os.path.relpath(f, ROOT)}" for f in sorted(files) if os.path.isfile(f)]
+    return hashlib.sha256("\n".join(lines).encode(errors="surrogateescape")).hexdigest()
+
+
+# What stands in target/rimeheath/PROGRAM after a build: the sources from before it, and the program that came of it.
+def record_of(program, sources):
+    return f"{sources} {sum_of_file(f'{ROOT}/target/bin/{program}')}\n"
+
+
+def is_built(program, sources):
+    try:
+        with open(f"{ROOT}/target/rimeheath/{program}") as f:
+            return f.read() == record_of(program, sources)
+    except OSError:
+        return False
+
+
+def make_ready(program):
+    crates = crates_of(program)
+    if is_built(program, sum_of_sources(crates)):
+        return
+    if not shutil.which("rt"):
+        fail("no rt on the path, which proves and builds the program")
+    os.makedirs(f"{ROOT}/target/rimeheath", exist_ok=True)
+    with open(f"{ROOT}/target/rimeheath/lock", "w") as lock:
+        try:
+            fcntl.flock(lock, fcntl.LOCK_EX | fcntl.LOCK_NB)
+        except BlockingIOError:
+            tell("rimeheath: waiting for another rimeheath, which is building\n")
+            fcntl.flock(lock, fcntl.LOCK_EX)
+        sources = sum_of_sources(crates)
+        if not is_built(program, sources):
+            build(program, crates)
+            path = f"{ROOT}/target/rimeheath/{program}"
+            with open(path + ".new", "w") as f:
+                f.write(record_of(program, sources))
+            os.replace(path + ".new", path)
+
+
+def changed(path):
+    try:
+        return os.stat(path).st_mtime_ns
+    except OSError:
+        return None
+
+
+# Has rt prove and build the program, and tells each crate that is being proved, in the order in which rt comes to them. rt opens
+# target/log/NAME.out when it comes to a crate, and NAME.say where it has to prove it.
+def build(program, crates):
+    began = time.monotonic()
+    log = f"{ROOT}/target/log"
+    old = {c: (changed(f"{log}/{c}.out"), changed(f"{log}/{c}.say")) for c in crates}
+    number, told = {}, set()
+
+    def look():
+        for c in crates:
+            if c not in number and changed(f"{log}/{c}.out") != old[c][0]:
+                number[c] = len(number) + 1
+            if c in number and c not in told and changed(f"{log}/{c}.say") != old[c][1]:
+                if not told:
+                    tell(f"rimeheath: the program {program} has to be proved and built first; this takes some minutes\n")
+                told.add(c)
+                tell(f"rimeheath: proving {c} ({number[c]} of {len(crates)}), {time.monotonic() - began:.0f} s so far\n")
+
+    with tempfile.TemporaryFile() as said:
+        words = ["rt", "check", program]
+        rt = subprocess.Popen(words, cwd=ROOT, stdin=subprocess.DEVNULL, stdout=said, stderr=said, start_new_session=True)
+        try:
+            while rt.poll() is None:
+                time.sleep(0.2)
+                look()
+        finally:
+            if rt.returncode is None:
+                os.killpg(rt.pid, signal.SIGTERM)  # its provers too
+        look()
+        if rt.returncode != 0 or not os.access(f"{ROOT}/target/bin/{program}", os.X_OK):
+            said.seek(0)
+            tell("".join(line.decode(errors="replace") for line in said.readlines()[-20:]))
+            fail(f"the program {program} could not be built")
+    if told:
+        tell(f"rimeheath: proved and built, {time.monotonic() - began:.0f} s\n")
+
+
+# ---- feeding it
+
+
+class Progress:
+    def __init__(self, asked, size):
+        self.asked, self.size, self.read = asked, size, 0
+        self.terminal, self.shown, self.last = os.isatty(2), False, time.monotonic()
+
+    def add(self, n):
+        self.read += n
+        if (self.asked or self.terminal) and time.monotonic() - self.last >= 1:
+            self.show()
+
+    def show(self):
+        text = f"rimeheath: {self.read / 1e6:.1f} MB read"
+        if self.size:
+            text += f", {min(100, self.read * 100 // self.size)} percent"
+        tell(f"\r{text}" if self.terminal else f"{text}\n")
+        self.shown, self.last = True, time.monotonic()
+
+    def end(self):
+        if self.asked or self.shown:
+            self.show()
+        if self.shown and self.terminal:
+            tell("\n")
+
+
+# The recording's descriptor, what it is called, and its size where that is known.
+def open_recording(path, closed):
+    if path is None:
+        if 0 in closed:
+            fail("standard input is closed, or a folder")
+        fd, name = 0, "standard input"
+    else:
+        name = path
+        try:
+            fd = os.open(path, os.O_RDONLY)
+        except FileNotFoundError:
+            fail(f"{name}: no such recording")
+        except OSError as e:
+            fail(f"{name}: {e.strerror}")
+    found = os.fstat(fd)
+    if stat.S_ISDIR(found.st_mode):
+        fail(f"{name}: a folder, and no recording")
+    size = found.st_size - os.lseek(fd, 0, os.SEEK_CUR) if stat.S_ISREG(found.st_mode) else None
+    return fd, name, size
+
+
+# Passes the recording on to its end; what went wrong, or nothing.
+def feed(fd, name, pipe, progress):
+    while True:
+        try:
+            block = os.read(fd, BLOCK)
+        except OSError as e:
+            return f"{name}: {e.strerror}"
+        if not block:
+            return None
+        try:
+            write_all(pipe.fileno(), block)
+        except BrokenPipeError:
+            return "the program ended before the recording did"
+        progress.add(len(block))
+
+
+# Runs the program and holds what it prints. Where the recording cannot be read to its end, the program is ended before its input is, so
+# that it never takes an error for the end.
+def run(program, fd, name, progress, held):
+    child = subprocess.Popen([f"{ROOT}/tools/run-program", program], stdin=subprocess.PIPE, stdout=subprocess.PIPE, bufsize=0)
+    trouble = []
+
+    def hold():
+        try:
+            while True:
+                block = child.stdout.read(BLOCK)
+                if not block:
+                    return
+                held.write(block)
+        except OSError as e:
+            trouble.append(f"what the program prints cannot be held: {e.strerror}")
+            child.kill()
+
+    keeper = threading.Thread(target=hold, daemon=True)
+    keeper.start()
+    fault = "interrupted"
+    try:
+        fault = feed(fd, name, child.stdin, progress)
+    finally:
+        if fault:
+            child.kill()
+            child.wait()
+    progress.end()
+    child.stdin.close()
+    keeper.join()
+    status = child.wait()
+    if trouble or fault:
+        fail(trouble[0] if trouble else fault)
+    if status != 0:
+        fail(f"the program was ended by signal {-status}" if status < 0 else f"the program ended with status {status}")
+
+
+def main(words):
+    # A standard descriptor that is closed is made a safe one, before something else gets its number.
+    closed = set()
+    for fd in range(3):
+        try:
+            os.fstat(fd)
+        except OSError:
+            closed.add(fd)
+            os.open(os.devnull, os.O_RDWR)
+    if not words:
+        tell(USAGE)
+        sys.exit(2)
+    first, rest = words[0], words[1:]
+    answers = {"--help": USAGE + COMMON, "-h": USAGE + COMMON, "--version": VERSION}
+    if first in COMMANDS:
+        program, text, prints = COMMANDS[first]
+        answers.update({"--help": text + COMMON, "-h": text + COMMON})
+    elif first in answers:
+        rest = words
+    else:
+        wrong(f"unknown word '{first}'; try ./rimeheath --help")
+
+    path, asked = None, False
+    for word in rest:
+        if word in answers:
+            if len(rest) > 1:
+                wrong(f"{word} stands alone")
+        elif word == "--progress":
+            asked = True
+        elif word.startswith("-") or word == "":
+            wrong(f"unknown word '{word}'; try ./rimeheath {first} --help")
+        elif path is not None:
+            wrong(f"a second file, '{word}': {first} reads one recording")
+        else:
+            path = word
+    if 1 in closed:
+        fail("standard output is closed")
+    if rest and rest[0] in answers:
+        put([answers[rest[0]].encode()])
+        return
+
+    fd, name, size = open_recording(path, closed)
+    make_ready(program)
+    with tempfile.SpooledTemporaryFile(IN_MEMORY) as held:
+        run(program, fd, name, Progress(asked, size), held)
+        if prints and held.tell() == 0:
+            sys.exit(1)  # the program has said why
+        held.seek(0)
+        put(iter(lambda: held.read(BLOCK), b""))
+
+
+# Ended from outside, it ends what it started.
+for number in (signal.SIGTERM, signal.SIGHUP):
+    if signal.getsignal(number) == signal.SIG_DFL:
+        signal.signal(number, lambda n, _: sys.exit(128 + n))
+try:
+    main(sys.argv[1:])
+except KeyboardInterrupt:
+    sys.exit(130)
+except OSError as e:
+    fail(f"{e.filename}: {e.strerror}" if e.filename else str(e))
