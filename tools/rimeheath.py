@@ -3,6 +3,7 @@
 import fcntl
 import hashlib
 import os
+import re
 import shutil
 import signal
 import stat
@@ -191,13 +192,19 @@ def changed(path):
         return None
 
 
-# Has rt prove and build the program, and tells each crate that is being proved, in the order in which rt comes to them. rt opens
-# target/log/NAME.out when it comes to a crate, and NAME.say where it has to prove it.
+# Has rt prove and build the program, and tells each crate that is being proved, in the order in which rt comes to them, and how long those
+# took that it has proved since the line before. rt opens target/log/NAME.out when it comes to a crate, and NAME.say where it has to prove
+# it; how long it took stands in what rt says.
 def build(program, crates):
     began = time.monotonic()
     log = f"{ROOT}/target/log"
     old = {c: (changed(f"{log}/{c}.out"), changed(f"{log}/{c}.say")) for c in crates}
-    number, told = {}, set()
+    number, told, timed = {}, set(), set()
+
+    def took():
+        new = [c for c in re.findall(rb"(?m)^rt: (\w+) proved \((\d+) s\)$", os.pread(said.fileno(), 1 << 26, 0)) if c[0] not in timed]
+        timed.update(name for name, _ in new)
+        return "".join(f"; {name.decode()} took {seconds.decode()} s" for name, seconds in new)
 
     def look():
         for c in crates:
@@ -207,7 +214,7 @@ def build(program, crates):
                 if not told:
                     tell(f"rimeheath: the program {program} has to be proved and built first; this takes some minutes\n")
                 told.add(c)
-                tell(f"rimeheath: proving {c} ({number[c]} of {len(crates)}), {time.monotonic() - began:.0f} s so far\n")
+                tell(f"rimeheath: proving {c} ({number[c]} of {len(crates)}), {time.monotonic() - began:.0f} s so far{took()}\n")
 
     with tempfile.TemporaryFile() as said:
         words = ["rt", "check", program]
@@ -224,8 +231,8 @@ def build(program, crates):
             said.seek(0)
             tell("".join(line.decode(errors="replace") for line in said.readlines()[-20:]))
             fail(f"the program {program} could not be built")
-    if told:
-        tell(f"rimeheath: proved and built, {time.monotonic() - began:.0f} s\n")
+        if told:
+            tell(f"rimeheath: proved and built, {time.monotonic() - began:.0f} s{took()}\n")
 
 
 # ---- feeding it
