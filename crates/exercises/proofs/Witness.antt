@@ -1,7 +1,7 @@
 -- A witness that demand 3 speaks of something: document 01's example, in one packet to a fresh receiver, meets every premise, and every number up to 5 is answered. All of it computes.
 -- Assumes nothing.
 use Prim.Native.Nat.{ℕ, zero, suc, _-_, _≤_, _<_}
-use mathlib.Core.Path.{_≡_, refl}
+use mathlib.Core.Path.{_≡_, refl, sym, subst}
 use mathlib.Core.Logic.{_⊎_}
 use mathlib.Core.Bool.{true}
 use mathlib.Core.List.{List, [], _∷_}
@@ -31,7 +31,8 @@ use Rattle.book.specs.Plan as plan
 use Rattle.book.specs.Book as book
 use Rattle.arbitration.specs.Slots as slots
 use Rattle.arbitration.specs.Receive as theory
-use Rattle.arbitration.specs.Lists.{WellFormed, Copies, here, later, by-taken}
+use Rattle.arbitration.specs.Receive.{taken, Said}
+use Rattle.arbitration.specs.Lists.{WellFormed, Copies, Among, here, later, by-taken}
 use Rattle.shelf.specs.Shelf as shelf
 use Rattle.receiver.specs.Receiver as generic
 use Rattle.receiver.specs.Lent as receiver
@@ -96,43 +97,12 @@ sizes-good = refl
 pub example-given : Given receiver.real messages.example (receiver.zeroBook 20 entrySize) start given
 example-given = record { well-formed = all-good; started = fresh-started 20 entrySize shelfSize sizes-good; copies = true-copies }
 
--- every number up to 5 is answered
-pub example-answered : AnsweredTo receiver.real 5 given start
-unfolding messages.numbered messages.systemTime messages.symbolUpdate messages.addOrder messages.example messages.ofExample messages.wholeExample
-    pick both either first cut pieces join putPiece le toLe field padded
-    kinds.table kinds.lookup kinds.lengthOf kinds.kindOf
-    fields.decoded
-    ranges.oneOf ranges.sideOk ranges.priceOk ranges.sizeOk ranges.testOk ranges.marketOk
-    faults.faultFrom faults.faultOf
-    read.framed read.judged read.readBody read.goodBody
-    head.numberOk head.bodyOf head.bodyJudged head.readRecord
-    packet.before packet.behind packet.framesFrom packet.framing
-    keys.sideOf rows.rowOf rows.numbersOf rows.rows rows.putRow rows.zeroRow rows.free rows.live
-    find-row.isOrder find-row.findOrder find-row.heldAt find-row.findFree
-    entries.entries entries.entryOf entries.putEntry entries.used entries.freeEntry
-    find-entry.isSymbol find-entry.findSymbol find-entry.findFreeEntry find-entry.knownSymbol find-entry.placeFor
-    entry-work.entered
-    row-work.moves row-work.remade row-work.reduced row-work.committed
-    plan.ofKnown plan.target plan.upon plan.rowFor plan.updatePlan plan.roomFor plan.addPlan plan.modifyPlan plan.executionPlan plan.planBy
-    book.planned book.carried book.applied
-    slots.sameBytes slots.sameSlot
-    theory.judge theory.goodSlot theory.try theory.drain theory.after theory.run theory.said theory.accepted
-    shelf.slotFrom shelf.bytesOf shelf.slotAt shelf.putSlot
-example-answered zero l h = absurd (omega arith)
-example-answered (suc zero) l h = here refl by-taken
-example-answered (suc (suc zero)) l h = later (here refl by-taken)
-example-answered (suc (suc (suc zero))) l h = later (later (here refl by-taken))
-example-answered (suc (suc (suc (suc zero)))) l h = later (later (later (here refl by-taken)))
-example-answered (suc (suc (suc (suc (suc zero))))) l h = later (later (later (later (here refl by-taken))))
-example-answered (suc (suc (suc (suc (suc (suc n)))))) l h = absurd (omega arith)
+-- the five are taken one after another, and applied
+all-taken : List Said
+all-taken = record { number = 1; answer = taken } ∷ record { number = 2; answer = taken } ∷ record { number = 3; answer = taken } ∷ record { number = 4; answer = taken } ∷ record { number = 5; answer = taken } ∷ []
 
--- so demand 3 says of it what it says
-pub example-demanded : (5 ≤ receiver.receivedAll given start .rx .next - 1) ⊎ Names receiver.real messages.example (receiver.zeroBook 20 entrySize) (receiver.receivedAll given start)
-example-demanded = real-demand messages.example 20 entrySize .second start given example-given 5 example-answered
-
--- and its first side is the one that holds: all five are applied
-pub example-next : receiver.receivedAll given start .rx .next ≡ 6
-unfolding messages.numbered messages.systemTime messages.symbolUpdate messages.addOrder messages.example messages.ofExample messages.wholeExample
+computed : (theory.said (receiver.real .store) receiver.bookEngine (theory.accepted packet.framing given) (start .rx) ≡ all-taken) × (receiver.receivedAll given start .rx .next ≡ 6)
+unfolding all-taken messages.numbered messages.systemTime messages.symbolUpdate messages.addOrder messages.example messages.ofExample messages.wholeExample
     pick both either first cut pieces join putPiece le toLe field padded
     kinds.table kinds.lookup kinds.lengthOf kinds.kindOf
     fields.decoded
@@ -154,4 +124,26 @@ unfolding messages.numbered messages.systemTime messages.symbolUpdate messages.a
     shelf.slotFrom shelf.bytesOf shelf.slotAt shelf.putSlot
     rows.goodRows entries.goodEntries shelf.goodShelf
     generic.receivesAll generic.receives generic.handledBy generic.fit generic.nextOk receiver.sizesOk
-example-next = refl
+computed = (refl, refl)
+
+-- every number up to 5 is answered
+among : (n : ℕ) → 1 ≤ n → n ≤ 5 → Among n all-taken
+unfolding all-taken
+among zero l h = absurd (omega arith)
+among (suc zero) l h = here refl by-taken
+among (suc (suc zero)) l h = later (here refl by-taken)
+among (suc (suc (suc zero))) l h = later (later (here refl by-taken))
+among (suc (suc (suc (suc zero)))) l h = later (later (later (here refl by-taken)))
+among (suc (suc (suc (suc (suc zero))))) l h = later (later (later (later (here refl by-taken))))
+among (suc (suc (suc (suc (suc (suc n)))))) l h = absurd (omega arith)
+
+pub example-answered : AnsweredTo receiver.real 5 given start
+example-answered n l h = subst (Among n) (sym (computed .0)) (among n l h)
+
+-- so demand 3 says of it what it says
+pub example-demanded : (5 ≤ receiver.receivedAll given start .rx .next - 1) ⊎ Names receiver.real messages.example (receiver.zeroBook 20 entrySize) (receiver.receivedAll given start)
+example-demanded = real-demand messages.example 20 entrySize .second start given example-given 5 example-answered
+
+-- and its first side is the one that holds: all five are applied
+pub example-next : receiver.receivedAll given start .rx .next ≡ 6
+example-next = computed .1
