@@ -4,7 +4,8 @@ use fields::Refusal;
 use kinds::Kind;
 ghost use mathlib.Core.Path.{_≡_};
 ghost use Prim.Native.Nat.{_+_};
-ghost use Rattle.facts.specs.Pick.{pick};
+ghost use lib.Dec.{leb};
+ghost use Rattle.facts.specs.Pick.{pick, both};
 ghost use Rattle.wire.specs.Le.{field};
 ghost use Rattle.body.specs.Ranges.{sideOk, priceOk, sizeOk, flagsOk, testOk, marketOk};
 ghost use Rattle.body.specs.Faults.{faultOf};
@@ -40,31 +41,21 @@ pub fn test_ok(x: u8) -> bool
     x == b'Y' || x == b'N'
 }
 
-// One of the eighteen market letters, one comparison after another.
+// Whether x is one of the letters from first to last.
+fn in_range(x: u8, first: u8, last: u8) -> bool
+    ensures { λ r. ⌜ r ≡ both (leb first x) (leb x last) ⌝ }
+{
+    first <= x && x <= last
+}
+
+// The eighteen market letters stand in four ranges of the alphabet, none asked before another.
 pub fn market_ok(x: u8) -> bool
     ensures { λ r. ⌜ r ≡ marketOk x ⌝ }
 {
-    match x {
-        b'A' => true,
-        b'B' => true,
-        b'C' => true,
-        b'H' => true,
-        b'I' => true,
-        b'J' => true,
-        b'K' => true,
-        b'L' => true,
-        b'M' => true,
-        b'N' => true,
-        b'P' => true,
-        b'Q' => true,
-        b'U' => true,
-        b'V' => true,
-        b'W' => true,
-        b'X' => true,
-        b'Y' => true,
-        b'Z' => true,
-        _ => false,
-    }
+    in_range(x, b'A', b'C')
+        | in_range(x, b'H', b'N')
+        | in_range(x, b'P', b'Q')
+        | in_range(x, b'U', b'Z')
 }
 
 // The place of a field whose test fails, else what is found behind it.
