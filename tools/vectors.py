@@ -80,13 +80,13 @@ SCOPE = {
 
 # Document 01's field ranges, by the name of the field in 003, and the messages that have them:
 # "The price and size ranges hold in all eleven messages", the others where document 01 has them.
+# Document 02, No. 2: "the field range for flags is struck out".
 RANGES = {
     "Order Side": ("`B` or `S`", [20]),
     "Price": ("1 to 10^15", [20, 21, 24, 10, 11]),
     "Size": ("1 or more", [20, 21, 24, 10, 11]),
     "Test Security Indicator": ("`Y` or `N`", [1]),
     "Primary Market Code": ("one of A B C H I J K L M N P Q U V W X Y Z", [1]),
-    "Flags": ("bits 1-7 zero", [21]),
 }
 
 # "Order: 6, 1, then records from the front, each by 2, 5, 3, 4." No packet causes 6.
@@ -211,8 +211,8 @@ def little(part):
     return int.from_bytes(part, "little")
 
 
-def in_range(kind, field, value):
-    """Document 01's field ranges. A field that it does not name is always in range."""
+def in_range(field, value):
+    """Document 01's field ranges, without that of the flags. What has none is always in range."""
     if field == "price":
         return 1 <= value <= LARGEST_PRICE
     if field == "size":
@@ -223,8 +223,6 @@ def in_range(kind, field, value):
         return value in b"YN"
     if field == "market":
         return value in MARKETS
-    if field == "flags" and kind == 21:
-        return value <= 1
     return True
 
 
@@ -241,7 +239,7 @@ def read_body(body):
         part = body[first:last + 1]
         values[field] = part if printed == BYTES else little(part)
     for field, value in values.items():
-        if not in_range(kind, field, value):
+        if not in_range(field, value):
             raise Refused(4)
     return kind, values
 
@@ -319,7 +317,7 @@ LAYOUT = {
 KINDS = list(LAYOUT)
 UNPRINTED = {(UPDATE, "nanoseconds"), (UPDATE, "reserved20"), (UPDATE, "test"),
              (UPDATE, "reserved22")}
-JUDGED = {(UPDATE, "test"), (UPDATE, "market"), (ADD, "side"), (MODIFY, "flags")} | {
+JUDGED = {(UPDATE, "test"), (UPDATE, "market"), (ADD, "side")} | {
     (kind, field) for kind in (ADD, MODIFY, EXECUTION, TRADE, CANCEL)
     for field in ("price", "size")}
 
@@ -413,8 +411,6 @@ class Dice:
                 changes[field] = self.pick(b"YN")
             elif field == "market":
                 changes[field] = self.pick(b"ABCHIJKLMNPQUVWXYZ")
-            elif field == "flags" and kind == MODIFY:
-                changes[field] = self.below(2)
             elif isinstance(usual, bytes):
                 changes[field] = self.text(width)
             else:
@@ -580,7 +576,7 @@ def add_long_packets(vectors):
         ("price 0", record(1, compose(ADD, price=0))),
         ("size 0", record(1, compose(EXECUTION, size=0))),
         ("side X", record(1, compose(ADD, side=ord("X")))),
-        ("flags 255", record(1, compose(MODIFY, flags=255))),
+        ("test indicator X", record(1, compose(UPDATE, test=ord("X")))),
     ]
     for label, fault in faults:
         behind = (good * 100)[:1501 - len(fault)]
@@ -658,8 +654,6 @@ def add_judged_fields(vectors):
         for byte in range(256):
             vectors.judge("type %d, %s byte %d" % (kind, field, byte),
                           chr(byte) in good_letters[field], 1, kind, {field: byte})
-    for byte in range(256):
-        vectors.judge("type 21, flags %d" % byte, byte in (0, 1), 1, MODIFY, {"flags": byte})
 
 
 def add_fields_not_judged(vectors):
@@ -676,9 +670,14 @@ def add_fields_not_judged(vectors):
     vectors.good("a whole second of nanoseconds", *[
         (number, kind, {"nanoseconds": 10**9})
         for number, kind in enumerate(KINDS, 1) if kind != TIME])
-    for byte in (2, 4, 8, 128):
-        vectors.good("flags %d in Execution and Trade" % byte,
-                     (1, EXECUTION, {"flags": byte}), (2, TRADE, {"flags": byte}))
+    for byte in range(256):
+        flags = {"flags": byte}
+        vectors.good("flags %d in Modify, Execution and Trade" % byte,
+                     (1, MODIFY, flags), (2, EXECUTION, flags), (3, TRADE, flags))
+    vectors.good("a Modify with bit 3 between good records",
+                 (5, CLEAR), (6, MODIFY, {"flags": 8}), (7, DELETE))
+    vectors.good("two copies of a Modify that differ in bit 5 alone",
+                 (6, MODIFY, {"flags": 1}), (6, MODIFY, {"flags": 33}))
     vectors.good("byte 20 of a Symbol Update is no type here",
                  *[(1, UPDATE, {"reserved20": byte}) for byte in b"EFG "])
     vectors.good("tickers", *[(1, UPDATE, {"ticker": ticker}) for ticker in (
@@ -739,7 +738,7 @@ def add_several_faults(vectors):
                 record(1, compose(ADD, side=ord("X"), price=0, size=0)))
     vectors.bad("4 with 4: bad test and bad market", 4,
                 record(1, compose(UPDATE, test=0, market=0)))
-    vectors.bad("4 with 4: price 0, size 0, flags 255 in a Modify", 4,
+    vectors.bad("4 with 4: price 0 and size 0 in a Modify with flags 255", 4,
                 record(1, compose(MODIFY, price=0, size=0, flags=255)))
     vectors.bad("4: price 0 in an Execution with flags 255", 4,
                 record(1, compose(EXECUTION, price=0, flags=255)))
@@ -966,8 +965,7 @@ def wanted_tables():
                 ["price", price, messages["Price"]],
                 ["size", "1 to 4,294,967,295 (the most that 4 bytes hold)", "the same five"],
                 ["test indicator", "`Y` (89) or `N` (78)", messages["Test Security Indicator"]],
-                ["market", RANGES["Primary Market Code"][0], messages["Primary Market Code"]],
-                ["flags of Modify", "0 or 1: bits 1 to 7 are zero", messages["Flags"]]])],
+                ["market", RANGES["Primary Market Code"][0], messages["Primary Market Code"]]])],
     }
     for kind, (section, name, _) in PRINTED.items():
         rows = []

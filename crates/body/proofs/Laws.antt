@@ -21,7 +21,7 @@ use Rattle.kinds.proofs.Laws.{Lengths, lengths, no-length}
 use Rattle.fields.specs.Fields.{statusOf, clearOf, addOf, modifyOf, deleteOf, executionOf, tradeOf, cancelOf, refusal, decoded, bodyNumber}
 use Rattle.fields.specs.Messages.{systemTime, symbolUpdate}
 use Rattle.fields.specs.declared.Body.{Body}
-use Rattle.body.specs.Ranges.{oneOf, sideOk, priceOk, sizeOk, flagsOk, testOk, marketOk}
+use Rattle.body.specs.Ranges.{oneOf, sideOk, priceOk, sizeOk, testOk, marketOk}
 use Rattle.body.specs.Faults.{Tests, tests, faultFrom, faultOf}
 use Rattle.body.specs.Read.{framed, judged, readBody, goodBody}
 
@@ -72,7 +72,7 @@ Sound Body.SystemState b = Framed Kind.SystemState b
 Sound (Body.TradingStatus m) b = Framed Kind.TradingStatus b × (m ≡ statusOf b)
 Sound (Body.SymbolClear m) b = Framed Kind.SymbolClear b × (m ≡ clearOf b)
 Sound (Body.Add m) b = Framed Kind.Add b × (m ≡ addOf b) × (sideOk (m .side) ≡ true) × Deal (m .price) (m .size)
-Sound (Body.Modify m) b = Framed Kind.Modify b × (m ≡ modifyOf b) × Deal (m .price) (m .size) × (flagsOk (m .flags) ≡ true)
+Sound (Body.Modify m) b = Framed Kind.Modify b × (m ≡ modifyOf b) × Deal (m .price) (m .size)
 Sound (Body.Delete m) b = Framed Kind.Delete b × (m ≡ deleteOf b)
 Sound (Body.Execution m) b = Framed Kind.Execution b × (m ≡ executionOf b) × Deal (m .price) (m .size)
 Sound (Body.Trade m) b = Framed Kind.Trade b × (m ≡ tradeOf b) × Deal (m .price) (m .size)
@@ -92,7 +92,7 @@ decoded-sound Kind.SystemState b w h = w
 decoded-sound Kind.TradingStatus b w h = (w, refl)
 decoded-sound Kind.SymbolClear b w h = (w, refl)
 decoded-sound Kind.Add b w h = (w, refl, h .1 .1 .1 .0, deal (addOf b .price) (addOf b .size) (h .1 .1 .1 .1 .0) (h .1 .1 .1 .1 .1 .0))
-decoded-sound Kind.Modify b w h = (w, refl, deal (modifyOf b .price) (modifyOf b .size) (h .1 .1 .1 .0) (h .1 .1 .1 .1 .0), h .1 .1 .1 .1 .1 .0)
+decoded-sound Kind.Modify b w h = (w, refl, deal (modifyOf b .price) (modifyOf b .size) (h .1 .1 .1 .0) (h .1 .1 .1 .1 .0))
 decoded-sound Kind.Delete b w h = (w, refl)
 decoded-sound Kind.Execution b w h = (w, refl, deal (executionOf b .price) (executionOf b .size) (h .1 .1 .1 .1 .0) (h .1 .1 .1 .1 .1 .0))
 decoded-sound Kind.Trade b w h = (w, refl, deal (tradeOf b .price) (tradeOf b .size) (h .1 .1 .1 .1 .0) (h .1 .1 .1 .1 .1 .0))

@@ -6,7 +6,7 @@ use Rattle.facts.specs.Pick.{pick}
 use Rattle.kinds.specs.declared.Kind.{Kind}
 use Rattle.layout.specs.Shape.{Shape, width, Value, Values}
 use Rattle.layout.specs.Layout.{shapes, fieldsIn}
-use Rattle.body.specs.Ranges.{sideOk, priceOk, sizeOk, flagsOk, testOk, marketOk}
+use Rattle.body.specs.Ranges.{sideOk, priceOk, sizeOk, testOk, marketOk}
 
 -- a test for each field of a run
 abbrev pub Tests : List Shape → Type 0
@@ -25,7 +25,7 @@ tests Kind.SystemState = (any, (any, (any, (any, tt))))
 tests Kind.TradingStatus = (any, (any, (any, (any, (any, tt)))))
 tests Kind.SymbolClear = (any, (any, tt))
 tests Kind.Add = (any, (any, (any, (sideOk, (priceOk, (sizeOk, (any, tt)))))))
-tests Kind.Modify = (any, (any, (any, (priceOk, (sizeOk, (flagsOk, tt))))))
+tests Kind.Modify = (any, (any, (any, (priceOk, (sizeOk, (any, tt))))))
 tests Kind.Delete = (any, (any, (any, tt)))
 tests Kind.Execution = (any, (any, (any, (any, (priceOk, (sizeOk, (any, tt)))))))
 tests Kind.Trade = (any, (any, (any, (any, (priceOk, (sizeOk, (any, tt)))))))

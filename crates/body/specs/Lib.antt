@@ -1,3 +1,4 @@
 pub mod Ranges
 pub mod Faults
 pub mod Read
+pub mod Undefined

@@ -1,8 +1,8 @@
--- The field ranges of document 01, "Message bodies": "Field ranges: ..".
+-- The field ranges of document 01, "Message bodies": "Field ranges: ..". "The field range for flags is struck out" (request 2).
 use Prim.Native.Nat.{ℕ}
 use mathlib.Core.Bool.{Bool, false}
 use mathlib.Core.List.{List, [], _∷_}
-use lib.Dec.{eqb, leb, ltb}
+use lib.Dec.{eqb, leb}
 use Rattle.facts.specs.Limits.{mostPrice}
 use Rattle.facts.specs.Pick.{both, either}
 
@@ -31,7 +31,3 @@ testOk x = oneOf x (89 ∷ 78 ∷ [])
 unfoldable pub marketOk : ℕ → Bool
 marketOk x =
     oneOf x (65 ∷ 66 ∷ 67 ∷ 72 ∷ 73 ∷ 74 ∷ 75 ∷ 76 ∷ 77 ∷ 78 ∷ 80 ∷ 81 ∷ 85 ∷ 86 ∷ 87 ∷ 88 ∷ 89 ∷ 90 ∷ [])
-
--- "in flags, bit 0 tells the position and bits 1 to 7 are zero"
-unfoldable pub flagsOk : ℕ → Bool
-flagsOk x = ltb x 2

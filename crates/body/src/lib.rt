@@ -7,7 +7,7 @@ ghost use Prim.Native.Nat.{_+_};
 ghost use lib.Dec.{leb};
 ghost use Rattle.facts.specs.Pick.{pick, both};
 ghost use Rattle.wire.specs.Le.{field};
-ghost use Rattle.body.specs.Ranges.{sideOk, priceOk, sizeOk, flagsOk, testOk, marketOk};
+ghost use Rattle.body.specs.Ranges.{sideOk, priceOk, sizeOk, testOk, marketOk};
 ghost use Rattle.body.specs.Faults.{faultOf};
 ghost use Rattle.body.specs.Read.{readBody};
 
@@ -27,12 +27,6 @@ pub fn size_ok(n: u32) -> bool
     ensures { λ r. ⌜ r ≡ sizeOk n ⌝ }
 {
     1 <= n
-}
-
-pub fn flags_ok(x: u8) -> bool
-    ensures { λ r. ⌜ r ≡ flagsOk x ⌝ }
-{
-    x < 2
 }
 
 pub fn test_ok(x: u8) -> bool
@@ -91,7 +85,7 @@ fn add_fault(b: &[u8]) -> usize
 fn modify_fault(b: &[u8]) -> usize
     ensures { λ r. ⌜ r ≡ faultOf Kind.Modify (now (b .entry)) ⌝ }
 {
-    deal_fault(b, 17, fault_at(flags_ok(wire::u8_at(b, 29)), 29, 0))
+    deal_fault(b, 17, 0)
 }
 
 fn execution_fault(b: &[u8]) -> usize

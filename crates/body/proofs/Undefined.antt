@@ -1,0 +1,94 @@
+-- Flags are not judged: a good Modify with any other flags is a good Modify, whose other fields are as they were. All of them lie before byte 29.
+-- Assumes nothing.
+use Prim.Native.Nat.{ℕ, _+_, _≤_, _<_}
+use mathlib.Core.Path.{_≡_, refl, sym, ap, _∙_}
+use mathlib.Core.Bool.{Bool, true, false}
+use mathlib.Core.List.{List}
+use mathlib.Core.Logic.{_≢_}
+use native.Mathlib.Omega.{arith}
+use lib.ListN.{length, getD, length-set}
+use lib.Seq.{getD-set-same, getD-set-other}
+use lib.Dec.{eqb}
+use borrow.Author.Tests.{eq-eqb, lt-ltb}
+use Rattle.facts.specs.Pick.{pick, both}
+use Rattle.wire.specs.Le.{field}
+use Rattle.wire.proofs.Laws.{field-same}
+use Rattle.kinds.specs.Table.{typeOf, lengthOf, kindLength}
+use Rattle.kinds.specs.declared.Kind.{Kind}
+use Rattle.kinds.proofs.Laws.{type-kind}
+use Rattle.layout.proofs.Laws.{tiles}
+use Rattle.fields.specs.Fields.{modifyOf, refusal, decoded}
+use Rattle.fields.specs.declared.ModifyOrder.{ModifyOrder}
+use Rattle.fields.specs.declared.Body.{Body}
+use Rattle.body.specs.Ranges.{priceOk, sizeOk}
+use Rattle.body.specs.Faults.{faultFrom, faultOf}
+use Rattle.body.specs.Read.{framed, judged, readBody}
+use Rattle.body.specs.Undefined.{flagged, withFlags, OnlyBits}
+use Rattle.body.proofs.Laws.{Framed, Sound, read-sound}
+
+-- a framed body is judged as one of its kind
+read-framed : (k : Kind) (b : List ℕ) → Framed k b → readBody b ≡ judged k b
+unfolding readBody framed pick both kindLength
+read-framed k b w = rw (lt-ltb 0 (length b) (w .some), w .type-is, eq-eqb (length b) (lengthOf (typeOf k)) (w .length-is), type-kind k)
+
+-- a Modify reaches to its flags
+modify-long : (b : List ℕ) → Framed Kind.Modify b → 29 < length b
+modify-long b w = omega (arith, w .length-is, tiles Kind.Modify (rw (w .length-is) at (w .some)))
+
+module _ (b : List ℕ) (x : ℕ) where
+  -- a field before the flags
+  before : (at w : ℕ) → at + w ≤ 29 → field (flagged b x) at w ≡ field b at w
+  before at w l = field-same (flagged b x) b at w (λ k h m. getD-set-other b 29 k x 0 (λ e. omega arith))
+
+  flagged-framed : Framed Kind.Modify b → Framed Kind.Modify (flagged b x)
+  flagged-framed w =
+      let n : length (flagged b x) ≡ length b = length-set b 29 x in
+      record {
+        type-is = getD-set-other b 29 0 x 0 (λ e. omega arith) ∙ w .type-is;
+        length-is = n ∙ w .length-is;
+        some = rw n (w .some);
+        most = rw n (w .most);
+      }
+
+  fault-kept : faultOf Kind.Modify (flagged b x) ≡ faultOf Kind.Modify b
+  unfolding faultOf faultFrom pick
+  fault-kept i = pick (priceOk (before 17 8 (omega arith) i)) (pick (sizeOk (before 25 4 (omega arith) i)) 0 25) 17
+
+  fields-kept : 29 < length b → modifyOf (flagged b x) ≡ withFlags (modifyOf b) x
+  fields-kept l i =
+      record {
+        nanos = before 1 4 (omega arith) i;
+        symbol = before 5 4 (omega arith) i;
+        order = before 9 8 (omega arith) i;
+        price = before 17 8 (omega arith) i;
+        size = before 25 4 (omega arith) i;
+        flags = getD-set-same b 29 x 0 l i;
+      }
+
+  -- "They are ignored from now on [..] and the field range for flags is struck out"
+  pub any-flags : (m : ModifyOrder) → readBody b ≡ Body.Modify m → readBody (flagged b x) ≡ Body.Modify (withFlags m x)
+  unfolding judged decoded pick
+  any-flags m h = go (eqb (faultOf Kind.Modify b) 0) refl
+    where
+      w : Sound (Body.Modify m) b
+      w = rw h at (read-sound b)
+
+      go : (t : Bool) → eqb (faultOf Kind.Modify b) 0 ≡ t → readBody (flagged b x) ≡ Body.Modify (withFlags m x)
+      go true e = read-framed Kind.Modify (flagged b x) (flagged-framed (w .0)) ∙ rw (fault-kept, e, fields-kept (modify-long b (w .0)), w .1) refl
+      go false e =
+          let q : Body.Refused (refusal 4) ≡ Body.Modify m = sym (rw e at (read-framed Kind.Modify b (w .0))) ∙ h in
+          cc
+
+-- ---- two that differ in undefined bits alone
+module _ (b c : List ℕ) (o : OnlyBits b c) where
+  -- the second is good too
+  pub bits-read : readBody c ≡ Body.Modify (withFlags (o .modify) (o .flags))
+  bits-read = ap readBody (o .second) ∙ any-flags b (o .flags) (o .modify) (o .first)
+
+  -- and they are not the same bytes
+  pub bits-apart : getD b 29 0 ≢ getD c 29 0
+  bits-apart e =
+      let w : Sound (Body.Modify (o .modify)) b = rw (o .first) at (read-sound b) in
+      let old : o .modify .flags ≡ getD b 29 0 = ap (λ (m : ModifyOrder). m .flags) (w .1) in
+      let new : getD c 29 0 ≡ o .flags = ap (λ (l : List ℕ). getD l 29 0) (o .second) ∙ getD-set-same b 29 (o .flags) 0 (modify-long b (w .0)) in
+      o .differ (sym (old ∙ e ∙ new))
