@@ -2,6 +2,7 @@ pub mod Window
 pub mod SlotLaws
 pub mod Turns
 pub mod Answers
+pub mod Copies
 pub mod Tallies
 pub mod Invariant
 pub mod Settled

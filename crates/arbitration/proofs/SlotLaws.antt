@@ -23,7 +23,7 @@ pub empty-fits : Fits emptySlot
 empty-fits = record { number-fits = omega arith; len-fits = omega arith; bytes-64 = refl }
 
 pub slotFor-fits : (n : ℕ) (b : List ℕ) → n < 2 ^ 64 → length b ≤ 64 → Fits (slotFor n b)
-slotFor-fits n b h l = record { number-fits = h; len-fits = omega arith; bytes-64 = length-padded b 0 64 }
+slotFor-fits n b h l = record { number-fits = h; len-fits = omega arith; bytes-64 = length-padded _ 0 64 }
 
 -- the body comes back
 pub body-back : (n : ℕ) (b : List ℕ) → length b ≤ 64 → slotBody (slotFor n b) ≡ b
@@ -56,6 +56,10 @@ same-number s t e = eqb-true _ _ (both-true e .0)
 pub same-refl : (s : Slot) → sameSlot s s ≡ true
 unfolding sameSlot both
 same-refl s = rw (eq-eqb (s .number) (s .number) refl, eq-eqb (s .len) (s .len) refl) (same-bytes-refl (s .bytes))
+
+pub slots-differ : (s t : Slot) → sameBytes (s .bytes) (t .bytes) ≡ false → sameSlot s t ≡ false
+unfolding sameSlot
+slots-differ s t e = rw (e, both-none (eqb (s .len) (t .len)), both-none (eqb (s .number) (t .number)))
 
 -- ---- slot j after a put into slot i: the new slot, or the old one
 module _ (S : Store) (L : StoreLaws S) where

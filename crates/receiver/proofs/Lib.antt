@@ -6,3 +6,4 @@ pub mod Fits
 pub mod Demand
 pub mod Real
 pub mod Runs
+pub mod Undefined
