@@ -1,6 +1,6 @@
 -- The loop keeps: the bytes below k agree. One that differs decides, and 64 that agree are the same list.
 -- Assumes nothing.
-use mathlib.Core.Path.{_≡_, _∙_, sym}
+use mathlib.Core.Path.{_≡_}
 use Prim.Native.Nat.{ℕ, _≤_, _<_, _+_, _-_}
 use native.Mathlib.Omega.{arith}
 use lib.ListN.{getD}
@@ -33,7 +33,7 @@ returns c =
     let a = c .before .before .before .before .before .before .before .args in
     let l = c .before .before .before .before .loop in
     one-differs (a .x .now) (a .body .now) (l .k) (omega arith)
-    (λ e. c .if1 .taken (c .before .before .u8-at .ensures ∙ e ∙ sym (c .before .u8-at2 .ensures)))
+    (λ e. c .if1 .taken (omega (arith, c .before .before .u8-at .ensures, e, c .before .u8-at2 .ensures)))
 
 add-k : tie.Need-add-k Inv-loop μ-loop
 add-k c = search needs
@@ -47,7 +47,7 @@ loop-again c =
     let l = c .before .before .before .before .loop in (
       omega arith,
       below-more (λ (j : ℕ). getD (a .x .now) (10 + j) 0 ≡ getD (a .body .now) j 0) (l .k) (l .inv .1)
-          (sym (c .before .before .u8-at .ensures) ∙ c .if1 .left ∙ c .before .u8-at2 .ensures),
+          (omega (arith, c .before .before .u8-at .ensures, c .if1 .left, c .before .u8-at2 .ensures)),
     )
 
 returns-2 : tie.Need-returns-2 Inv-loop μ-loop
