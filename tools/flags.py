@@ -1,0 +1,131 @@
+"""The morning of every flag byte: a recording, and what a right receiver makes of it.
+
+    python3 tools/flags.py recording   its packets, each behind a 2-byte little-endian length
+    python3 tools/flags.py answers     the lines that `./rimeheath answers` must print for it
+    python3 tools/flags.py sheet       its sheet
+
+Document 02, No. 2: bits 1 to 7 of a Modify's flags "are ignored from now on, kept on the shelf as
+they came", and "Two copies that differ only in those bits are still differing copies (14)". Both
+texts are stated from the documents' words; no message is applied here. Every run gives the same
+bytes. They are examples/flags.rec, examples/flags.answers and examples/flags.sheet.
+"""
+
+import sys
+
+sys.dont_write_bytecode = True
+from vectors import ADD, EXAMPLE, MODIFY, compose, record  # noqa: E402
+
+PRICE = 10000000
+FIRST_ORDER = 1000
+FIRST_ADD = 3  # behind the second and the symbol
+FIRST_MODIFY = FIRST_ADD + 256
+BEHIND = FIRST_MODIFY + 256  # the first number behind a Modify with each flag byte
+A_PACKET = 32
+
+# What document 01 calls the answers: taken (10), old (11), too far (12), repeated (13), differing
+# (14), as many of each as a packet's records got.
+ONE_TAKEN, ONE_OLD = (1, 0, 0, 0, 0), (0, 1, 0, 0, 0)
+ONE_REPEATED, ONE_DIFFERING = (0, 0, 0, 1, 0), (0, 0, 0, 0, 1)
+
+
+def modify(number, order, size, flags):
+    return record(number, compose(MODIFY, nanoseconds=0, order=order, price=PRICE, size=size,
+                                  flags=flags))
+
+
+def add(number, order):
+    return record(number, compose(ADD, nanoseconds=0, order=order, price=PRICE, size=100))
+
+
+def told(counts, next_number, applied, highest):
+    """The line of a packet's answer; nothing stops in this morning."""
+    return " ".join(str(n) for n in (*counts, next_number, applied, highest, 0))
+
+
+def in_order(first, records):
+    """Packets of 32 records from next on: all are taken and applied."""
+    for at in range(0, len(records), A_PACKET):
+        part = records[at:at + A_PACKET]
+        taken = len(part)
+        yield b"".join(part), told((taken, 0, 0, 0, 0), first + at + taken, taken, 0)
+
+
+def copies():
+    """Copies of two Modifies on the shelf that differ in bit 5 or in bit 1 alone."""
+    gap, ahead = BEHIND, BEHIND + 1
+    plain = modify(ahead, FIRST_ORDER, 60, 0)
+    other = modify(ahead, FIRST_ORDER, 60, 32)
+    yield plain, told(ONE_TAKEN, gap, 0, ahead)
+    yield other, told(ONE_DIFFERING, gap, 0, ahead)
+    yield plain, told(ONE_REPEATED, gap, 0, ahead)
+    yield modify(gap, FIRST_ORDER + 1, 60, 8), told(ONE_TAKEN, gap + 2, 2, 0)
+    yield other, told(ONE_OLD, gap + 2, 0, 0)
+    gap, ahead = gap + 2, ahead + 2
+    first = modify(ahead, FIRST_ORDER + 2, 60, 6)
+    second = modify(ahead, FIRST_ORDER + 2, 60, 4)
+    yield first + second + first, told((1, 0, 0, 1, 1), gap, 0, ahead)
+    yield modify(gap, FIRST_ORDER + 3, 60, 255), told(ONE_TAKEN, gap + 2, 2, 0)
+
+
+def packets():
+    """Each packet, and the line of its answer."""
+    symbol = [record(number, compose(kind, **changes)) for number, kind, changes in EXAMPLE[:2]]
+    yield from in_order(1, symbol)
+    yield from in_order(FIRST_ADD, [add(FIRST_ADD + f, FIRST_ORDER + f) for f in range(256)])
+    yield from in_order(FIRST_MODIFY, [
+        modify(FIRST_MODIFY + f, FIRST_ORDER + f, 80, f) for f in range(256)])
+    yield from copies()
+
+
+def rank(flags):
+    """Of the order whose Modify had these flags. "Flag bit 0 set: rank becomes this sequence
+    number. Clear: the rank stays, whatever changed." The last Modify had every bit set."""
+    if flags == 3:
+        return BEHIND + 2
+    return FIRST_MODIFY + flags if flags % 2 == 1 else FIRST_ADD + flags
+
+
+def size(flags):
+    """Four orders were modified once more."""
+    return 60 if flags < 4 else 80
+
+
+LEVEL = "bid=%d %d %d" % (PRICE, sum(size(f) for f in range(256)), 256)
+ENTRY = compose(EXAMPLE[1][1], **EXAMPLE[1][2])
+
+
+def answers():
+    yield from (line for _, line in packets())
+    yield "second 34200"
+    for f in range(256):
+        yield "row %d %d %d %d %d %d" % (f, FIRST_ORDER + f, 2 * 7, PRICE, size(f), rank(f))
+    yield "entry 0 " + " ".join(str(byte) for byte in ENTRY)
+    yield "symbol 7 1 0 none"
+    yield LEVEL.replace("=", " ")
+
+
+def sheet():
+    yield from ("recording=whole", "bad=0", "next=%d" % (BEHIND + 4), "stop=0", "second=34200",
+                "symbols=1", "orders=256", "symbol=7", "ticker=ABC", "lot=100", "spread=none", LEVEL)
+
+
+def text(lines):
+    return "".join(line + "\n" for line in lines).encode("ascii")
+
+
+def main(arguments):
+    if arguments == ["recording"]:
+        out = b"".join(len(packet).to_bytes(2, "little") + packet for packet, _ in packets())
+    elif arguments == ["answers"]:
+        out = text(answers())
+    elif arguments == ["sheet"]:
+        out = text(sheet())
+    else:
+        print(__doc__, file=sys.stderr)
+        return 2
+    sys.stdout.buffer.write(out)
+    return 0
+
+
+if __name__ == "__main__":
+    sys.exit(main(sys.argv[1:]))
