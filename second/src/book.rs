@@ -124,7 +124,7 @@ pub fn apply(
             row[RANK] = number;
         }
         // "Price and size are replaced. Flag bit 0 set: rank becomes this sequence number. Clear:
-        // the rank stays, whatever changed."
+        // the rank stays, whatever changed." Bits 1 to 7 "are ignored" (request 2).
         Message::ModifyOrder {
             order,
             price,

@@ -82,6 +82,7 @@ pub enum Message {
         order: u64,
         price: u64,
         size: u32,
+        /// All eight bits as they came, although bits 1 to 7 are ignored (request 2).
         flags: u8,
     },
     DeleteOrder {
@@ -416,17 +417,17 @@ pub fn read_body(body: &[u8]) -> Result<Message, u8> {
         MODIFY_ORDER => {
             let price = u64_at(body, 17);
             let size = u32_at(body, 25);
-            let flags = body[29];
             check_price_and_size(price, size)?;
-            // "in flags, bit 0 tells the position and bits 1 to 7 are zero"
-            check(flags == 0 || flags == 1)?;
+            // Request 2: "The specification calls bits 1 to 7 undefined. Document 01 was wrong to
+            // want zeros. They are ignored from now on, kept on the shelf as they came, and the
+            // field range for flags is struck out."
             Ok(Message::ModifyOrder {
                 nanoseconds: u32_at(body, 1),
                 symbol: u32_at(body, 5),
                 order: u64_at(body, 9),
                 price,
                 size,
-                flags,
+                flags: body[29],
             })
         }
         DELETE_ORDER => Ok(Message::DeleteOrder {

@@ -177,7 +177,9 @@ fn work_record(
         return Worked::TooFar;
     }
     // "A slot that holds n with the same length and the same 64 padded bytes is a repeat (13);
-    // any other occupied slot is a differing copy (14), and the first stays."
+    // any other occupied slot is a differing copy (14), and the first stays." Request 2, of the
+    // undefined bits in a Modify's flags: "Two copies that differ only in those bits are still
+    // differing copies (14)."
     let wanted = filled_slot(record.number, record.body);
     let slot = slot_mut(shelf, record.number);
     if slot_number(slot) != 0 {

@@ -110,7 +110,6 @@ fn spoil_fields(dice: &mut Dice, body: &mut Vec<u8>) {
         let at = price_offset(body[0]).unwrap_or(0);
         match (dice.below(3), body[0]) {
             (0, ADD_ORDER) => body[17] = dice.pick(b"bsXACRT\0 "),
-            (0, MODIFY_ORDER) => body[29] = dice.between(2, 255) as u8,
             (1, _) => body[at + 8..at + 12].fill(0),
             _ => {
                 let price = dice.pick(&[0, HIGHEST_PRICE + 1, 1 << 50, 1 << 63, u64::MAX]);
