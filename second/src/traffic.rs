@@ -122,7 +122,7 @@ impl Traffic {
         let (symbol, side) = (self.live[place].symbol, self.live[place].side);
         let price = self.price(symbol, side);
         let nanoseconds = self.nanoseconds();
-        let flags = self.dice.below(2) as u8;
+        let flags = self.dice.bits() as u8;
         let order = &mut self.live[place];
         order.price = price;
         modify_order(nanoseconds, symbol, order.id, price, order.size, flags)
@@ -181,8 +181,24 @@ pub fn in_packets(records: &[(u64, Vec<u8>)], most: usize) -> Vec<Vec<u8>> {
 mod tests {
     use super::*;
     use crate::desk::Desk;
+    use crate::packet::MODIFY_ORDER;
     use crate::tables::MOST_ROWS;
     use crate::views::live_orders;
+
+    /// Busy hours have Modifies with every flag byte, since none of their bits is judged (request 2).
+    #[test]
+    fn traffic_has_every_flag_byte() {
+        let mut traffic = Traffic::new(1, 100);
+        traffic.opening();
+        let mut seen = [0; 256];
+        for _ in 0..20_000 {
+            let (_, body) = traffic.message();
+            if body[0] == MODIFY_ORDER {
+                seen[usize::from(body[FLAGS_OF_MODIFY])] += 1;
+            }
+        }
+        assert!(seen.iter().all(|count| *count > 0), "{seen:?}");
+    }
 
     /// Nothing stops, and about as many orders stay live as wanted, also in full tables.
     #[test]

@@ -4,7 +4,7 @@ mod common;
 use common::*;
 use second::examples::*;
 use second::morning::*;
-use second::packet::{read_packet, LAST_NUMBER};
+use second::packet::{read_packet, LAST_NUMBER, MODIFY_ORDER};
 use second::sheet::*;
 
 fn sheet_text(recording: &[u8]) -> String {
@@ -203,6 +203,8 @@ fn the_long_recording_shows_everything() {
     kinds.sort();
     kinds.dedup();
     assert_eq!(kinds.len(), 11);
+    let undefined = |body: &&Vec<u8>| body[0] == MODIFY_ORDER && body[FLAGS_OF_MODIFY] > 1;
+    assert!(list.iter().filter(undefined).count() > 100);
 
     let mut desk = Desk::full();
     // The same records one to a packet, so that each record's answer is seen.
@@ -210,6 +212,7 @@ fn the_long_recording_shows_everything() {
     let mut answers = [0; 5];
     let mut refused = [0; 7];
     let mut waited = 0;
+    let mut by_undefined_bits = 0;
     for packet in long_packets() {
         match desk.give(&packet) {
             Err(number) => refused[number as usize] += 1,
@@ -219,6 +222,7 @@ fn the_long_recording_shows_everything() {
                     // Whatever is no copy of the list's is told apart (14), so the book is the list's.
                     let own = &list[one.number as usize - 1];
                     assert_eq!(alone.differing == 1, own != one.body);
+                    by_undefined_bits += u64::from(differ_in_undefined_bits_alone(own, one.body));
                 }
                 assert_eq!(shadow, desk);
                 for (sum, count) in answers.iter_mut().zip(answer.counts()) {
@@ -232,6 +236,7 @@ fn the_long_recording_shows_everything() {
     assert!(answers.iter().all(|count| *count > 10), "{answers:?}");
     assert!(refused[1..=5].iter().all(|count| *count > 3), "{refused:?}");
     assert!(waited > 50);
+    assert!(by_undefined_bits > 0);
     assert_eq!((state.stop, state.next), (24, list.len() as u64 - 20));
 
     let text = sheet_text(&long_recording());

@@ -339,7 +339,7 @@ impl ListMaker {
                     0 => row[SIZE] as u32,
                     _ => self.size(),
                 };
-                let flags = self.dice.below(2) as u8;
+                let flags = self.dice.bits() as u8;
                 modify_order(nanoseconds, symbol, order, price, size, flags)
             }
             DELETE_ORDER => delete_order(nanoseconds, symbol, order),

@@ -223,6 +223,24 @@ pub fn size_offset(kind: u8) -> Option<usize> {
     price_offset(kind).map(|at| at + 8)
 }
 
+/// Where a Modify has its flags.
+pub const FLAGS_OF_MODIFY: usize = 29;
+
+/// Whether two bodies, as they are or padded, are Modifies that differ in undefined bits of their flags
+/// alone, which request 2 calls differing copies still.
+pub fn differ_in_undefined_bits_alone(one: &[u8], other: &[u8]) -> bool {
+    one.first() == Some(&MODIFY_ORDER) && one != other && defined(one) == defined(other)
+}
+
+/// The bytes of a Modify with the undefined bits of its flags, 1 to 7, put to 0.
+fn defined(modify: &[u8]) -> Vec<u8> {
+    let mut bytes = modify.to_vec();
+    if let Some(flags) = bytes.get_mut(FLAGS_OF_MODIFY) {
+        *flags &= 1;
+    }
+    bytes
+}
+
 /// What a message tells, for those fields that its type has.
 #[derive(Clone, Copy, Debug)]
 pub struct Told {
@@ -249,7 +267,7 @@ pub fn body_telling(dice: &mut Dice, kind: u8, told: Told) -> Vec<u8> {
         TRADING_STATUS => trading_status(nanoseconds, symbol, &[2, 3, b'N']),
         SYMBOL_CLEAR => symbol_clear(nanoseconds, symbol),
         ADD_ORDER => add_order(nanoseconds, symbol, order, dice.pick(b"BS"), price, size),
-        MODIFY_ORDER => modify_order(nanoseconds, symbol, order, price, size, dice.below(2) as u8),
+        MODIFY_ORDER => modify_order(nanoseconds, symbol, order, price, size, dice.bits() as u8),
         DELETE_ORDER => delete_order(nanoseconds, symbol, order),
         ORDER_EXECUTION => order_execution(nanoseconds, symbol, order, 9, price, size, 255),
         TRADE => trade(nanoseconds, symbol, 9, 0, price, size, 255),

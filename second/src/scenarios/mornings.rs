@@ -224,7 +224,7 @@ fn come_or_go(dice: &mut Dice, maker: &ListMaker, order: u64) -> Vec<u8> {
         0 | 1 => delete_order(nanoseconds, symbol, order),
         2..=4 => order_execution(nanoseconds, symbol, order, 1, price, size, 0),
         5 => order_execution(nanoseconds, symbol, order, 1, price, 1, 0),
-        6 => modify_order(nanoseconds, symbol, order, price, size, dice.below(2) as u8),
+        6 => modify_order(nanoseconds, symbol, order, price, size, dice.bits() as u8),
         _ => symbol_clear(nanoseconds, symbol),
     }
 }

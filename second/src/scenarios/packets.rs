@@ -79,13 +79,11 @@ fn garbled_record(dice: &mut Dice, next: u64) -> Vec<u8> {
     let (kind, length) = dice.pick(&TYPES_AND_LENGTHS);
     let mut body = vec![0; length];
     let small = dice.chance(800);
-    body.fill_with(|| {
-        if small {
-            dice.below(2) as u8
-        } else {
-            dice.bits() as u8
-        }
-    });
+    for (place, byte) in body.iter_mut().enumerate() {
+        let flags = kind == MODIFY_ORDER && place == FLAGS_OF_MODIFY;
+        let any = dice.bits() as u8;
+        *byte = if small && !flags { any % 2 } else { any };
+    }
     body[0] = kind;
     match kind {
         ADD_ORDER if small => body[17] = dice.pick(b"BBBSSSX"),
