@@ -3,10 +3,10 @@
 //! filled with a mark first, so that a stray write shows.
 
 use crate::desk::{Desk, MARK, MARK_BYTE};
-use crate::morning::Dice;
+use crate::morning::{differ_in_undefined_bits_alone, Dice};
 use crate::packet::*;
 use crate::proved::{lent, Proved, SHEET_BYTES};
-use crate::receiver::{Answer, SLOT_BYTES};
+use crate::receiver::{filled_slot, slot, Answer, SLOTS, SLOT_BYTES};
 use crate::sheet::sheet;
 use crate::stream::Stream;
 use crate::tables::*;
@@ -26,6 +26,8 @@ pub struct Tally {
     pub stops: [u64; 28],
     /// Records by their answer, 10 to 14.
     pub records: [u64; 5],
+    /// Records answered 14 that differ from the Modify on the shelf in undefined bits alone (request 2).
+    pub differing_by_undefined_bits: u64,
     pub applied: u64,
     pub bodies: u64,
     /// Starts, views and sheets: those that were not refused by 6, and those that were.
@@ -56,6 +58,7 @@ impl Tally {
         add_each(&mut self.refusals, &other.refusals);
         add_each(&mut self.stops, &other.stops);
         add_each(&mut self.records, &other.records);
+        self.differing_by_undefined_bits += other.differing_by_undefined_bits;
         self.applied += other.applied;
         self.bodies += other.bodies;
         add_each(&mut self.starts, &other.starts);
@@ -91,6 +94,10 @@ impl Tally {
             seen.push((format!("type {kind} over a spoiled row"), count));
         }
         for (what, count) in [
+            (
+                "a differing copy by undefined bits alone",
+                self.differing_by_undefined_bits,
+            ),
             ("starts", self.starts[0]),
             ("refused starts", self.starts[1]),
             ("views", self.views[0]),
@@ -314,7 +321,7 @@ impl Twins {
         same("receive: account", &account, &wanted_account)?;
         same("receive: state", &self.proved.state, &wanted_state)?;
         self.same_tables("receive")?;
-        self.note(&answer);
+        self.note(packet, &answer);
         Ok(answer)
     }
 
@@ -327,7 +334,7 @@ impl Twins {
         Ok(())
     }
 
-    fn note(&mut self, answer: &Result<Answer, u8>) {
+    fn note(&mut self, packet: &[u8], answer: &Result<Answer, u8>) {
         let tally = &mut self.tally;
         match answer {
             Err(number) => {
@@ -339,6 +346,8 @@ impl Twins {
                 tally.stops[answer.stop as usize] += 1;
                 tally.applied += answer.applied;
                 add_each(&mut tally.records, &answer.counts());
+                tally.differing_by_undefined_bits +=
+                    differing_by_undefined_bits(packet, answer, &self.second.shelf);
             }
         }
     }
@@ -556,6 +565,23 @@ impl Default for Twins {
     fn default() -> Twins {
         Twins::new()
     }
+}
+
+/// How many records of an accepted packet were answered 14 for undefined bits alone, by the shelf that it
+/// left: what lies there came first, and any other copy in reach was answered 14. (Of a message that the
+/// packet also applied, the shelf tells nothing, and its copies are not counted.)
+fn differing_by_undefined_bits(packet: &[u8], answer: &Answer, shelf: &[u8]) -> u64 {
+    let next_before = answer.next - answer.applied;
+    let in_reach = answer.next..next_before + SLOTS;
+    let mut count = 0;
+    for record in read_packet(packet).unwrap_or_default() {
+        let first = slot(shelf, record.number);
+        let copy = filled_slot(record.number, record.body);
+        let alone =
+            first[..10] == copy[..10] && differ_in_undefined_bits_alone(&first[10..], &copy[10..]);
+        count += u64::from(alone && in_reach.contains(&record.number));
+    }
+    count
 }
 
 fn shown(text: &[u8]) -> String {

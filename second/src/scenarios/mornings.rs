@@ -231,6 +231,8 @@ fn come_or_go(dice: &mut Dice, maker: &ListMaker, order: u64) -> Vec<u8> {
 
 /// The shelf's window: numbers at its ends, a hundred messages in one packet, copies in one packet.
 pub(super) fn window(dice: &mut Dice, twins: &mut Twins) -> Outcome {
+    // From dice of its own, so that the rest of a seed stays what it was before request 2.
+    copies_by_undefined_bits(&mut dice.clone(), twins)?;
     let mut settings = ListSettings::drawn(dice);
     settings.messages = dice.between(150, 400) as usize;
     settings.rows = 40;
@@ -245,6 +247,48 @@ pub(super) fn window(dice: &mut Dice, twins: &mut Twins) -> Outcome {
         give(dice, twins, &packet)?;
     }
     Ok(())
+}
+
+/// A Modify and a copy of it that differs in one undefined bit alone, on the shelf and after the first was
+/// applied. Request 2: "Two copies that differ only in those bits are still differing copies (14)."
+fn copies_by_undefined_bits(dice: &mut Dice, twins: &mut Twins) -> Outcome {
+    let (symbol, order) = (dice.bits() as u32, dice.bits());
+    let (nanoseconds, price) = (dice.bits() as u32, dice.between(1, 1_000_000));
+    let first = modify_order(nanoseconds, symbol, order, price, 100, dice.bits() as u8);
+    let mut other = first.clone();
+    other[FLAGS_OF_MODIFY] ^= 1 << dice.between(1, 7);
+    let told = [
+        (10, (1, symbol_update(0, symbol, b"BITS       ", 100))),
+        (10, (2, add_order(0, symbol, order, b'B', price, 100))),
+        (10, (4, first.clone())),
+        (14, (4, other.clone())),
+        (13, (4, first.clone())),
+        (10, (3, system_time(34_200))),
+        (11, (4, first)),
+        (11, (4, other)),
+    ];
+    twins.restart(1, 1)?;
+    for part in told.chunks(dice.between(1, 8) as usize) {
+        answered(twins, part)?;
+        twins.views(dice)?;
+    }
+    Ok(())
+}
+
+/// A packet of records that must be answered as told, one of 10 to 14 each.
+fn answered(twins: &mut Twins, told: &[(usize, (u64, Vec<u8>))]) -> Outcome {
+    let mut wanted = [0; 5];
+    let mut records = Vec::new();
+    for (answer, record) in told {
+        wanted[answer - 10] += 1;
+        records.push(record.clone());
+    }
+    match twins.receive(&packet(&records))? {
+        Ok(answer) if answer.counts() == wanted => Ok(()),
+        answer => Err(format!(
+            "both: {answer:?}, and {wanted:?} are told of 10 to 14"
+        )),
+    }
 }
 
 /// Up to 101 System Times of 15 bytes each from next on: 100 are 1,500 bytes, 101 too many.
