@@ -151,6 +151,21 @@ fn book_told(symbol: u32, orders: &[u64]) -> Vec<String> {
     lines
 }
 
+/// The program prints these lines for a file of examples/, piped to it or named.
+fn program_prints(name: &str, lines: &str) {
+    for (input, arguments) in [
+        (File::open(example_path(name)).unwrap().into(), vec![]),
+        (Stdio::null(), vec![example_path(name)]),
+    ] {
+        let output = Command::new(env!("CARGO_BIN_EXE_answers"))
+            .args(arguments)
+            .stdin(input)
+            .output()
+            .unwrap();
+        assert!(output.status.success() && output.stdout == lines.as_bytes());
+    }
+}
+
 /// The long recording comes to the tables that its list's first k messages make.
 #[test]
 fn the_long_recording_line_by_line() {
@@ -162,17 +177,19 @@ fn the_long_recording_line_by_line() {
     made.go_to(next - 1);
     assert_eq!((made.rule_of_next(), stop), (Some(24), 24));
     assert_eq!(back, tables_told(made.second, &made.orders, &made.symbols));
-    for (input, arguments) in [
-        (File::open(example_path("long.rec")).unwrap().into(), vec![]),
-        (Stdio::null(), vec![example_path("long.rec")]),
-    ] {
-        let output = Command::new(env!("CARGO_BIN_EXE_answers"))
-            .args(arguments)
-            .stdin(input)
-            .output()
-            .unwrap();
-        assert!(output.status.success() && output.stdout == lines.as_bytes());
+    program_prints("long.rec", &lines);
+}
+
+/// The morning of every flag byte comes to the lines that tools/flags.py states for it.
+#[test]
+fn the_morning_of_every_flag_byte_line_by_line() {
+    let wanted = String::from_utf8(example_file("flags.answers")).unwrap();
+    let lines = text(&example_file("flags.rec"));
+    for (place, (line, want)) in lines.lines().zip(wanted.lines()).enumerate() {
+        assert_eq!(line, want, "line {}", place + 1);
     }
+    assert_eq!(lines, wanted);
+    program_prints("flags.rec", &wanted);
 }
 
 #[test]

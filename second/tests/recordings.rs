@@ -6,6 +6,7 @@ use second::examples::*;
 use second::morning::*;
 use second::packet::{read_packet, LAST_NUMBER, MODIFY_ORDER};
 use second::sheet::*;
+use std::collections::{BTreeMap, BTreeSet};
 
 fn sheet_text(recording: &[u8]) -> String {
     String::from_utf8(sheet_of_recording(recording).unwrap()).unwrap()
@@ -255,10 +256,39 @@ fn the_long_recording_shows_everything() {
     }
 }
 
+/// The morning of every flag byte comes to the sheet that tools/flags.py states for it, and has what it
+/// is there for: no packet that is refused, each flag byte in a Modify that is applied, and differing
+/// copies, which differ in undefined bits alone.
+#[test]
+fn the_morning_of_every_flag_byte() {
+    let stored = example_file("flags.rec");
+    let wanted = String::from_utf8(example_file("flags.sheet")).unwrap();
+    assert_eq!(sheet_text(&stored), wanted);
+
+    let (packets, whole) = packets_of(&stored);
+    assert!(whole);
+    let mut desk = Desk::full();
+    let mut first = BTreeMap::new();
+    let mut differing = 0;
+    for packet in packets {
+        differing += desk.give(packet).expect("no packet is refused").differing;
+        for one in read_packet(packet).unwrap() {
+            let own = *first.entry(one.number).or_insert(one.body);
+            assert!(own == one.body || differ_in_undefined_bits_alone(own, one.body));
+        }
+    }
+    assert!(differing > 0);
+    // Of each number the first copy was applied.
+    assert_eq!(desk.state.next, first.len() as u64 + 1);
+    let modifies = first.values().filter(|body| body[0] == MODIFY_ORDER);
+    let flags: BTreeSet<u8> = modifies.map(|body| body[FLAGS_OF_MODIFY]).collect();
+    assert!(flags.into_iter().eq(0..=255));
+}
+
 /// Seeded recordings: every one gives a sheet, and together they show every rule and both words.
 #[test]
 fn seeded_recordings() {
-    let mut stops = std::collections::BTreeSet::new();
+    let mut stops = BTreeSet::new();
     let mut cuts = 0;
     for seed in seeds(100) {
         let recording = drawn_recording(seed);
