@@ -5,9 +5,10 @@
     python3 tools/flags.py sheet       its sheet
 
 Document 02, No. 2: bits 1 to 7 of a Modify's flags "are ignored from now on, kept on the shelf as
-they came", and "Two copies that differ only in those bits are still differing copies (14)". Both
-texts are stated from the documents' words; no message is applied here. Every run gives the same
-bytes. They are examples/flags.rec, examples/flags.answers and examples/flags.sheet.
+they came", and "Two copies that differ only in those bits are still differing copies (14)". What
+both texts say is stated from the documents' words, in the form that README.md gives; no message is
+applied here. Every run gives the same bytes. They are examples/flags.rec, examples/flags.answers
+and examples/flags.sheet.
 """
 
 import sys
@@ -15,7 +16,7 @@ import sys
 sys.dont_write_bytecode = True
 from vectors import ADD, EXAMPLE, MODIFY, compose, record  # noqa: E402
 
-PRICE = 10000000
+PRICE, BETTER = 10000000, 10010000
 FIRST_ORDER = 1000
 FIRST_ADD = 3  # behind the second and the symbol
 FIRST_MODIFY = FIRST_ADD + 256
@@ -28,8 +29,8 @@ ONE_TAKEN, ONE_OLD = (1, 0, 0, 0, 0), (0, 1, 0, 0, 0)
 ONE_REPEATED, ONE_DIFFERING = (0, 0, 0, 1, 0), (0, 0, 0, 0, 1)
 
 
-def modify(number, order, size, flags):
-    return record(number, compose(MODIFY, nanoseconds=0, order=order, price=PRICE, size=size,
+def modify(number, order, size, flags, price=PRICE):
+    return record(number, compose(MODIFY, nanoseconds=0, order=order, price=price, size=size,
                                   flags=flags))
 
 
@@ -51,20 +52,24 @@ def in_order(first, records):
 
 
 def copies():
-    """Copies of two Modifies on the shelf that differ in bit 5 or in bit 1 alone."""
+    """Copies on the shelf that differ in one bit alone, each bit in turn: packet by packet, of a
+    Modify without flags, then all in one packet, of a Modify with all of them."""
     gap, ahead = BEHIND, BEHIND + 1
-    plain = modify(ahead, FIRST_ORDER, 60, 0)
-    other = modify(ahead, FIRST_ORDER, 60, 32)
-    yield plain, told(ONE_TAKEN, gap, 0, ahead)
-    yield other, told(ONE_DIFFERING, gap, 0, ahead)
-    yield plain, told(ONE_REPEATED, gap, 0, ahead)
+
+    def plain(flags):
+        return modify(ahead, FIRST_ORDER, 60, flags, BETTER)
+    yield plain(0), told(ONE_TAKEN, gap, 0, ahead)
+    for bit in range(8):
+        yield plain(1 << bit), told(ONE_DIFFERING, gap, 0, ahead)
+    yield plain(0), told(ONE_REPEATED, gap, 0, ahead)
     yield modify(gap, FIRST_ORDER + 1, 60, 8), told(ONE_TAKEN, gap + 2, 2, 0)
-    yield other, told(ONE_OLD, gap + 2, 0, 0)
-    gap, ahead = gap + 2, ahead + 2
-    first = modify(ahead, FIRST_ORDER + 2, 60, 6)
-    second = modify(ahead, FIRST_ORDER + 2, 60, 4)
-    yield first + second + first, told((1, 0, 0, 1, 1), gap, 0, ahead)
-    yield modify(gap, FIRST_ORDER + 3, 60, 255), told(ONE_TAKEN, gap + 2, 2, 0)
+    yield plain(0), told(ONE_OLD, gap + 2, 0, 0)
+    yield plain(32), told(ONE_OLD, gap + 2, 0, 0)
+
+    last = [modify(BEHIND + 3, FIRST_ORDER + 3, 60, 255 - off)
+            for off in (0, 1, 2, 4, 8, 16, 32, 64, 128, 0)]
+    yield b"".join(last), told((1, 0, 0, 1, 8), gap + 2, 0, BEHIND + 3)
+    yield modify(BEHIND + 2, FIRST_ORDER + 2, 60, 6), told(ONE_TAKEN, BEHIND + 4, 2, 0)
 
 
 def packets():
@@ -79,9 +84,9 @@ def packets():
 
 def rank(flags):
     """Of the order whose Modify had these flags. "Flag bit 0 set: rank becomes this sequence
-    number. Clear: the rank stays, whatever changed." The last Modify had every bit set."""
+    number. Clear: the rank stays, whatever changed." The last of all had every bit set."""
     if flags == 3:
-        return BEHIND + 2
+        return BEHIND + 3
     return FIRST_MODIFY + flags if flags % 2 == 1 else FIRST_ADD + flags
 
 
@@ -90,7 +95,13 @@ def size(flags):
     return 60 if flags < 4 else 80
 
 
-LEVEL = "bid=%d %d %d" % (PRICE, sum(size(f) for f in range(256)), 256)
+def price(flags):
+    """The first order went to a better price, and kept its rank."""
+    return BETTER if flags == 0 else PRICE
+
+
+LEVELS = ["bid=%d %d %d" % (BETTER, size(0), 1),
+          "bid=%d %d %d" % (PRICE, sum(size(f) for f in range(1, 256)), 255)]
 ENTRY = compose(EXAMPLE[1][1], **EXAMPLE[1][2])
 
 
@@ -98,15 +109,16 @@ def answers():
     yield from (line for _, line in packets())
     yield "second 34200"
     for f in range(256):
-        yield "row %d %d %d %d %d %d" % (f, FIRST_ORDER + f, 2 * 7, PRICE, size(f), rank(f))
+        yield "row %d %d %d %d %d %d" % (f, FIRST_ORDER + f, 2 * 7, price(f), size(f), rank(f))
     yield "entry 0 " + " ".join(str(byte) for byte in ENTRY)
-    yield "symbol 7 1 0 none"
-    yield LEVEL.replace("=", " ")
+    yield "symbol 7 2 0 none"
+    yield from (level.replace("=", " ") for level in LEVELS)
 
 
 def sheet():
     yield from ("recording=whole", "bad=0", "next=%d" % (BEHIND + 4), "stop=0", "second=34200",
-                "symbols=1", "orders=256", "symbol=7", "ticker=ABC", "lot=100", "spread=none", LEVEL)
+                "symbols=1", "orders=256", "symbol=7", "ticker=ABC", "lot=100", "spread=none")
+    yield from LEVELS
 
 
 def text(lines):

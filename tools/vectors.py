@@ -6,8 +6,9 @@
     python3 tools/vectors.py messages FILE  compare the tables of docs/MESSAGES.md with the script's
     python3 tools/vectors.py counts      how many packets are good or refused (to standard error)
 
-The script rests on document 01 and on section 4 of document 003 alone. It shares nothing with
-the library, so that a slip in one shows against the other. Every run gives the same bytes.
+The script rests on document 01, on No. 2 of document 02 and on section 4 of document 003 alone.
+It shares nothing with the library, so that a slip in one shows against the other. Every run gives
+the same bytes.
 
 The text, packet by packet:
 
@@ -577,6 +578,7 @@ def add_long_packets(vectors):
         ("size 0", record(1, compose(EXECUTION, size=0))),
         ("side X", record(1, compose(ADD, side=ord("X")))),
         ("test indicator X", record(1, compose(UPDATE, test=ord("X")))),
+        ("size 0 with flags 255", record(1, compose(MODIFY, size=0, flags=255))),
     ]
     for label, fault in faults:
         behind = (good * 100)[:1501 - len(fault)]

@@ -2,7 +2,7 @@ pub mod Window
 pub mod SlotLaws
 pub mod Turns
 pub mod Answers
-pub mod Copies
+pub mod OnShelf
 pub mod Tallies
 pub mod Invariant
 pub mod Settled
@@ -13,3 +13,4 @@ pub mod Carried
 pub mod RefreshLaws
 pub mod SameLaws
 pub mod StreamLaws
+pub mod MeaningLaws

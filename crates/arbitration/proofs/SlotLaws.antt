@@ -3,7 +3,7 @@
 use Prim.Native.Nat.{ℕ, zero, suc, _^_, _≤_, _<_}
 use mathlib.Core.Path.{_≡_, refl, sym, ap, subst, _∙_}
 use mathlib.Core.Logic.{_≢_}
-use mathlib.Core.Bool.{Bool, true, false}
+use mathlib.Core.Bool.{Bool, true, false, false≢true}
 use mathlib.Core.List.{List, [], _∷_, _++_}
 use lib.ListN.{length, getD, replicate}
 use lib.Seq.{take-take, take-append-seam}
@@ -49,6 +49,17 @@ bytes-differ (x ∷ xs) [] k h l n = absurd (not-suc-le-zero l)
 bytes-differ (x ∷ xs) (y ∷ ys) zero h l n = rw (ne-eqb x y n)
 bytes-differ (x ∷ xs) (y ∷ ys) (suc k) h l n = rw (bytes-differ xs ys k (le-of-suc-le-suc h) (le-of-suc-le-suc l) n) (both-none (eqb x y))
 
+pub same-bytes-eq : (xs ys : List ℕ) → sameBytes xs ys ≡ true → xs ≡ ys
+unfolding sameBytes
+same-bytes-eq [] [] e = refl
+same-bytes-eq [] (y ∷ ys) e = absurd (false≢true e)
+same-bytes-eq (x ∷ xs) [] e = absurd (false≢true e)
+same-bytes-eq (x ∷ xs) (y ∷ ys) e =
+    let b = both-true {a = eqb x y} {b = sameBytes xs ys} e in
+    let h : x ≡ y = eqb-true x y (b .0) in
+    let t : xs ≡ ys = same-bytes-eq xs ys (b .1) in
+    λ i. h i ∷ t i
+
 pub same-number : (s t : Slot) → sameSlot s t ≡ true → s .number ≡ t .number
 unfolding sameSlot
 same-number s t e = eqb-true _ _ (both-true e .0)
@@ -56,6 +67,17 @@ same-number s t e = eqb-true _ _ (both-true e .0)
 pub same-refl : (s : Slot) → sameSlot s s ≡ true
 unfolding sameSlot both
 same-refl s = rw (eq-eqb (s .number) (s .number) refl, eq-eqb (s .len) (s .len) refl) (same-bytes-refl (s .bytes))
+
+-- slots that compare the same are the same
+pub same-eq : (s t : Slot) → sameSlot s t ≡ true → s ≡ t
+unfolding sameSlot
+same-eq s t e =
+    let a = both-true {a = eqb (s .number) (t .number)} {b = both (eqb (s .len) (t .len)) (sameBytes (s .bytes) (t .bytes))} e in
+    let b = both-true {a = eqb (s .len) (t .len)} {b = sameBytes (s .bytes) (t .bytes)} (a .1) in
+    let n : s .number ≡ t .number = eqb-true (s .number) (t .number) (a .0) in
+    let l : s .len ≡ t .len = eqb-true (s .len) (t .len) (b .0) in
+    let y : s .bytes ≡ t .bytes = same-bytes-eq (s .bytes) (t .bytes) (b .1) in
+    λ i. record { number = n i; len = l i; bytes = y i }
 
 pub slots-differ : (s t : Slot) → sameBytes (s .bytes) (t .bytes) ≡ false → sameSlot s t ≡ false
 unfolding sameSlot

@@ -6,3 +6,4 @@ pub mod Lists
 pub mod Refresh
 pub mod Same
 pub mod Stream
+pub mod Meaning

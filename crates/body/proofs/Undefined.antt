@@ -1,30 +1,31 @@
 -- Flags are not judged: a good Modify with any other flags is a good Modify, whose other fields are as they were. All of them lie before byte 29.
 -- Assumes nothing.
-use Prim.Native.Nat.{ℕ, _+_, _≤_, _<_}
+use Prim.Native.Nat.{ℕ, zero, suc, _+_, _≤_, _<_}
 use mathlib.Core.Path.{_≡_, refl, sym, ap, _∙_}
 use mathlib.Core.Bool.{Bool, true, false}
-use mathlib.Core.List.{List}
+use mathlib.Core.List.{List, [], _∷_}
 use mathlib.Core.Logic.{_≢_}
 use native.Mathlib.Omega.{arith}
-use lib.ListN.{length, getD, length-set}
-use lib.Seq.{getD-set-same, getD-set-other}
+use lib.ListN.{length, getD, set, length-set}
+use lib.Seq.{getD-set-same, getD-set-other, set-getD}
 use lib.Dec.{eqb}
 use borrow.Author.Tests.{eq-eqb, lt-ltb}
 use Rattle.facts.specs.Pick.{pick, both}
+use Rattle.facts.proofs.Picks.{pick-map}
 use Rattle.wire.specs.Le.{field}
 use Rattle.wire.proofs.Laws.{field-same}
 use Rattle.kinds.specs.Table.{typeOf, lengthOf, kindLength}
 use Rattle.kinds.specs.declared.Kind.{Kind}
 use Rattle.kinds.proofs.Laws.{type-kind}
 use Rattle.layout.proofs.Laws.{tiles}
-use Rattle.fields.specs.Fields.{modifyOf, refusal, decoded}
+use Rattle.fields.specs.Fields.{modifyOf, refusal, decoded, bodyNumber}
 use Rattle.fields.specs.declared.ModifyOrder.{ModifyOrder}
 use Rattle.fields.specs.declared.Body.{Body}
 use Rattle.body.specs.Ranges.{priceOk, sizeOk}
 use Rattle.body.specs.Faults.{faultFrom, faultOf}
-use Rattle.body.specs.Read.{framed, judged, readBody}
+use Rattle.body.specs.Read.{framed, judged, readBody, goodBody}
 use Rattle.body.specs.Undefined.{flagged, withFlags, OnlyBits}
-use Rattle.body.proofs.Laws.{Framed, Sound, read-sound}
+use Rattle.body.proofs.Laws.{Framed, Sound, read-sound, number-good}
 
 -- a framed body is judged as one of its kind
 read-framed : (k : Kind) (b : List ℕ) → Framed k b → readBody b ≡ judged k b
@@ -65,7 +66,15 @@ module _ (b : List ℕ) (x : ℕ) where
         flags = getD-set-same b 29 x 0 l i;
       }
 
-  -- "They are ignored from now on [..] and the field range for flags is struck out"
+  -- "the field range for flags is struck out": whatever they are, a body of that type and length is good or refused by the same number
+  pub flags-unjudged : Framed Kind.Modify b → bodyNumber (readBody (flagged b x)) ≡ bodyNumber (readBody b)
+  unfolding judged decoded
+  flags-unjudged w =
+      rw (read-framed Kind.Modify (flagged b x) (flagged-framed w), read-framed Kind.Modify b w, fault-kept)
+      (pick-map bodyNumber (eqb (faultOf Kind.Modify b) 0) (Body.Modify (modifyOf (flagged b x))) (Body.Refused (refusal 4))
+      ∙ sym (pick-map bodyNumber (eqb (faultOf Kind.Modify b) 0) (Body.Modify (modifyOf b)) (Body.Refused (refusal 4))))
+
+  -- and a good one is the same message but for them
   pub any-flags : (m : ModifyOrder) → readBody b ≡ Body.Modify m → readBody (flagged b x) ≡ Body.Modify (withFlags m x)
   unfolding judged decoded pick
   any-flags m h = go (eqb (faultOf Kind.Modify b) 0) refl
@@ -79,11 +88,19 @@ module _ (b : List ℕ) (x : ℕ) where
           let q : Body.Refused (refusal 4) ≡ Body.Modify m = sym (rw e at (read-framed Kind.Modify b (w .0))) ∙ h in
           cc
 
+set-twice : (l : List ℕ) (i x y : ℕ) → set (set l i x) i y ≡ set l i y
+set-twice [] i x y = refl
+set-twice (a ∷ l) zero x y = refl
+set-twice (a ∷ l) (suc i) x y = ap (λ (t : List ℕ). a ∷ t) (set-twice l i x y)
+
 -- ---- two that differ in undefined bits alone
 module _ (b c : List ℕ) (o : OnlyBits b c) where
   -- the second is good too
   pub bits-read : readBody c ≡ Body.Modify (withFlags (o .modify) (o .flags))
   bits-read = ap readBody (o .second) ∙ any-flags b (o .flags) (o .modify) (o .first)
+
+  pub bits-good : (goodBody b ≡ true) × (goodBody c ≡ true)
+  bits-good = (number-good b (ap bodyNumber (o .first)), number-good c (ap bodyNumber bits-read))
 
   -- and they are not the same bytes
   pub bits-apart : getD b 29 0 ≢ getD c 29 0
@@ -92,3 +109,17 @@ module _ (b c : List ℕ) (o : OnlyBits b c) where
       let old : o .modify .flags ≡ getD b 29 0 = ap (λ (m : ModifyOrder). m .flags) (w .1) in
       let new : getD c 29 0 ≡ o .flags = ap (λ (l : List ℕ). getD l 29 0) (o .second) ∙ getD-set-same b 29 (o .flags) 0 (modify-long b (w .0)) in
       o .differ (sym (old ∙ e ∙ new))
+
+  -- nor does it matter which of them is called the first
+  pub bits-turned : OnlyBits c b
+  bits-turned =
+      let w : Sound (Body.Modify (o .modify)) b = rw (o .first) at (read-sound b) in
+      let old : o .modify .flags ≡ getD b 29 0 = ap (λ (m : ModifyOrder). m .flags) (w .1) in
+      record {
+        modify = withFlags (o .modify) (o .flags);
+        flags = o .modify .flags;
+        first = bits-read;
+        second = sym (ap (λ (l : List ℕ). flagged l (o .modify .flags)) (o .second) ∙ set-twice b 29 (o .flags) (o .modify .flags) ∙ ap (flagged b) old ∙ set-getD b 29 0);
+        bit-0 = sym (o .bit-0);
+        differ = λ e. o .differ (sym e);
+      }

@@ -1,4 +1,4 @@
--- The field ranges of document 01, "Message bodies": "Field ranges: ..". "The field range for flags is struck out" (request 2).
+-- The field ranges of document 01, "Message bodies": "Field ranges: ..". Flags have none: "the field range for flags is struck out" (request 2).
 use Prim.Native.Nat.{ℕ}
 use mathlib.Core.Bool.{Bool, false}
 use mathlib.Core.List.{List, [], _∷_}

@@ -1,9 +1,9 @@
 -- Request 2 of document 02: "The specification calls bits 1 to 7 undefined", of the flags of a Modify. What it says of them is said with these words.
 use Prim.Native.Nat.{ℕ, _%_}
 use mathlib.Core.Path.{_≡_}
-use mathlib.Core.List.{List, []}
+use mathlib.Core.List.{List}
 use mathlib.Core.Logic.{_≢_, _⊎_}
-use lib.ListN.{set, getD}
+use lib.ListN.{set}
 use Rattle.fields.specs.declared.ModifyOrder.{ModifyOrder}
 use Rattle.fields.specs.declared.Body.{Body}
 use Rattle.body.specs.Read.{readBody}
@@ -27,7 +27,3 @@ pub record OnlyBits (b c : List ℕ) : Type 0 where
 -- the same bytes, but for those bits
 abbrev pub ButForBits : List ℕ → List ℕ → Type 0
 ButForBits b c = (b ≡ c) ⊎ OnlyBits b c
-
--- two lists of messages, message by message
-abbrev pub EachButForBits : List (List ℕ) → List (List ℕ) → Type 0
-EachButForBits ms ns = (i : ℕ) → ButForBits (getD ms i []) (getD ns i [])

@@ -22,13 +22,13 @@ use Rattle.book.specs.Plan.{onRows, ofKnown, target, upon, Finds, modify
 use Rattle.book.specs.Book.{Book, scans, planned, carried, applied}
 use Rattle.book.proofs.Laws.{planned-by, carried-by}
 
--- "Bit 0 alone tells the position": the plan is that of the other flags
+-- bit 0 alone tells the position: other flags with the same bit 0 have the same plan
 plan-same : (m : ModifyOrder) (x n : ℕ) (b c : List ℕ) (t : Clock) (f : Finds) → x % 2 ≡ m .flags % 2 → planBy (Body.Modify (withFlags m x)) n c t f ≡ planBy (Body.Modify m) n b t f
 unfolding planBy modifyPlan moves
 plan-same m x n b c t f e =
     ap (λ (bit : ℕ). ofKnown (f .entry (m .symbol)) (λ _. upon (target (f .order (m .order)) (m .symbol)) (λ i r. onRows t (RowWork.Put i (remade (m .price) (m .size) (eqb bit 1) n r))))) e
 
--- and what it does does not hang on the message's bytes
+-- and its effect does not hang on the message's bytes
 bytes-unseen : (entry : Found) (order : Target) (w : ℕ → Row → RowWork) (t : Clock) (b c : List ℕ) (k : Book)
     → carried (ofKnown entry (λ _. upon order (λ i r. onRows t (w i r)))) c k ≡ carried (ofKnown entry (λ _. upon order (λ i r. onRows t (w i r)))) b k
 unfolding ofKnown upon carried entered

@@ -1,3 +1,4 @@
 pub mod Right
 pub mod Example
 pub mod Witness
+pub mod Bits

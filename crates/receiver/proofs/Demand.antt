@@ -14,7 +14,7 @@ use Rattle.arbitration.proofs.Halves.{Made, Named, agree, start-ready, first-ha
 use Rattle.arbitration.proofs.Packets.{every-accepted, packets-run}
 use Rattle.receiver.specs.Parts.{Parts, engineOf}
 use Rattle.receiver.specs.Receiver.{Rx, Receiver, receivesAll}
-use Rattle.receiver.specs.Demand3.{Given, MadeBy, Names, AnsweredTo, Demand3}
+use Rattle.receiver.specs.Demand3.{Started, Given, MadeBy, Names, AnsweredTo, Demand3}
 use Rattle.receiver.proofs.PartsLaws.{PartsLaws, lawsOf}
 use Rattle.receiver.proofs.Accounts.{account-reports}
 use Rattle.receiver.proofs.Fits.{one-call-more, all-received, all-stop, start-fit, start-stop}
@@ -26,6 +26,37 @@ module _ (P : Parts) (L : PartsLaws P) (ms : List (List ℕ)) (b0 : P .rules .Bo
   abbrev E : Engine
   E = engineOf (P .rules)
 
+  -- what the theory says of a receiver, in the demand's words
+  one-less : {k n : ℕ} → n ≡ 0 + suc k → k ≡ n - 1
+  one-less e = omega arith
+
+  is-next : {k n : ℕ} → n ≡ 0 + suc k → suc k ≡ n
+  is-next e = omega arith
+
+  pub made-by : (k : Receiver P) → Made S E ms 0 b0 (k .rx) → MadeBy P ms b0 k
+  made-by k m =
+      record {
+        from-1 = omega (arith, m .next-is);
+        in-list = omega (arith, m .next-is, m .within);
+        tables-are = subst (λ (n : ℕ). made E ms 0 b0 n ≡ ok (k .rx .book)) (one-less (m .next-is)) (m .book-is);
+      }
+
+  pub named-by : (k : Receiver P) → k .stop ≡ stop S E (k .rx) → Named S E ms 0 b0 (k .rx) → Names P ms b0 k
+  named-by k s m =
+      record {
+        in-list = omega (arith, m .next-is, m .in-list);
+        rule-named = omega (arith, s, m .rule-named);
+        list-breaks = subst (λ (n : ℕ). made E ms 0 b0 n ≡ broke (k .stop)) (is-next (m .next-is)) (m .breaks ∙ ap broke (sym s));
+      }
+
+  -- the calls from a start: the run of the accepted records, and the stop of its end
+  module _ (k0 : Receiver P) (ps : List (List ℕ)) (h : Started P b0 k0) where
+    pub ran : receivesAll P ps k0 .rx ≡ run S E (accepted (P .frame) ps) (k0 .rx)
+    ran = all-received P L ps k0 (start-fit P L b0 k0 h) ∙ packets-run (P .frame) S E ps (k0 .rx)
+
+    pub stop-is : receivesAll P ps k0 .stop ≡ stop S E (receivesAll P ps k0 .rx)
+    stop-is = all-stop P L ps k0 (start-stop P L b0 k0 h)
+
   module _ (k0 : Receiver P) (ps : List (List ℕ)) (g : Given P ms b0 k0 ps) where
     abbrev cs : List Rec
     cs = accepted (P .frame) ps
@@ -36,46 +67,19 @@ module _ (P : Parts) (L : PartsLaws P) (ms : List (List ℕ)) (b0 : P .rules .Bo
     copies : Every (Copy ms) cs
     copies = every-copy ms cs (every-accepted (P .frame) Numbered (L .numbered) ps) (g .copies)
 
-    -- after the calls: the run of the accepted records
-    ran : end .rx ≡ run S E cs (k0 .rx)
-    ran = all-received P L ps k0 (start-fit P L b0 k0 (g .started)) ∙ packets-run (P .frame) S E ps (k0 .rx)
-
-    stop-is : end .stop ≡ stop S E (end .rx)
-    stop-is = all-stop P L ps k0 (start-stop P L b0 k0 (g .started))
-
     pub made-so : Made S E ms 0 b0 (end .rx)
-    made-so = subst (Made S E ms 0 b0) (sym ran) (first-half S E (lawsOf P L) ms (g .well-formed) 0 b0 (k0 .rx) cs (start-ready S E (lawsOf P L) ms (g .well-formed) b0 (k0 .rx) (g .started .zeroed)) copies)
-
-    one-less : {k : ℕ} → end .rx .next ≡ 0 + suc k → k ≡ end .rx .next - 1
-    one-less e = omega arith
-
-    is-next : {k : ℕ} → end .rx .next ≡ 0 + suc k → suc k ≡ end .rx .next
-    is-next e = omega arith
+    made-so = subst (Made S E ms 0 b0) (sym (ran k0 ps (g .started))) (first-half S E (lawsOf P L) ms (g .well-formed) 0 b0 (k0 .rx) cs (start-ready S E (lawsOf P L) ms (g .well-formed) b0 (k0 .rx) (g .started .zeroed)) copies)
 
     pub first-of : MadeBy P ms b0 end
-    first-of =
-        let m = made-so in
-        record {
-          from-1 = omega (arith, m .next-is);
-          in-list = omega (arith, m .next-is, m .within);
-          tables-are = subst (λ (n : ℕ). made E ms 0 b0 n ≡ ok (end .rx .book)) (one-less (m .next-is)) (m .book-is);
-        }
-
-    named-of : Named S E ms 0 b0 (end .rx) → Names P ms b0 end
-    named-of m =
-        record {
-          in-list = omega (arith, m .next-is, m .in-list);
-          rule-named = omega (arith, stop-is, m .rule-named);
-          list-breaks = subst (λ (n : ℕ). made E ms 0 b0 n ≡ broke (end .stop)) (is-next (m .next-is)) (m .breaks ∙ ap broke (sym stop-is));
-        }
+    first-of = made-by end made-so
 
     pub second-of : (j : ℕ) → AnsweredTo P j ps k0 → (j ≤ end .rx .next - 1) ⊎ Names P ms b0 end
     second-of j all =
         go (second-half S E (lawsOf P L) ms (g .well-formed) 0 b0 (k0 .rx) cs j (start-ready S E (lawsOf P L) ms (g .well-formed) b0 (k0 .rx) (g .started .zeroed)) copies all)
       where
         go : (j < run S E cs (k0 .rx) .next) ⊎ Named S E ms 0 b0 (run S E cs (k0 .rx)) → (j ≤ end .rx .next - 1) ⊎ Names P ms b0 end
-        go (inl l) = inl (omega (arith, ap (λ (x : Rx P). x .next) ran))
-        go (inr m) = inr (named-of (subst (Named S E ms 0 b0) (sym ran) m))
+        go (inl l) = inl (omega (arith, ap (λ (x : Rx P). x .next) (ran k0 ps (g .started))))
+        go (inr m) = inr (named-by end (stop-is k0 ps (g .started)) (subst (Named S E ms 0 b0) (sym (ran k0 ps (g .started))) m))
 
   pub demand-3 : Demand3 P ms b0
   demand-3 = record {

@@ -1,64 +1,105 @@
--- Undefined bits of a Modify's flags (request 2) over the receiver: they reach no table in any run, and yet tell copies apart on the shelf.
+-- Undefined bits of a Modify's flags over the receiver (request 2): no table hangs on them, so copies that differ in them make the list's tables like true ones; and yet
+-- they tell copies apart on the shelf.
 -- Assumes nothing.
-use Prim.Native.Nat.{ℕ, zero, suc, _+_, _-_, _≤_, _<_}
-use mathlib.Core.Path.{_≡_, refl, sym, ap, _∙_}
-use mathlib.Core.Logic.{inl, inr}
-use mathlib.Core.List.{List}
+use Prim.Native.Nat.{ℕ, _-_, _≤_, _<_}
+use mathlib.Core.Path.{_≡_, sym, ap, subst, _∙_}
+use mathlib.Core.Logic.{_⊎_, inl, inr}
+use mathlib.Core.List.{List, [], _∷_}
 use native.Mathlib.Omega.{arith}
+use native.Mathlib.Decide.{decLt}
 use lib.Dec.{eqb}
+use lib.ListN.{length}
+use Rattle.facts.specs.Limits.{shelfSize}
 use Rattle.facts.specs.Pick.{pick}
-use Rattle.body.specs.Undefined.{OnlyBits, ButForBits, EachButForBits}
-use Rattle.body.proofs.Undefined.{bits-apart}
-use Rattle.book.specs.Book.{Book, Effect}
+use Rattle.wire.specs.Records.{Rec}
+use Rattle.body.specs.Read.{goodBody}
+use Rattle.body.specs.Undefined.{OnlyBits, ButForBits}
+use Rattle.body.proofs.Undefined.{bits-good, bits-apart}
+use Rattle.packet.specs.Packet.{framing}
+use Rattle.book.specs.Book.{Effect}
 use Rattle.book.proofs.Undefined.{bits-applied}
-use Rattle.arbitration.specs.Engine.{Applied, ok, broke}
-use Rattle.arbitration.specs.Slots.{slotFor}
-use Rattle.arbitration.specs.Receive.{old, differing, slotOf, judged, after}
-use Rattle.arbitration.specs.Lists.{msg, made}
-use Rattle.arbitration.proofs.Answers.{judge-old}
-use Rattle.arbitration.proofs.Copies.{copy-differs, first-stays}
+use Rattle.arbitration.specs.Engine.{ok, broke}
+use Rattle.arbitration.specs.Receive.{taken, old, differing, accepted, judged, after, run}
+use Rattle.arbitration.specs.Lists.{Every, Numbered, Bounded}
+use Rattle.arbitration.specs.Meaning.{Means, Faithful}
+use Rattle.arbitration.proofs.Halves.{Made, Named, Ready, start-ready}
+use Rattle.arbitration.proofs.Packets.{every-accepted}
+use Rattle.arbitration.proofs.OnShelf.{Came, copy-old, copy-differs, run-came, taken-came}
+use Rattle.arbitration.proofs.MeaningLaws.{faithful-first, faithful-second}
 use Rattle.shelf.specs.Store.{shelfStore}
-use Rattle.receiver.specs.Demand3.{Given, MadeBy}
+use Rattle.shelf.proofs.StoreLaws.{shelfLaws}
+use Rattle.receiver.specs.Demand3.{MadeBy, Names, AnsweredTo}
 use Rattle.receiver.specs.Lent.{bookEngine, real, Rx, rec, Lent, receivedAll, zeroBook}
-use Rattle.receiver.proofs.Real.{real-demand}
+use Rattle.receiver.specs.Undefined.{BitCopy, GivenBits}
+use Rattle.receiver.proofs.PartsLaws.{lawsOf}
+use Rattle.receiver.proofs.Demand.{made-by, named-by, ran, stop-is}
+use Rattle.receiver.proofs.Real.{realLaws}
 
 -- ---- "They are ignored from now on"
-apply-same : (n : ℕ) (b c : List ℕ) (k : Book) → ButForBits b c → bookEngine .apply n c k ≡ bookEngine .apply n b k
-apply-same n b c k (inl e) = ap (λ (x : List ℕ). bookEngine .apply n x k) (sym e)
-apply-same n b c k (inr o) = ap (λ (x : Effect). pick (eqb (x .rule) 0) (ok (x .after)) (broke (x .rule))) (bits-applied n b c k o)
+pub bits-mean : (b c : List ℕ) → ButForBits b c → Means bookEngine b c
+bits-mean b c (inl e) = record { as-good = ap goodBody (sym e); as-applied = λ n k. ap (λ (x : List ℕ). bookEngine .apply n x k) (sym e) }
+bits-mean b c (inr o) =
+    record {
+      as-good = let g = bits-good b c o in g .1 ∙ sym (g .0);
+      as-applied = λ n k. ap (λ (x : Effect). pick (eqb (x .rule) 0) (ok (x .after)) (broke (x .rule))) (bits-applied n b c k o);
+    }
 
-module _ (ms ns : List (List ℕ)) (h : EachButForBits ms ns) where
-  step-same : (n : ℕ) (t : Applied Book)
-      → _≡_ {A = Applied Book} (elim t [ ok x ↦ bookEngine .apply n (msg ns n) x | broke q ↦ broke q ]) (elim t [ ok x ↦ bookEngine .apply n (msg ms n) x | broke q ↦ broke q ])
-  step-same n (ok x) = apply-same n (msg ms n) (msg ns n) x (h (n - 1))
-  step-same n (broke q) = refl
+all-faithful : (ms : List (List ℕ)) (cs : List Rec) → Every (BitCopy ms) cs → Every (Faithful bookEngine ms) cs
+all-faithful ms [] h = tt
+all-faithful ms (c ∷ cs) h = (record { in-list = h .0 .in-list; means = bits-mean _ _ (h .0 .same) }, all-faithful ms cs (h .1))
 
-  -- lists that differ in undefined bits alone make the same tables, message by message, or break the same rule at the same one
-  pub bits-made : (s : ℕ) (b0 : Book) (k : ℕ) → made bookEngine ns s b0 k ≡ made bookEngine ms s b0 k
-  unfolding made
-  bits-made s b0 zero = refl
-  bits-made s b0 (suc k) = rw (bits-made s b0 k) (step-same (s + suc k) (made bookEngine ms s b0 k))
+-- both halves of demand 3, of copies that differ from the list in undefined bits
+module _ (ms : List (List ℕ)) (o s : ℕ) (k0 : Lent) (ps : List (List ℕ)) (g : GivenBits ms o s k0 ps) where
+  abbrev cs : List Rec
+  cs = accepted framing ps
 
-  -- so receivers on the one and on the other agree, as two on one list do
-  pub bits-agree : (o s : ℕ) (k0 k0′ : Lent) (ps ps′ : List (List ℕ)) → Given real ms (zeroBook o s) k0 ps → Given real ns (zeroBook o s) k0′ ps′
-      → receivedAll ps k0 .rx .next ≡ receivedAll ps′ k0′ .rx .next → receivedAll ps k0 .rx .book ≡ receivedAll ps′ k0′ .rx .book
-  bits-agree o s k0 k0′ ps ps′ g g′ e =
-      let a : MadeBy real ms (zeroBook o s) (receivedAll ps k0) = real-demand ms o s .first k0 ps g in
-      let b : MadeBy real ns (zeroBook o s) (receivedAll ps′ k0′) = real-demand ns o s .first k0′ ps′ g′ in
-      let same : ok (receivedAll ps k0 .rx .book) ≡ ok (receivedAll ps′ k0′ .rx .book) =
-      sym (a .tables-are) ∙ sym (bits-made 0 (zeroBook o s) (receivedAll ps k0 .rx .next - 1)) ∙ ap (λ (n : ℕ). made bookEngine ns 0 (zeroBook o s) (n - 1)) e ∙ b .tables-are in
-      cc
+  ready : Ready shelfStore bookEngine ms 0 (zeroBook o s) (k0 .rx)
+  ready = start-ready shelfStore bookEngine (lawsOf real realLaws) ms (g .well-formed) (zeroBook o s) (k0 .rx) (g .started .zeroed)
 
--- ---- "Two copies that differ only in those bits are still differing copies (14)"
-module _ (r : Rx) (n : ℕ) (b c : List ℕ) (o : OnlyBits b c) where
-  -- while the first is on the shelf: it stays, and so does all else
-  pub bits-differ : slotOf shelfStore bookEngine r n ≡ slotFor n b → 1 ≤ n → r .next ≤ n → n < r .next + 64
-      → (judged shelfStore bookEngine (rec n c) r ≡ differing) × (after shelfStore bookEngine (rec n c) r ≡ r)
-  bits-differ h some from below = (
-    copy-differs shelfStore bookEngine r n b h some from below c 29 (omega arith) (bits-apart b c o),
-    first-stays shelfStore bookEngine r n b h some from below c 29 (omega arith) (bits-apart b c o),
-  )
+  numbered : Every Numbered cs
+  numbered = every-accepted framing Numbered (realLaws .numbered) ps
 
-  -- once the first was applied, each copy is old (11)
-  pub bits-old : n < r .next → judged shelfStore bookEngine (rec n c) r ≡ old
-  bits-old l = judge-old (r .next) (slotOf shelfStore bookEngine r n) (rec n c) l
+  bounded : Every Bounded cs
+  bounded = every-accepted framing Bounded (realLaws .bounded) ps
+
+  end-is : receivedAll ps k0 .rx ≡ run shelfStore bookEngine cs (k0 .rx)
+  end-is = ran real realLaws ms (zeroBook o s) k0 ps (g .started)
+
+  pub bits-first : MadeBy real ms (zeroBook o s) (receivedAll ps k0)
+  bits-first =
+      made-by real realLaws ms (zeroBook o s) (receivedAll ps k0)
+      (subst (Made shelfStore bookEngine ms 0 (zeroBook o s)) (sym end-is)
+      (faithful-first shelfStore bookEngine (lawsOf real realLaws) ms (g .well-formed) 0 (zeroBook o s) (k0 .rx) cs ready numbered bounded (all-faithful ms cs (g .copies))))
+
+  pub bits-second : (j : ℕ) → AnsweredTo real j ps k0 → (j ≤ receivedAll ps k0 .rx .next - 1) ⊎ Names real ms (zeroBook o s) (receivedAll ps k0)
+  bits-second j all =
+      go (faithful-second shelfStore bookEngine (lawsOf real realLaws) ms (g .well-formed) 0 (zeroBook o s) (k0 .rx) cs ready numbered bounded (all-faithful ms cs (g .copies)) j all)
+    where
+      go : (j < run shelfStore bookEngine cs (k0 .rx) .next) ⊎ Named shelfStore bookEngine ms 0 (zeroBook o s) (run shelfStore bookEngine cs (k0 .rx))
+          → (j ≤ receivedAll ps k0 .rx .next - 1) ⊎ Names real ms (zeroBook o s) (receivedAll ps k0)
+      go (inl l) = inl (omega (arith, ap (λ (x : Rx). x .next) end-is))
+      go (inr m) =
+          inr (named-by real realLaws ms (zeroBook o s) (receivedAll ps k0) (stop-is real realLaws ms (zeroBook o s) k0 ps (g .started))
+          (subst (Named shelfStore bookEngine ms 0 (zeroBook o s)) (sym end-is) m))
+
+-- ---- "Two copies that differ only in those bits are still differing copies (14)": the first was taken, any records came after it, and then comes the second. It is answered 14
+-- while the first waits on the shelf, 11 once that was applied, and changes nothing
+module _ (r : Rx) (n : ℕ) (b c : List ℕ) (o : OnlyBits b c) (some : 1 ≤ n) (w : Bounded (rec n b)) (size : length (r .shelf) ≡ shelfSize)
+    (first : judged shelfStore bookEngine (rec n b) r ≡ taken) (cs : List Rec) (h : Every Bounded cs) where
+  abbrev then : Rx
+  then = run shelfStore bookEngine cs (after shelfStore bookEngine (rec n b) r)
+
+  came : Came shelfStore bookEngine shelfLaws n b then
+  came = run-came shelfStore bookEngine shelfLaws n b some cs (after shelfStore bookEngine (rec n b) r) h (taken-came shelfStore bookEngine shelfLaws (rec n b) r some w size first)
+
+  pub second-copy : (after shelfStore bookEngine (rec n c) then ≡ then)
+      × (((then .next ≤ n) × (judged shelfStore bookEngine (rec n c) then ≡ differing)) ⊎ ((n < then .next) × (judged shelfStore bookEngine (rec n c) then ≡ old)))
+  second-copy = go (decLt n (then .next))
+    where
+      go : Dec (n < then .next) → (after shelfStore bookEngine (rec n c) then ≡ then)
+          × (((then .next ≤ n) × (judged shelfStore bookEngine (rec n c) then ≡ differing)) ⊎ ((n < then .next) × (judged shelfStore bookEngine (rec n c) then ≡ old)))
+      go (yes l) = let a = copy-old shelfStore bookEngine then n c l in (a .1, inr (l, a .0))
+      go (no l) =
+          let from : then .next ≤ n = omega arith in
+          let a = copy-differs shelfStore bookEngine then n b (came .waits from) some from (came .below) c 29 (omega arith) (bits-apart b c o) in
+          (a .1, inl (from, a .0))

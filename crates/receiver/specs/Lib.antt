@@ -3,3 +3,4 @@ pub mod Receiver
 pub mod Demand3
 pub mod Lent
 pub mod Order
+pub mod Undefined
