@@ -52,14 +52,14 @@ def in_order(first, records):
 
 
 def copies():
-    """Copies on the shelf that differ in one bit alone, each bit in turn: packet by packet, of a
-    Modify without flags, then all in one packet, of a Modify with all of them."""
+    """Copies on the shelf that differ in one undefined bit alone, each of the seven in turn: packet
+    by packet, of a Modify without flags, then all in one packet, of a Modify with all of them."""
     gap, ahead = BEHIND, BEHIND + 1
 
     def plain(flags):
         return modify(ahead, FIRST_ORDER, 60, flags, BETTER)
     yield plain(0), told(ONE_TAKEN, gap, 0, ahead)
-    for bit in range(8):
+    for bit in range(1, 8):
         yield plain(1 << bit), told(ONE_DIFFERING, gap, 0, ahead)
     yield plain(0), told(ONE_REPEATED, gap, 0, ahead)
     yield modify(gap, FIRST_ORDER + 1, 60, 8), told(ONE_TAKEN, gap + 2, 2, 0)
@@ -67,8 +67,8 @@ def copies():
     yield plain(32), told(ONE_OLD, gap + 2, 0, 0)
 
     last = [modify(BEHIND + 3, FIRST_ORDER + 3, 60, 255 - off)
-            for off in (0, 1, 2, 4, 8, 16, 32, 64, 128, 0)]
-    yield b"".join(last), told((1, 0, 0, 1, 8), gap + 2, 0, BEHIND + 3)
+            for off in (0, 2, 4, 8, 16, 32, 64, 128, 0)]
+    yield b"".join(last), told((1, 0, 0, 1, 7), gap + 2, 0, BEHIND + 3)
     yield modify(BEHIND + 2, FIRST_ORDER + 2, 60, 6), told(ONE_TAKEN, BEHIND + 4, 2, 0)
 
 
