@@ -1,7 +1,7 @@
 -- Demand 3 over a run of records, from any base: the invariant is the first half; with what is kept and settled at the end it gives the second.
 -- Assumes nothing.
 use Prim.Native.Nat.{ℕ, suc, _+_, _≤_, _<_}
-use mathlib.Core.Path.{_≡_, refl, ap, subst, _∙_}
+use mathlib.Core.Path.{_≡_, refl, ap, _∙_}
 use mathlib.Core.Logic.{_≢_, _⊎_, inl, inr}
 use mathlib.Core.Bool.{true, false}
 use mathlib.Core.List.{List, [], _∷_}
@@ -16,12 +16,13 @@ use Rattle.wire.specs.Records.{Rec}
 use Rattle.arbitration.specs.Slots.{Slot, slotBody}
 use Rattle.arbitration.specs.Engine.{Applied, ok, broke, Engine, Store, Laws}
 use Rattle.arbitration.specs.Receive.{Answer, taken, old, tooFar, repeated, differing, codeOf, count, ofApplied, goodSlot, State, slotOf, try, stop, judged, after, run, said}
-use Rattle.arbitration.specs.Lists.{Every, Copy, msg, WellFormed, made, here, later, Zeroed, Answered}
+use Rattle.arbitration.specs.Lists.{Every, Copy, msg, WellFormed, made, Zeroed, Answered}
 use Rattle.arbitration.proofs.Window.{slot-lt}
 use Rattle.arbitration.proofs.Turns.{short-good, try-good, try-goes, stop-stuck}
 use Rattle.arbitration.proofs.Answers.{run-keeps}
 use Rattle.arbitration.proofs.Invariant.{Inv, Follows, Mine, mine, msg-good, msg-short, copy-fits, made-suc, after-inv, never-differing, start-follows}
-use Rattle.arbitration.proofs.Settled.{Settled, Held, Lasts, after-settled, after-kept, here-kept}
+use Rattle.arbitration.proofs.Packets.{every-map}
+use Rattle.arbitration.proofs.Settled.{Settled, Fitting, Held, Lasts, after-settled, answered-kept}
 
 module _ (S : Store) (E : Engine) where
   -- the book made by k messages behind the base s, next being s + k + 1
@@ -75,16 +76,6 @@ module _ (S : Store) (E : Engine) (L : Laws S E) (ms : List (List ℕ)) (wf : We
 
   pub run-ready : (cs : List Rec) (r : State S E) → Every (Copy ms) cs → Ready S E ms s0 b0 r → Ready S E ms s0 b0 (run S E cs r)
   run-ready cs r h y = run-keeps S E (Ready S E ms s0 b0) (Copy ms) after-ready cs r h y
-
-  pub run-kept : (n : ℕ) (cs : List Rec) (r : State S E) → 1 ≤ n → Every (Copy ms) cs → Lasts S E n r → Lasts S E n (run S E cs r)
-  run-kept n cs r p h v = run-keeps S E (Lasts S E n) (Copy ms) (λ c r cp v. after-kept S E L n c r p (copy-fits S E L ms wf c cp) v) cs r h v
-
-  answered-kept : (n : ℕ) (cs : List Rec) (r : State S E) → 1 ≤ n → Every (Copy ms) cs → Ready S E ms s0 b0 r → Answered S E n cs r → Lasts S E n (run S E cs r)
-  unfolding run said Follows
-  answered-kept n (c ∷ cs) r p h y (here e w) =
-      run-kept n cs (after S E c r) p (h .1)
-      (subst (λ (m : ℕ). Lasts S E m (after S E c r)) e (here-kept S E L c r (y .follows .1 .ok-shelf) (copy-fits S E L ms wf c (h .0)) w))
-  answered-kept n (c ∷ cs) r p h y (later a) = answered-kept n cs (after S E c r) p (h .1) (after-ready c r (h .0) y) a
 
   -- with true copies 14 is never answered
   pub none-differs : (cs : List Rec) (r : State S E) → Every (Copy ms) cs → Follows S E ms s0 b0 r → count 14 (said S E cs r) ≡ 0
@@ -153,9 +144,10 @@ module _ (S : Store) (E : Engine) (L : Laws S E) (ms : List (List ℕ)) (wf : We
 
   pub second-half : (r0 : State S E) (cs : List Rec) (j : ℕ) → Ready S E ms s0 b0 r0 → Every (Copy ms) cs → ((n : ℕ) → s0 < n → n ≤ j → Answered S E n cs r0)
       → (j < run S E cs r0 .next) ⊎ Named S E ms s0 b0 (run S E cs r0)
+  unfolding Follows
   second-half r0 cs j y h all =
       reached (run S E cs r0) j (run-ready cs r0 h y)
-      (λ past l. answered-kept (run S E cs r0 .next) cs r0 (omega arith) h y (all _ past l))
+      (λ past l. answered-kept S E L (run S E cs r0 .next) cs r0 (omega arith) (every-map (Copy ms) Fitting (copy-fits S E L ms wf) cs h) (y .follows .1 .ok-shelf) (all _ past l))
 
 -- a start is ready for any list
 pub start-ready : (S : Store) (E : Engine) (L : Laws S E) (ms : List (List ℕ)) (wf : WellFormed (E .good) ms) (b0 : E .Book) (r : State S E) → Zeroed S E b0 r → Ready S E ms 0 b0 r

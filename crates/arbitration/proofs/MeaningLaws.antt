@@ -13,15 +13,17 @@ use Rattle.facts.specs.Pick.{pick}
 use Rattle.wire.specs.Records.{Rec}
 use Rattle.arbitration.specs.Slots.{Slot, emptySlot, slotFor, slotBody, Fits}
 use Rattle.arbitration.specs.Engine.{ok, broke, Engine, Store, StoreLaws, Laws}
-use Rattle.arbitration.specs.Receive.{Answer, taken, old, tooFar, repeated, differing, judge, Try, nothing, stuck, goes, ofApplied, goodSlot, State, try, stop, turned, drain, shelved, judged, acted, after, run, said}
-use Rattle.arbitration.specs.Lists.{Every, Numbered, Bounded, Copy, msg, WellFormed, here, later, Answered}
+use Rattle.arbitration.specs.Receive.{Answer, taken, old, tooFar, repeated, differing, judge, Try, nothing, stuck, goes, ofApplied, goodSlot, State, try, stop, turned, drain, shelved, judged, acted, after, run}
+use Rattle.arbitration.specs.Lists.{Every, Numbered, Bounded, Copy, msg, WellFormed, Answered}
 use Rattle.arbitration.specs.Meaning.{Means, Meant, none, more, Faithful, SlotMeans, Close, close}
 use Rattle.arbitration.proofs.Window.{slot-lt}
-use Rattle.arbitration.proofs.SlotLaws.{empty-fits, slotFor-fits, body-back}
-use Rattle.arbitration.proofs.Turns.{short-good, drain-keeps}
-use Rattle.arbitration.proofs.Answers.{judge-taken, shows, after-of, after-cases, run-keeps}
+use Rattle.arbitration.proofs.SlotLaws.{empty-fits, body-back}
+use Rattle.arbitration.proofs.Turns.{short-good}
+use Rattle.arbitration.proofs.Answers.{judge-taken, shows, after-of}
 use Rattle.arbitration.proofs.Invariant.{Follows, msg-short}
-use Rattle.arbitration.proofs.Settled.{Held, Lasts, after-kept, here-kept}
+use Rattle.arbitration.proofs.Packets.{every-map}
+use Rattle.arbitration.proofs.Range.{bounded-fits}
+use Rattle.arbitration.proofs.Settled.{Fitting, Held, Lasts, answered-kept}
 use Rattle.arbitration.proofs.Halves.{Made, Named, Ready, run-ready, reached, first-half}
 
 module _ (E : Engine) where
@@ -84,13 +86,10 @@ module _ (S : Store) (E : Engine) (L : StoreLaws S) where
   abbrev rec : ℕ → List ℕ → Rec
   rec n b = record { number = n; body = b }
 
-  fits : (n : ℕ) (b : List ℕ) → Bounded (rec n b) → Fits (slotFor n b)
-  fits n b w = slotFor-fits n b (omega (arith, w .number-to)) (w .short)
-
   shelve-close : {r q : State S E} (n : ℕ) (b c : List ℕ) → Bounded (rec n b) → Bounded (rec n c) → Means E b c → Close S E r q → Close S E (shelved S E (rec n b) r) (shelved S E (rec n c) q)
   shelve-close n b c wb wc m (close i k {s = s} {t = t} o p h) =
-      close i k (L .ok-put s (n % 64) (slotFor n b) o (slot-lt n) (fits n b wb)) (L .ok-put t (n % 64) (slotFor n c) p (slot-lt n) (fits n c wc))
-      (put-close s t (n % 64) (slotFor n b) (slotFor n c) o p (slot-lt n) (fits n b wb) (fits n c wc) (slots-for E n b c (wb .short) (wc .short) m) h)
+      close i k (L .ok-put s (n % 64) (slotFor n b) o (slot-lt n) (bounded-fits (rec n b) wb)) (L .ok-put t (n % 64) (slotFor n c) p (slot-lt n) (bounded-fits (rec n c) wc))
+      (put-close s t (n % 64) (slotFor n b) (slotFor n c) o p (slot-lt n) (bounded-fits (rec n b) wb) (bounded-fits (rec n c) wc) (slots-for E n b c (wb .short) (wc .short) m) h)
 
   -- both are taken or neither is
   taken-too : (next n : ℕ) (b c : List ℕ) (s t : Slot) → t .number ≡ s .number → judge next s (rec n b) ≡ taken → judge next t (rec n c) ≡ taken
@@ -159,20 +158,6 @@ trueOf ms [] = []
 trueOf ms (c ∷ cs) = record { number = c .number; body = msg ms (c .number) } ∷ trueOf ms cs
 
 module _ (S : Store) (E : Engine) (L : Laws S E) where
-  -- what is answered as taken, repeated or old is kept, whatever the bodies say
-  after-ok : (c : Rec) (r : State S E) → Bounded c → S .Ok (r .shelf) → S .Ok (after S E c r .shelf)
-  after-ok c r w o =
-      after-cases S E (λ (q : State S E). S .Ok (q .shelf)) c r o
-      (λ _. drain-keeps S E (λ (q : State S E). S .Ok (q .shelf)) (λ q b g p. L .store .ok-put (q .shelf) (q .next % 64) emptySlot p (slot-lt (q .next)) empty-fits) 64 (shelved S E c r)
-      (L .store .ok-put (r .shelf) (c .number % 64) (slotFor (c .number) (c .body)) o (slot-lt (c .number)) (fits S E (L .store) (c .number) (c .body) w)))
-
-  answered-lasts : (n : ℕ) (cs : List Rec) (r : State S E) → 1 ≤ n → Every Bounded cs → S .Ok (r .shelf) → Answered S E n cs r → Lasts S E n (run S E cs r)
-  unfolding run said
-  answered-lasts n (c ∷ cs) r p h o (here e w) =
-      run-keeps S E (Lasts S E n) Bounded (λ c r b v. after-kept S E L n c r p (fits S E (L .store) (c .number) (c .body) b) v) cs (after S E c r) (h .1)
-      (subst (λ (m : ℕ). Lasts S E m (after S E c r)) e (here-kept S E L c r o (fits S E (L .store) (c .number) (c .body) (h .0)) w))
-  answered-lasts n (c ∷ cs) r p h o (later a) = answered-lasts n cs (after S E c r) p (h .1) (after-ok c r (h .0) o) a
-
   lasts-close : (n : ℕ) {r q : State S E} → Close S E r q → Lasts S E n q → Lasts S E n r
   unfolding Lasts Held
   lasts-close n (close i k {s = s} {t = t} o p h) (_, inl l) = (o, inl l)
@@ -229,7 +214,7 @@ module _ (S : Store) (E : Engine) (L : Laws S E) where
       pub faithful-second : (j : ℕ) → ((i : ℕ) → s0 < i → i ≤ j → Answered S E i cs r0) → (j < run S E cs r0 .next) ⊎ Named S E ms s0 b0 (run S E cs r0)
       faithful-second j all =
           go (reached S E L ms wf s0 b0 ideal j (run-ready S E L ms wf s0 b0 (trueOf ms cs) r0 (true-copies cs n h) y)
-          (λ past l. lasts-close (ideal .next) near (answered-lasts (ideal .next) cs r0 (omega arith) w start-ok (all (ideal .next) past l))))
+          (λ past l. lasts-close (ideal .next) near (answered-kept S E L (ideal .next) cs r0 (omega arith) (every-map Bounded Fitting bounded-fits cs w) start-ok (all (ideal .next) past l))))
         where
           go : (j < ideal .next) ⊎ Named S E ms s0 b0 ideal → (j < run S E cs r0 .next) ⊎ Named S E ms s0 b0 (run S E cs r0)
           go (inl l) = inl (rw (same .next-same) l)

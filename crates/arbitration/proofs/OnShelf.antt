@@ -11,12 +11,13 @@ use lib.ListN.{length, getD}
 use Rattle.wire.specs.Le.{padded}
 use Rattle.wire.specs.Records.{Rec}
 use Rattle.wire.proofs.Laws.{length-padded, getD-padded}
-use Rattle.arbitration.specs.Slots.{Slot, emptySlot, slotFor, slotBody, sameSlot, Fits}
+use Rattle.arbitration.specs.Slots.{Slot, emptySlot, slotFor, slotBody, sameSlot}
 use Rattle.arbitration.specs.Engine.{Engine, Store, StoreLaws}
 use Rattle.arbitration.specs.Receive.{taken, old, repeated, differing, State, slotOf, turned, drain, shelved, judged, after, run}
 use Rattle.arbitration.specs.Lists.{Every, Bounded}
 use Rattle.arbitration.proofs.Window.{slot-lt, same-slot}
-use Rattle.arbitration.proofs.SlotLaws.{empty-fits, slotFor-fits, body-back, bytes-differ, slots-differ, same-refl, same-eq}
+use Rattle.arbitration.proofs.SlotLaws.{empty-fits, body-back, bytes-differ, slots-differ, same-refl, same-eq}
+use Rattle.arbitration.proofs.Range.{bounded-fits}
 use Rattle.arbitration.proofs.Turns.{Went, drain-keeps}
 use Rattle.arbitration.proofs.Answers.{judge-old, judge-repeated, judge-differing, shows, after-of, after-cases, run-keeps}
 
@@ -62,9 +63,6 @@ module _ (S : Store) (E : Engine) where
 
   -- ---- "kept on the shelf as they came"
   module _ (L : StoreLaws S) where
-    record-fits : (c : Rec) → Bounded c → Fits (slotFor (c .number) (c .body))
-    record-fits c w = slotFor-fits (c .number) (c .body) (omega (arith, w .number-to)) (w .short)
-
     -- message n with body b came, and unless next has passed it, it waits in its slot
     pub record Came (n : ℕ) (b : List ℕ) (r : State S E) : Type 0 where
       pub ok-shelf : S .Ok (r .shelf)
@@ -91,14 +89,14 @@ module _ (S : Store) (E : Engine) where
       shelve-came : (c : Rec) (r : State S E) → Bounded c → judged S E c r ≡ taken → Came n b r → Came n b (shelved S E c r)
       shelve-came c r w e v =
           record {
-            ok-shelf = L .ok-put (r .shelf) (c .number % 64) (slotFor (c .number) (c .body)) (v .ok-shelf) (slot-lt (c .number)) (record-fits c w);
+            ok-shelf = L .ok-put (r .shelf) (c .number % 64) (slotFor (c .number) (c .body)) (v .ok-shelf) (slot-lt (c .number)) (bounded-fits c w);
             below = v .below;
             waits = λ from.
                 L .get-other (r .shelf) (c .number % 64) (n % 64) (slotFor (c .number) (c .body)) (v .ok-shelf) (slot-lt (c .number)) (slot-lt n)
                 (λ q.
                 let mine : slotOf S E r n .number ≡ n = ap (λ (s : Slot). s .number) (v .waits from) in
                 let free : slotOf S E r n .number ≡ 0 = ap (λ (i : ℕ). S .get (r .shelf) i .number) q ∙ shows (r .next) (slotOf S E r (c .number)) c taken e .2 in
-                omega arith) (record-fits c w)
+                omega arith) (bounded-fits c w)
                 ∙ v .waits from;
           }
 
@@ -114,7 +112,7 @@ module _ (S : Store) (E : Engine) where
         rw (after-of S E c r taken e)
         (drain-came (c .number) (c .body) some 64 (shelved S E c r)
         (record {
-          ok-shelf = L .ok-put (r .shelf) (c .number % 64) (slotFor (c .number) (c .body)) o (slot-lt (c .number)) (record-fits c w);
+          ok-shelf = L .ok-put (r .shelf) (c .number % 64) (slotFor (c .number) (c .body)) o (slot-lt (c .number)) (bounded-fits c w);
           below = shows (r .next) (slotOf S E r (c .number)) c taken e .1;
-          waits = λ from. L .get-same (r .shelf) (c .number % 64) (slotFor (c .number) (c .body)) o (slot-lt (c .number)) (record-fits c w);
+          waits = λ from. L .get-same (r .shelf) (c .number % 64) (slotFor (c .number) (c .body)) o (slot-lt (c .number)) (bounded-fits c w);
         }))

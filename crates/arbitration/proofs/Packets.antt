@@ -9,6 +9,10 @@ use Rattle.arbitration.specs.Receive.{recordsOf, accepted, State, run, w
 use Rattle.arbitration.specs.Lists.{Every}
 use Rattle.arbitration.proofs.Answers.{run-append}
 
+pub every-map : {A : Type 0} (P Q : A → Type 0) → ((x : A) → P x → Q x) → (a : List A) → Every P a → Every Q a
+every-map P Q f [] h = tt
+every-map P Q f (x ∷ a) h = (f x (h .0), every-map P Q f a (h .1))
+
 pub every-append : {A : Type 0} (P : A → Type 0) (a b : List A) → Every P a → Every P b → Every P (a ++ b)
 every-append P [] b h k = k
 every-append P (x ∷ a) b h k = (h .0, every-append P a b (h .1) k)

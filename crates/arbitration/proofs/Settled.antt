@@ -2,18 +2,23 @@
 -- that was answered as taken, repeated or old is lost: it is behind next, or its slot holds it.
 -- Assumes nothing.
 use Prim.Native.Nat.{ℕ, zero, suc, _+_, _%_, _≤_, _<_}
-use mathlib.Core.Path.{_≡_, refl, sym, ap, _∙_}
+use mathlib.Core.Path.{_≡_, refl, sym, ap, subst, _∙_}
 use mathlib.Core.Logic.{_≢_, _⊎_, inl, inr}
+use mathlib.Core.List.{List, _∷_}
 use native.Mathlib.Omega.{arith}
 use Rattle.wire.specs.Records.{Rec}
 use Rattle.arbitration.specs.Slots.{Slot, emptySlot, slotFor, Fits}
 use Rattle.arbitration.specs.Engine.{Engine, Store, Laws}
-use Rattle.arbitration.specs.Receive.{Answer, taken, old, repeated, Try, nothing, stuck, goes, State, slotOf, try, turned, drain, shelved, judged, acted, after}
-use Rattle.arbitration.specs.Lists.{Arrived, by-taken, by-old, by-repeated}
+use Rattle.arbitration.specs.Receive.{Answer, taken, old, repeated, Try, nothing, stuck, goes, State, slotOf, try, turned, drain, shelved, judged, acted, after, run, said}
+use Rattle.arbitration.specs.Lists.{Every, Arrived, by-taken, by-old, by-repeated, here, later, Answered}
 use Rattle.arbitration.proofs.Window.{slot-lt, slot-wrap}
 use Rattle.arbitration.proofs.SlotLaws.{empty-fits, same-number, put-at}
 use Rattle.arbitration.proofs.Turns.{nothing≢goes, stuck≢goes, Went, try-goes, drain-keeps}
-use Rattle.arbitration.proofs.Answers.{shows, after-cases}
+use Rattle.arbitration.proofs.Answers.{shows, after-cases, run-keeps}
+
+-- a record that its slot can hold
+abbrev pub Fitting : Rec → Type 0
+Fitting c = Fits (slotFor (c .number) (c .body))
 
 module _ (S : Store) (E : Engine) where
   -- nothing more can be applied
@@ -56,7 +61,7 @@ module _ (S : Store) (E : Engine) (L : Laws S E) where
   pub drained : (r : State S E) → S .Ok (r .shelf) → Settled S E (drain S E 64 r)
   drained r o = drain-settles 64 r (record { ok-shelf = o; rest-free = λ m h l. absurd (omega arith) })
 
-  pub after-settled : (c : Rec) (r : State S E) → Fits (slotFor (c .number) (c .body)) → S .Ok (r .shelf) → Settled S E r → Settled S E (after S E c r)
+  pub after-settled : (c : Rec) (r : State S E) → Fitting c → S .Ok (r .shelf) → Settled S E r → Settled S E (after S E c r)
   after-settled c r fit o s = after-cases S E (Settled S E) c r s (λ e. drained (shelved S E c r) (L .store .ok-put _ _ _ o (slot-lt (c .number)) fit))
 
   -- ---- a number that came is kept
@@ -80,7 +85,7 @@ module _ (S : Store) (E : Engine) (L : Laws S E) where
   pub drain-kept : (n f : ℕ) (r : State S E) → Lasts S E n r → Lasts S E n (drain S E f r)
   drain-kept n f r v = drain-keeps S E (Lasts S E n) (turn-kept n) f r v
 
-  shelve-kept : (n : ℕ) (c : Rec) (r : State S E) → 1 ≤ n → Fits (slotFor (c .number) (c .body)) → judged S E c r ≡ taken → Lasts S E n r → Lasts S E n (shelved S E c r)
+  shelve-kept : (n : ℕ) (c : Rec) (r : State S E) → 1 ≤ n → Fitting c → judged S E c r ≡ taken → Lasts S E n r → Lasts S E n (shelved S E c r)
   unfolding Lasts Held
   shelve-kept n c r p fit e (o, h) = (
     L .store .ok-put _ _ _ o (slot-lt (c .number)) fit,
@@ -93,11 +98,11 @@ module _ (S : Store) (E : Engine) (L : Laws S E) where
           let z : n ≡ 0 = sym s ∙ ap (λ (i : ℕ). S .get (r .shelf) i .number) q ∙ shows (r .next) (slotOf S E r (c .number)) c taken e .2 in
           absurd (omega arith)
 
-  pub after-kept : (n : ℕ) (c : Rec) (r : State S E) → 1 ≤ n → Fits (slotFor (c .number) (c .body)) → Lasts S E n r → Lasts S E n (after S E c r)
+  pub after-kept : (n : ℕ) (c : Rec) (r : State S E) → 1 ≤ n → Fitting c → Lasts S E n r → Lasts S E n (after S E c r)
   after-kept n c r p fit v = after-cases S E (Lasts S E n) c r v (λ e. drain-kept n 64 (shelved S E c r) (shelve-kept n c r p fit e v))
 
   -- what is answered so is kept from there on
-  pub here-kept : (c : Rec) (r : State S E) → S .Ok (r .shelf) → Fits (slotFor (c .number) (c .body)) → Arrived (judged S E c r) → Lasts S E (c .number) (after S E c r)
+  pub here-kept : (c : Rec) (r : State S E) → S .Ok (r .shelf) → Fitting c → Arrived (judged S E c r) → Lasts S E (c .number) (after S E c r)
   unfolding after Lasts Held
   here-kept c r o fit w = go (judged S E c r) refl w
     where
@@ -109,3 +114,17 @@ module _ (S : Store) (E : Engine) (L : Laws S E) where
           )
       go old e by-old = (o, inl (shows (r .next) (slotOf S E r (c .number)) c old e))
       go repeated e by-repeated = (o, inr (same-number _ _ (shows (r .next) (slotOf S E r (c .number)) c repeated e .2)))
+
+  -- ---- a run of records that fit their slots, whatever their bodies say
+  after-ok : (c : Rec) (r : State S E) → Fitting c → S .Ok (r .shelf) → S .Ok (after S E c r .shelf)
+  after-ok c r fit o =
+      after-cases S E (λ (q : State S E). S .Ok (q .shelf)) c r o
+      (λ _. drain-keeps S E (λ (q : State S E). S .Ok (q .shelf)) (λ q b w p. L .store .ok-put _ _ emptySlot p (slot-lt (q .next)) empty-fits) 64 (shelved S E c r)
+      (L .store .ok-put _ _ _ o (slot-lt (c .number)) fit))
+
+  pub answered-kept : (n : ℕ) (cs : List Rec) (r : State S E) → 1 ≤ n → Every Fitting cs → S .Ok (r .shelf) → Answered S E n cs r → Lasts S E n (run S E cs r)
+  unfolding run said
+  answered-kept n (c ∷ cs) r p h o (here e w) =
+      run-keeps S E (Lasts S E n) Fitting (λ c r fit v. after-kept n c r p fit v) cs (after S E c r) (h .1)
+      (subst (λ (m : ℕ). Lasts S E m (after S E c r)) e (here-kept c r o (h .0) w))
+  answered-kept n (c ∷ cs) r p h o (later a) = answered-kept n cs (after S E c r) p (h .1) (after-ok c r (h .0) o) a

@@ -88,6 +88,12 @@ module _ (b : List ℕ) (x : ℕ) where
           let q : Body.Refused (refusal 4) ≡ Body.Modify m = sym (rw e at (read-framed Kind.Modify b (w .0))) ∙ h in
           cc
 
+-- the flags of a good Modify are its byte 29
+flags-at : (b : List ℕ) (m : ModifyOrder) → readBody b ≡ Body.Modify m → (29 < length b) × (m .flags ≡ getD b 29 0)
+flags-at b m h =
+    let w : Sound (Body.Modify m) b = rw h at (read-sound b) in
+    (modify-long b (w .0), ap (λ (x : ModifyOrder). x .flags) (w .1))
+
 set-twice : (l : List ℕ) (i x y : ℕ) → set (set l i x) i y ≡ set l i y
 set-twice [] i x y = refl
 set-twice (a ∷ l) zero x y = refl
@@ -105,21 +111,19 @@ module _ (b c : List ℕ) (o : OnlyBits b c) where
   -- and they are not the same bytes
   pub bits-apart : getD b 29 0 ≢ getD c 29 0
   bits-apart e =
-      let w : Sound (Body.Modify (o .modify)) b = rw (o .first) at (read-sound b) in
-      let old : o .modify .flags ≡ getD b 29 0 = ap (λ (m : ModifyOrder). m .flags) (w .1) in
-      let new : getD c 29 0 ≡ o .flags = ap (λ (l : List ℕ). getD l 29 0) (o .second) ∙ getD-set-same b 29 (o .flags) 0 (modify-long b (w .0)) in
-      o .differ (sym (old ∙ e ∙ new))
+      let here = flags-at b (o .modify) (o .first) in
+      let new : getD c 29 0 ≡ o .flags = ap (λ (l : List ℕ). getD l 29 0) (o .second) ∙ getD-set-same b 29 (o .flags) 0 (here .0) in
+      o .differ (sym (here .1 ∙ e ∙ new))
 
   -- nor does it matter which of them is called the first
   pub bits-turned : OnlyBits c b
   bits-turned =
-      let w : Sound (Body.Modify (o .modify)) b = rw (o .first) at (read-sound b) in
-      let old : o .modify .flags ≡ getD b 29 0 = ap (λ (m : ModifyOrder). m .flags) (w .1) in
+      let back : flagged b (o .modify .flags) ≡ b = ap (flagged b) (flags-at b (o .modify) (o .first) .1) ∙ set-getD b 29 0 in
       record {
         modify = withFlags (o .modify) (o .flags);
         flags = o .modify .flags;
         first = bits-read;
-        second = sym (ap (λ (l : List ℕ). flagged l (o .modify .flags)) (o .second) ∙ set-twice b 29 (o .flags) (o .modify .flags) ∙ ap (flagged b) old ∙ set-getD b 29 0);
+        second = sym (ap (λ (l : List ℕ). flagged l (o .modify .flags)) (o .second) ∙ set-twice b 29 (o .flags) (o .modify .flags) ∙ back);
         bit-0 = sym (o .bit-0);
         differ = λ e. o .differ (sym e);
       }

@@ -4,7 +4,7 @@
 use Prim.Native.Nat.{ℕ, _-_, _≤_, _<_}
 use mathlib.Core.Path.{_≡_, sym, ap, subst, _∙_}
 use mathlib.Core.Logic.{_⊎_, inl, inr}
-use mathlib.Core.List.{List, [], _∷_}
+use mathlib.Core.List.{List}
 use native.Mathlib.Omega.{arith}
 use native.Mathlib.Decide.{decLt}
 use lib.Dec.{eqb}
@@ -23,7 +23,7 @@ use Rattle.arbitration.specs.Receive.{taken, old, differing, accepted, judged, 
 use Rattle.arbitration.specs.Lists.{Every, Numbered, Bounded}
 use Rattle.arbitration.specs.Meaning.{Means, Faithful}
 use Rattle.arbitration.proofs.Halves.{Made, Named, Ready, start-ready}
-use Rattle.arbitration.proofs.Packets.{every-accepted}
+use Rattle.arbitration.proofs.Packets.{every-map, every-accepted}
 use Rattle.arbitration.proofs.OnShelf.{Came, copy-old, copy-differs, run-came, taken-came}
 use Rattle.arbitration.proofs.MeaningLaws.{faithful-first, faithful-second}
 use Rattle.shelf.specs.Store.{shelfStore}
@@ -45,8 +45,7 @@ bits-mean b c (inr o) =
     }
 
 all-faithful : (ms : List (List ℕ)) (cs : List Rec) → Every (BitCopy ms) cs → Every (Faithful bookEngine ms) cs
-all-faithful ms [] h = tt
-all-faithful ms (c ∷ cs) h = (record { in-list = h .0 .in-list; means = bits-mean _ _ (h .0 .same) }, all-faithful ms cs (h .1))
+all-faithful ms cs h = every-map (BitCopy ms) (Faithful bookEngine ms) (λ c x. record { in-list = x .in-list; means = bits-mean _ _ (x .same) }) cs h
 
 -- both halves of demand 3, of copies that differ from the list in undefined bits
 module _ (ms : List (List ℕ)) (o s : ℕ) (k0 : Lent) (ps : List (List ℕ)) (g : GivenBits ms o s k0 ps) where
