@@ -123,7 +123,7 @@ module _ (S : Store) (E : Engine) (L : Laws S E) (ms : List (List ℕ)) (wf : We
                 breaks = rw (stop-stuck S E r q (full ∙ ap ofApplied w)) (made-suc E ms s0 b0 k (r .book) (v .book-is) ∙ cc (nx, me .body-is, w));
               }
 
-  -- a number of which it is kept that it came: next is past it, or the message of next is named
+  -- next is past j; or, where what is answered as next is kept, its message is named
   pub reached : (r : State S E) (j : ℕ) → Ready S E ms s0 b0 r → (s0 < r .next → r .next ≤ j → Lasts S E (r .next) r) → (j < r .next) ⊎ Named S E ms s0 b0 r
   unfolding Lasts Held Follows
   reached r j y all = go (decLt j (r .next))

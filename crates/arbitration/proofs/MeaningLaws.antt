@@ -1,26 +1,27 @@
 -- Records that mean the same leave receivers with the same next, the same book and the same stop, whichever bytes came first: each turn tries slots that mean
 -- the same, and where one copy repeats and the other differs neither changes anything.
 -- Assumes nothing.
-use Prim.Native.Nat.{ℕ, zero, suc, _+_, _%_, _≤_, _<_}
+use Prim.Native.Nat.{ℕ, zero, suc, max, _+_, _%_, _≤_, _<_}
 use mathlib.Core.Path.{_≡_, refl, sym, ap, subst, _∙_}
 use mathlib.Core.Logic.{_⊎_, inl, inr}
+use mathlib.Core.Bool.{true}
 use mathlib.Core.List.{List, [], _∷_}
 use native.Mathlib.Omega.{arith}
 use native.Mathlib.Decide.{ℕ-discrete}
 use lib.Dec.{eqb}
 use lib.ListN.{length}
 use Rattle.facts.specs.Pick.{pick}
-use Rattle.wire.specs.Records.{Rec}
+use Rattle.wire.specs.Records.{Rec, rec}
 use Rattle.arbitration.specs.Slots.{Slot, emptySlot, slotFor, slotBody, Fits}
 use Rattle.arbitration.specs.Engine.{ok, broke, Engine, Store, StoreLaws, Laws}
-use Rattle.arbitration.specs.Receive.{Answer, taken, old, tooFar, repeated, differing, judge, Try, nothing, stuck, goes, ofApplied, goodSlot, State, try, stop, turned, drain, shelved, judged, acted, after, run}
+use Rattle.arbitration.specs.Receive.{Answer, taken, old, tooFar, repeated, differing, judge, Try, nothing, stuck, goes, ofApplied, goodSlot, highest, State, try, stop, turned, drain, shelved, judged, acted, after, run}
 use Rattle.arbitration.specs.Lists.{Every, Numbered, Bounded, Copy, msg, WellFormed, Answered}
 use Rattle.arbitration.specs.Meaning.{Means, Meant, none, more, Faithful, SlotMeans, Close, close}
 use Rattle.arbitration.proofs.Window.{slot-lt}
 use Rattle.arbitration.proofs.SlotLaws.{empty-fits, body-back}
 use Rattle.arbitration.proofs.Turns.{short-good}
 use Rattle.arbitration.proofs.Answers.{judge-taken, shows, after-of}
-use Rattle.arbitration.proofs.Invariant.{Follows, msg-short}
+use Rattle.arbitration.proofs.Invariant.{Follows, msg-good, msg-short}
 use Rattle.arbitration.proofs.Packets.{every-map}
 use Rattle.arbitration.proofs.Range.{bounded-fits}
 use Rattle.arbitration.proofs.Settled.{Fitting, Held, Lasts, answered-kept}
@@ -40,6 +41,13 @@ module _ (E : Engine) where
         as-good = short-good E (slotFor n c) lc ∙ ap (E .good) y ∙ m .as-good ∙ ap (E .good) (sym x) ∙ sym (short-good E (slotFor n b) lb);
         as-applied = λ i k. ap (λ (z : List ℕ). E .apply i z k) y ∙ m .as-applied i k ∙ ap (λ (z : List ℕ). E .apply i z k) (sym x);
       }
+
+-- what close receivers agree in: of all that a packet's answer tells, the counts of 10 to 14 alone are left out
+pub record Agrees (S : Store) (E : Engine) (r q : State S E) : Type 0 where
+  pub next-same : q .next ≡ r .next
+  pub book-same : q .book ≡ r .book
+  pub stop-same : stop S E q ≡ stop S E r
+  pub top-same : highest S 64 (q .shelf) ≡ highest S 64 (r .shelf)
 
 module _ (S : Store) (E : Engine) (L : StoreLaws S) where
   -- what a slot has to offer at a number
@@ -83,15 +91,12 @@ module _ (S : Store) (E : Engine) (L : StoreLaws S) where
       go (goes b) ih = ih (turned S E r b) (turned S E q b) (turn-close b c)
 
   -- ---- one record
-  abbrev rec : ℕ → List ℕ → Rec
-  rec n b = record { number = n; body = b }
-
   shelve-close : {r q : State S E} (n : ℕ) (b c : List ℕ) → Bounded (rec n b) → Bounded (rec n c) → Means E b c → Close S E r q → Close S E (shelved S E (rec n b) r) (shelved S E (rec n c) q)
   shelve-close n b c wb wc m (close i k {s = s} {t = t} o p h) =
       close i k (L .ok-put s (n % 64) (slotFor n b) o (slot-lt n) (bounded-fits (rec n b) wb)) (L .ok-put t (n % 64) (slotFor n c) p (slot-lt n) (bounded-fits (rec n c) wc))
       (put-close s t (n % 64) (slotFor n b) (slotFor n c) o p (slot-lt n) (bounded-fits (rec n b) wb) (bounded-fits (rec n c) wc) (slots-for E n b c (wb .short) (wc .short) m) h)
 
-  -- both are taken or neither is
+  -- what one slot lets be taken, the other does
   taken-too : (next n : ℕ) (b c : List ℕ) (s t : Slot) → t .number ≡ s .number → judge next s (rec n b) ≡ taken → judge next t (rec n c) ≡ taken
   taken-too next n b c s t e h = let w = shows next s (rec n b) taken h in judge-taken next t (rec n c) (w .0) (w .1) (e ∙ w .2)
 
@@ -132,15 +137,14 @@ module _ (S : Store) (E : Engine) (L : StoreLaws S) where
   pub close-itself : (r : State S E) → S .Ok (r .shelf) → Close S E r r
   close-itself r o = close (r .next) (r .book) o o (λ i l. slot-itself E (S .get (r .shelf) i))
 
-  -- what close receivers agree in
-  pub record Agrees (r q : State S E) : Type 0 where
-    pub next-same : q .next ≡ r .next
-    pub book-same : q .book ≡ r .book
-    pub stop-same : stop S E q ≡ stop S E r
+  highest-same : (s t : S .Shelf) → ((i : ℕ) → i < 64 → SlotMeans E (S .get s i) (S .get t i)) → (i : ℕ) → i ≤ 64 → highest S i t ≡ highest S i s
+  unfolding highest
+  highest-same s t h zero l = refl
+  highest-same s t h (suc i) l = λ j. max (highest-same s t h i (omega arith) j) (h i l .number-same j)
 
-  pub close-agrees : {r q : State S E} → Close S E r q → Agrees r q
+  pub close-agrees : {r q : State S E} → Close S E r q → Agrees S E r q
   unfolding stop
-  close-agrees {r} {q} d = record { next-same = nexts d; book-same = books d; stop-same = ap (λ (t : Try (E .Book)). elim t [ nothing ↦ 0 | stuck x ↦ x | goes b ↦ 0 ]) (try-close d) }
+  close-agrees {r} {q} d = record { next-same = nexts d; book-same = books d; top-same = tops d; stop-same = ap (λ (t : Try (E .Book)). elim t [ nothing ↦ 0 | stuck x ↦ x | goes b ↦ 0 ]) (try-close d) }
     where
       nexts : {r q : State S E} → Close S E r q → q .next ≡ r .next
       nexts (close n k o p h) = refl
@@ -148,14 +152,17 @@ module _ (S : Store) (E : Engine) (L : StoreLaws S) where
       books : {r q : State S E} → Close S E r q → q .book ≡ r .book
       books (close n k o p h) = refl
 
+      tops : {r q : State S E} → Close S E r q → highest S 64 (q .shelf) ≡ highest S 64 (r .shelf)
+      tops (close n k {s = s} {t = t} o p h) = highest-same s t h 64 (omega arith)
+
   -- the same receiver, given records that mean the same, whatever it answers to them
-  pub meant-alike : (r : State S E) (bs cs : List Rec) → S .Ok (r .shelf) → Meant E bs cs → Every Bounded bs → Every Bounded cs → Agrees (run S E bs r) (run S E cs r)
+  pub meant-alike : (r : State S E) (bs cs : List Rec) → S .Ok (r .shelf) → Meant E bs cs → Every Bounded bs → Every Bounded cs → Agrees S E (run S E bs r) (run S E cs r)
   meant-alike r bs cs o m hb hc = close-agrees (run-close bs cs m hb hc (close-itself r o))
 
 -- ---- demand 3 of copies that mean what the list's messages mean: a run of them is close to the run of the true copies
 trueOf : List (List ℕ) → List Rec → List Rec
 trueOf ms [] = []
-trueOf ms (c ∷ cs) = record { number = c .number; body = msg ms (c .number) } ∷ trueOf ms cs
+trueOf ms (c ∷ cs) = rec (c .number) (msg ms (c .number)) ∷ trueOf ms cs
 
 module _ (S : Store) (E : Engine) (L : Laws S E) where
   lasts-close : (n : ℕ) {r q : State S E} → Close S E r q → Lasts S E n q → Lasts S E n r
@@ -181,7 +188,17 @@ module _ (S : Store) (E : Engine) (L : Laws S E) where
     true-bounded (c ∷ cs) n h =
         (record { number-to = n .0 .number-to; short = msg-short S E L ms wf (c .number) (n .0 .number-from) (h .0 .in-list) }, true-bounded cs (n .1) (h .1))
 
-    module _ (s0 : ℕ) (b0 : E .Book) (r0 : State S E) (cs : List Rec) (y : Ready S E ms s0 b0 r0) (n : Every Numbered cs) (w : Every Bounded cs) (h : Every (Faithful E ms) cs) where
+    -- what means a good message is good, so it fits
+    all-bounded : (cs : List Rec) → Every Numbered cs → Every (Faithful E ms) cs → Every Bounded cs
+    all-bounded [] n h = tt
+    all-bounded (c ∷ cs) n h =
+        let good : E .good (c .body) ≡ true = h .0 .means .as-good ∙ msg-good S E L ms wf (c .number) (n .0 .number-from) (h .0 .in-list) in
+        (record { number-to = n .0 .number-to; short = L .engine .good-fits (c .body) good }, all-bounded cs (n .1) (h .1))
+
+    module _ (s0 : ℕ) (b0 : E .Book) (r0 : State S E) (cs : List Rec) (y : Ready S E ms s0 b0 r0) (n : Every Numbered cs) (h : Every (Faithful E ms) cs) where
+      w : Every Bounded cs
+      w = all-bounded cs n h
+
       abbrev ideal : State S E
       ideal = run S E (trueOf ms cs) r0
 
@@ -192,7 +209,7 @@ module _ (S : Store) (E : Engine) (L : Laws S E) where
       near : Close S E ideal (run S E cs r0)
       near = run-close S E (L .store) (trueOf ms cs) cs (true-meant cs h) (true-bounded cs n h) w (close-itself S E (L .store) r0 start-ok)
 
-      same : Agrees S E (L .store) ideal (run S E cs r0)
+      same : Agrees S E ideal (run S E cs r0)
       same = close-agrees S E (L .store) near
 
       pub faithful-first : Made S E ms s0 b0 (run S E cs r0)

@@ -79,10 +79,6 @@ same-eq s t e =
     let y : s .bytes ≡ t .bytes = same-bytes-eq (s .bytes) (t .bytes) (b .1) in
     λ i. record { number = n i; len = l i; bytes = y i }
 
-pub slots-differ : (s t : Slot) → sameBytes (s .bytes) (t .bytes) ≡ false → sameSlot s t ≡ false
-unfolding sameSlot
-slots-differ s t e = rw (e, both-none (eqb (s .len) (t .len)), both-none (eqb (s .number) (t .number)))
-
 -- ---- slot j after a put into slot i: the new slot, or the old one
 module _ (S : Store) (L : StoreLaws S) where
   pub put-at : (s : S .Shelf) (i : ℕ) (x : Slot) → S .Ok s → i < 64 → Fits x

@@ -38,7 +38,7 @@ pub record Numbered (c : Rec) : Type 0 where
   pub number-from : 1 ≤ c .number
   pub number-to : c .number ≤ lastNumber
 
--- a record that fits a slot, with a number in range
+-- a record that fits a slot, its number at most the last
 pub record Bounded (c : Rec) : Type 0 where
   pub number-to : c .number ≤ lastNumber
   pub short : length (c .body) ≤ 64

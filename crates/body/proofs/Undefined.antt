@@ -89,10 +89,8 @@ module _ (b : List ℕ) (x : ℕ) where
           cc
 
 -- the flags of a good Modify are its byte 29
-flags-at : (b : List ℕ) (m : ModifyOrder) → readBody b ≡ Body.Modify m → (29 < length b) × (m .flags ≡ getD b 29 0)
-flags-at b m h =
-    let w : Sound (Body.Modify m) b = rw h at (read-sound b) in
-    (modify-long b (w .0), ap (λ (x : ModifyOrder). x .flags) (w .1))
+flags-at : (b : List ℕ) (m : ModifyOrder) → readBody b ≡ Body.Modify m → m .flags ≡ getD b 29 0
+flags-at b m h = let w : Sound (Body.Modify m) b = rw h at (read-sound b) in ap (λ (x : ModifyOrder). x .flags) (w .1)
 
 set-twice : (l : List ℕ) (i x y : ℕ) → set (set l i x) i y ≡ set l i y
 set-twice [] i x y = refl
@@ -109,16 +107,16 @@ module _ (b c : List ℕ) (o : OnlyBits b c) where
   bits-good = (number-good b (ap bodyNumber (o .first)), number-good c (ap bodyNumber bits-read))
 
   -- and they are not the same bytes
-  pub bits-apart : getD b 29 0 ≢ getD c 29 0
+  pub bits-apart : b ≢ c
   bits-apart e =
-      let here = flags-at b (o .modify) (o .first) in
-      let new : getD c 29 0 ≡ o .flags = ap (λ (l : List ℕ). getD l 29 0) (o .second) ∙ getD-set-same b 29 (o .flags) 0 (here .0) in
-      o .differ (sym (here .1 ∙ e ∙ new))
+      let old : o .modify .flags ≡ getD b 29 0 = flags-at b (o .modify) (o .first) in
+      let new : getD c 29 0 ≡ o .flags = sym (flags-at c (withFlags (o .modify) (o .flags)) bits-read) in
+      o .differ (sym (old ∙ ap (λ (l : List ℕ). getD l 29 0) e ∙ new))
 
   -- nor does it matter which of them is called the first
   pub bits-turned : OnlyBits c b
   bits-turned =
-      let back : flagged b (o .modify .flags) ≡ b = ap (flagged b) (flags-at b (o .modify) (o .first) .1) ∙ set-getD b 29 0 in
+      let back : flagged b (o .modify .flags) ≡ b = ap (flagged b) (flags-at b (o .modify) (o .first)) ∙ set-getD b 29 0 in
       record {
         modify = withFlags (o .modify) (o .flags);
         flags = o .modify .flags;

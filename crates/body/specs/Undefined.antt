@@ -1,4 +1,4 @@
--- Request 2 of document 02: "The specification calls bits 1 to 7 undefined", of the flags of a Modify. What it says of them is said with these words.
+-- Request 2 of document 02: "The specification calls bits 1 to 7 undefined", of the flags of a Modify. The words for what it says of them.
 use Prim.Native.Nat.{ℕ, _%_}
 use mathlib.Core.Path.{_≡_}
 use mathlib.Core.List.{List}

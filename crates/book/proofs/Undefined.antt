@@ -23,9 +23,9 @@ use Rattle.book.specs.Book.{Book, scans, planned, carried, applied}
 use Rattle.book.proofs.Laws.{planned-by, carried-by}
 
 -- bit 0 alone tells the position: other flags with the same bit 0 have the same plan
-plan-same : (m : ModifyOrder) (x n : ℕ) (b c : List ℕ) (t : Clock) (f : Finds) → x % 2 ≡ m .flags % 2 → planBy (Body.Modify (withFlags m x)) n c t f ≡ planBy (Body.Modify m) n b t f
+bit-0-plan : (m : ModifyOrder) (x n : ℕ) (b c : List ℕ) (t : Clock) (f : Finds) → x % 2 ≡ m .flags % 2 → planBy (Body.Modify (withFlags m x)) n c t f ≡ planBy (Body.Modify m) n b t f
 unfolding planBy modifyPlan moves
-plan-same m x n b c t f e =
+bit-0-plan m x n b c t f e =
     ap (λ (bit : ℕ). ofKnown (f .entry (m .symbol)) (λ _. upon (target (f .order (m .order)) (m .symbol)) (λ i r. onRows t (RowWork.Put i (remade (m .price) (m .size) (eqb bit 1) n r))))) e
 
 -- and its effect does not hang on the message's bytes
@@ -47,5 +47,5 @@ bits-applied n b c k o =
     let m : ModifyOrder = o .modify in
     let p : Plan = planBy (Body.Modify m) n b (k .clock) (scans k) in
     let first : planned n b k ≡ p = sym (planned-by (Body.Modify m) n b k (o .first)) in
-    let second : planned n c k ≡ p = sym (planned-by (Body.Modify (withFlags m (o .flags))) n c k (bits-read b c o)) ∙ plan-same m (o .flags) n b c (k .clock) (scans k) (o .bit-0) in
+    let second : planned n c k ≡ p = sym (planned-by (Body.Modify (withFlags m (o .flags))) n c k (bits-read b c o)) ∙ bit-0-plan m (o .flags) n b c (k .clock) (scans k) (o .bit-0) in
     sym (carried-by p n c k second) ∙ modify-unseen m n b c k ∙ carried-by p n b k first

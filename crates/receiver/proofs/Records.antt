@@ -17,9 +17,9 @@ use Rattle.arbitration.specs.Loops.{counted, total, Working, working, work}
 use Rattle.arbitration.specs.declared.Counts.{Counts}
 use Rattle.arbitration.proofs.Answers.{after-next}
 use Rattle.arbitration.proofs.Tallies.{working-of, work-step, work-end}
-use Rattle.receiver.specs.Lent.{rec, answerOf, GoodPacket}
+use Rattle.receiver.specs.Lent.{answerOf, GoodPacket}
 use Rattle.receiver.specs.declared.Answer.{Answer}
-use Rattle.wire.specs.Records.{Rec, records}
+use Rattle.wire.specs.Records.{Rec, records, rec}
 
 counted-total : (a : theory.Answer) (t : Counts) → total (counted a t) ≡ total t + 1
 counted-total theory.taken t = omega arith

@@ -1,9 +1,10 @@
 -- Undefined bits of a Modify's flags over the receiver (request 2): no table hangs on them, so copies that differ in them make the list's tables like true ones; and yet
 -- they tell copies apart on the shelf.
 -- Assumes nothing.
-use Prim.Native.Nat.{ℕ, _-_, _≤_, _<_}
+use Prim.Native.Nat.{ℕ, _+_, _-_, _≤_, _<_}
 use mathlib.Core.Path.{_≡_, sym, ap, subst, _∙_}
 use mathlib.Core.Logic.{_⊎_, inl, inr}
+use mathlib.Core.Bool.{true}
 use mathlib.Core.List.{List}
 use native.Mathlib.Omega.{arith}
 use native.Mathlib.Decide.{decLt}
@@ -11,25 +12,29 @@ use lib.Dec.{eqb}
 use lib.ListN.{length}
 use Rattle.facts.specs.Limits.{shelfSize}
 use Rattle.facts.specs.Pick.{pick}
-use Rattle.wire.specs.Records.{Rec}
+use Rattle.wire.specs.Records.{Rec, rec}
 use Rattle.body.specs.Read.{goodBody}
 use Rattle.body.specs.Undefined.{OnlyBits, ButForBits}
+use Rattle.body.proofs.Laws.{good-fits}
 use Rattle.body.proofs.Undefined.{bits-good, bits-apart}
 use Rattle.packet.specs.Packet.{framing}
 use Rattle.book.specs.Book.{Effect}
 use Rattle.book.proofs.Undefined.{bits-applied}
 use Rattle.arbitration.specs.Engine.{ok, broke}
-use Rattle.arbitration.specs.Receive.{taken, old, differing, accepted, judged, after, run}
+use Rattle.arbitration.specs.Slots.{slotFor}
+use Rattle.arbitration.specs.Receive.{taken, old, differing, accepted, slotOf, judged, after, run}
 use Rattle.arbitration.specs.Lists.{Every, Numbered, Bounded}
 use Rattle.arbitration.specs.Meaning.{Means, Faithful}
-use Rattle.arbitration.proofs.Halves.{Made, Named, Ready, start-ready}
+use Rattle.arbitration.proofs.Answers.{shows, after-next, run-next}
+use Rattle.arbitration.proofs.Range.{bounded-fits}
+use Rattle.arbitration.proofs.Settled.{Fitting}
+use Rattle.arbitration.proofs.Halves.{Made, Named, Ready, agree, start-ready}
 use Rattle.arbitration.proofs.Packets.{every-map, every-accepted}
-use Rattle.arbitration.proofs.OnShelf.{Came, copy-old, copy-differs, run-came, taken-came}
+use Rattle.arbitration.proofs.OnShelf.{AsItCame, copy-old, copy-differs, taken-as-it-came, stays-as-it-came}
 use Rattle.arbitration.proofs.MeaningLaws.{faithful-first, faithful-second}
 use Rattle.shelf.specs.Store.{shelfStore}
-use Rattle.shelf.proofs.StoreLaws.{shelfLaws}
 use Rattle.receiver.specs.Demand3.{MadeBy, Names, AnsweredTo}
-use Rattle.receiver.specs.Lent.{bookEngine, real, Rx, rec, Lent, receivedAll, zeroBook}
+use Rattle.receiver.specs.Lent.{bookEngine, real, Rx, Lent, receivedAll, zeroBook}
 use Rattle.receiver.specs.Undefined.{BitCopy, GivenBits}
 use Rattle.receiver.proofs.PartsLaws.{lawsOf}
 use Rattle.receiver.proofs.Demand.{made-by, named-by, ran, stop-is}
@@ -58,21 +63,20 @@ module _ (ms : List (List ℕ)) (o s : ℕ) (k0 : Lent) (ps : List (List ℕ)) (
   numbered : Every Numbered cs
   numbered = every-accepted framing Numbered (realLaws .numbered) ps
 
-  bounded : Every Bounded cs
-  bounded = every-accepted framing Bounded (realLaws .bounded) ps
-
   end-is : receivedAll ps k0 .rx ≡ run shelfStore bookEngine cs (k0 .rx)
   end-is = ran real realLaws ms (zeroBook o s) k0 ps (g .started)
 
+  pub bits-made : Made shelfStore bookEngine ms 0 (zeroBook o s) (receivedAll ps k0 .rx)
+  bits-made =
+      subst (Made shelfStore bookEngine ms 0 (zeroBook o s)) (sym end-is)
+      (faithful-first shelfStore bookEngine (lawsOf real realLaws) ms (g .well-formed) 0 (zeroBook o s) (k0 .rx) cs ready numbered (all-faithful ms cs (g .copies)))
+
   pub bits-first : MadeBy real ms (zeroBook o s) (receivedAll ps k0)
-  bits-first =
-      made-by real realLaws ms (zeroBook o s) (receivedAll ps k0)
-      (subst (Made shelfStore bookEngine ms 0 (zeroBook o s)) (sym end-is)
-      (faithful-first shelfStore bookEngine (lawsOf real realLaws) ms (g .well-formed) 0 (zeroBook o s) (k0 .rx) cs ready numbered bounded (all-faithful ms cs (g .copies))))
+  bits-first = made-by real realLaws ms (zeroBook o s) (receivedAll ps k0) bits-made
 
   pub bits-second : (j : ℕ) → AnsweredTo real j ps k0 → (j ≤ receivedAll ps k0 .rx .next - 1) ⊎ Names real ms (zeroBook o s) (receivedAll ps k0)
   bits-second j all =
-      go (faithful-second shelfStore bookEngine (lawsOf real realLaws) ms (g .well-formed) 0 (zeroBook o s) (k0 .rx) cs ready numbered bounded (all-faithful ms cs (g .copies)) j all)
+      go (faithful-second shelfStore bookEngine (lawsOf real realLaws) ms (g .well-formed) 0 (zeroBook o s) (k0 .rx) cs ready numbered (all-faithful ms cs (g .copies)) j all)
     where
       go : (j < run shelfStore bookEngine cs (k0 .rx) .next) ⊎ Named shelfStore bookEngine ms 0 (zeroBook o s) (run shelfStore bookEngine cs (k0 .rx))
           → (j ≤ receivedAll ps k0 .rx .next - 1) ⊎ Names real ms (zeroBook o s) (receivedAll ps k0)
@@ -81,24 +85,53 @@ module _ (ms : List (List ℕ)) (o s : ℕ) (k0 : Lent) (ps : List (List ℕ)) (
           inr (named-by real realLaws ms (zeroBook o s) (receivedAll ps k0) (stop-is real realLaws ms (zeroBook o s) k0 ps (g .started))
           (subst (Named shelfStore bookEngine ms 0 (zeroBook o s)) (sym end-is) m))
 
--- ---- "Two copies that differ only in those bits are still differing copies (14)": the first was taken, any records came after it, and then comes the second. It is answered 14
--- while the first waits on the shelf, 11 once that was applied, and changes nothing
-module _ (r : Rx) (n : ℕ) (b c : List ℕ) (o : OnlyBits b c) (some : 1 ≤ n) (w : Bounded (rec n b)) (size : length (r .shelf) ≡ shelfSize)
+-- and two such receivers agree
+pub bits-agree : (ms : List (List ℕ)) (o s : ℕ) (k0 k0′ : Lent) (ps ps′ : List (List ℕ)) → GivenBits ms o s k0 ps → GivenBits ms o s k0′ ps′
+    → receivedAll ps k0 .rx .next ≡ receivedAll ps′ k0′ .rx .next → receivedAll ps k0 .rx .book ≡ receivedAll ps′ k0′ .rx .book
+bits-agree ms o s k0 k0′ ps ps′ g g′ e =
+    agree shelfStore bookEngine ms 0 (zeroBook o s) (receivedAll ps k0 .rx) (receivedAll ps′ k0′ .rx) (bits-made ms o s k0 ps g) (bits-made ms o s k0′ ps′ g′) e
+
+-- ---- two copies that differ only in those bits: the first was taken, by any receiver whose shelf has its size, and any records came after it that packets can bring
+module _ (r : Rx) (n : ℕ) (b c : List ℕ) (o : OnlyBits b c) (w : Numbered (rec n b)) (size : length (r .shelf) ≡ shelfSize)
     (first : judged shelfStore bookEngine (rec n b) r ≡ taken) (cs : List Rec) (h : Every Bounded cs) where
+  short : (x : List ℕ) → goodBody x ≡ true → length x ≤ 64
+  short x g = omega (arith, good-fits x g .most)
+
   abbrev then : Rx
   then = run shelfStore bookEngine cs (after shelfStore bookEngine (rec n b) r)
 
-  came : Came shelfStore bookEngine shelfLaws n b then
-  came = run-came shelfStore bookEngine shelfLaws n b some cs (after shelfStore bookEngine (rec n b) r) h (taken-came shelfStore bookEngine shelfLaws (rec n b) r some w size first)
+  -- "kept on the shelf as they came"
+  pub first-kept : AsItCame shelfStore bookEngine n b then
+  first-kept =
+      let fit : Fitting (rec n b) = bounded-fits (rec n b) (record { number-to = w .number-to; short = short b (bits-good b c o .0) }) in
+      stays-as-it-came shelfStore bookEngine (lawsOf real realLaws) n b cs (after shelfStore bookEngine (rec n b) r) (w .number-from) (every-map Bounded Fitting bounded-fits cs h)
+      (taken-as-it-came shelfStore bookEngine (lawsOf real realLaws) (rec n b) r fit size first)
 
-  pub second-copy : (after shelfStore bookEngine (rec n c) then ≡ then)
-      × (((then .next ≤ n) × (judged shelfStore bookEngine (rec n c) then ≡ differing)) ⊎ ((n < then .next) × (judged shelfStore bookEngine (rec n c) then ≡ old)))
-  second-copy = go (decLt n (then .next))
+  -- next only grows, so the window still has n
+  in-window : n < then .next + 64
+  in-window =
+      let a = shows (r .next) (slotOf shelfStore bookEngine r n) (rec n b) taken first .1 in
+      omega (arith, a, after-next shelfStore bookEngine (rec n b) r .0, run-next shelfStore bookEngine cs (after shelfStore bookEngine (rec n b) r))
+
+  -- what the second is answered
+  abbrev Answers : Type 0
+  Answers = ((then .next ≤ n) × (judged shelfStore bookEngine (rec n c) then ≡ differing)) ⊎ ((n < then .next) × (judged shelfStore bookEngine (rec n c) then ≡ old))
+
+  -- "Two copies that differ only in those bits are still differing copies (14)": while the first waits; 11 once next has passed it; and it changes nothing
+  pub second-copy : (after shelfStore bookEngine (rec n c) then ≡ then) × Answers
+  second-copy = go (first-kept .1)
     where
-      go : Dec (n < then .next) → (after shelfStore bookEngine (rec n c) then ≡ then)
-          × (((then .next ≤ n) × (judged shelfStore bookEngine (rec n c) then ≡ differing)) ⊎ ((n < then .next) × (judged shelfStore bookEngine (rec n c) then ≡ old)))
-      go (yes l) = let a = copy-old shelfStore bookEngine then n c l in (a .1, inr (l, a .0))
-      go (no l) =
+      passed : n < then .next → (after shelfStore bookEngine (rec n c) then ≡ then) × Answers
+      passed l = let a = copy-old shelfStore bookEngine then n c l in (a .1, inr (l, a .0))
+
+      waiting : slotOf shelfStore bookEngine then n ≡ slotFor n b → Dec (n < then .next) → (after shelfStore bookEngine (rec n c) then ≡ then) × Answers
+      waiting e (yes l) = passed l
+      waiting e (no l) =
           let from : then .next ≤ n = omega arith in
-          let a = copy-differs shelfStore bookEngine then n b (came .waits from) some from (came .below) c 29 (omega arith) (bits-apart b c o) in
+          let g = bits-good b c o in
+          let a = copy-differs shelfStore bookEngine then n b e (w .number-from) from in-window c (short b (g .0)) (short c (g .1)) (bits-apart b c o) in
           (a .1, inl (from, a .0))
+
+      go : (n < then .next) ⊎ (slotOf shelfStore bookEngine then n ≡ slotFor n b) → (after shelfStore bookEngine (rec n c) then ≡ then) × Answers
+      go (inl l) = passed l
+      go (inr e) = waiting e (decLt n (then .next))

@@ -120,9 +120,6 @@ started o s h =
     (begun (Started.Refused (refusal 6)) o s h)
 
 -- ---- inside the code
-abbrev pub rec : ℕ → List ℕ → Rec
-rec n b = record { number = n; body = b }
-
 -- the case of each answer, and with it its number 10 to 14 (`codeOf` of arbitration)
 abbrev pub answerOf : Answer → theory.Answer
 answerOf Answer.Taken = theory.taken

@@ -1,5 +1,5 @@
 -- Request 2 over the receiver: copies that differ from the list's messages in undefined bits of a Modify's flags. Those that do differ are no true copies, so demand 3
--- as document 00 has it does not speak of them; what it says of true ones is proved of these too.
+-- as document 00 has it does not speak of them; its two halves and the agreement of two receivers are proved of these too.
 use Prim.Native.Nat.{ℕ, _≤_}
 use mathlib.Core.List.{List}
 use lib.ListN.{length}

@@ -13,7 +13,8 @@ ghost use Rattle.arbitration.specs.Loops.{turnTo, goesOn, working, work as work
 ghost use Rattle.shelf.specs.Shelf.{slotAt};
 ghost use Rattle.shelf.specs.Store.{shelfStore};
 ghost use Rattle.receiver.specs.Receiver.{nextOk, handledBy};
-ghost use Rattle.receiver.specs.Lent.{bookEngine, real, rx, rec, answerOf, sizesOk, workingOf, GoodPacket, lent, handled, received, begun, started};
+ghost use Rattle.wire.specs.Records.{rec};
+ghost use Rattle.receiver.specs.Lent.{bookEngine, real, rx, answerOf, sizesOk, workingOf, GoodPacket, lent, handled, received, begun, started};
 
 // The largest next number: one above the last sequence number.
 const MOST_NEXT: u64 = LAST_NUMBER + 1;

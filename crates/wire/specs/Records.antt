@@ -7,6 +7,9 @@ pub record Rec : Type 0 where
   pub number : ℕ
   pub body : List ℕ
 
+abbrev pub rec : ℕ → List ℕ → Rec
+rec n b = record { number = n; body = b }
+
 -- what is made of a packet's bytes: why they are refused, or the records
 pub data Frames (Refusal : Type 0) : Type 0 where
   bad : Refusal → Frames Refusal

@@ -4,7 +4,7 @@ use Prim.Native.Nat.{_%_}
 use Rattle.arbitration.proofs.Answers.{judge-old, judge-far, judge-taken, judge-repeated, judge-differing}
 use mathlib.Core.Path.{sym, _∙_}
 use Rattle.shelf.specs.Shelf.{slotAt}
-use Rattle.receiver.specs.Lent.{rec}
+use Rattle.wire.specs.Records.{rec}
 use borrow.Author.Needs.{needs}
 use Rattle.receiver.proofs.answer_to.Statement.{statement}
 use Rattle.receiver.proofs.answer_to.Tie as tie

@@ -2,7 +2,8 @@
 -- Assumes nothing.
 use mathlib.Core.Path.{refl}
 use Rattle.shelf.specs.Store.{shelfStore}
-use Rattle.receiver.specs.Lent.{bookEngine, rec, workingOf}
+use Rattle.wire.specs.Records.{rec}
+use Rattle.receiver.specs.Lent.{bookEngine, workingOf}
 use Rattle.receiver.proofs.Records.{offered}
 use borrow.Author.Needs.{needs}
 use Rattle.receiver.proofs.offer.Statement.{statement}
