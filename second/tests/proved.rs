@@ -167,15 +167,6 @@ fn messages_of_the_book() {
         attributable: u32::from_le_bytes(*b"    ").into(),
     };
     assert_eq!(message(&add_order(1, 2, 3, b'S', 4, 5)), add);
-    let modify = Body::ModifyOrder {
-        nanoseconds: 1,
-        symbol: 2,
-        order: 3,
-        price: 4,
-        size: 5,
-        flags: 1,
-    };
-    assert_eq!(message(&modify_order(1, 2, 3, 4, 5, 1)), modify);
     // All eight bits as they came, although seven of them are undefined (request 2).
     for flags in 0..=255 {
         let modify = Body::ModifyOrder {
