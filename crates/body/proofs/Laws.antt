@@ -11,13 +11,13 @@ use lib.Dec.{eqb, leb, ltb}
 use borrow.Author.Tests.{eq-eqb, ne-eqb, eqb-true, leb-true, lt-ltb, ltb-true}
 use Rattle.facts.specs.Limits.{mostPrice, mostNanos, entrySize}
 use Rattle.facts.specs.Pick.{pick, both, either}
-use Rattle.facts.proofs.Picks.{pick-ind, pick-cases, both-true, either-true, either-none}
+use Rattle.facts.proofs.Picks.{pick-ind, pick-cases, pick-map, both-true, either-true, either-none}
 use Rattle.layout.specs.Shape.{Shape, width, Values}
 use Rattle.layout.specs.Layout.{shapes, fieldsIn}
 use Rattle.layout.specs.Message.{readAs}
 use Rattle.kinds.specs.Table.{lengthOf, kindOf, typeOf, kindLength, refusalOf}
 use Rattle.kinds.specs.declared.Kind.{Kind}
-use Rattle.kinds.proofs.Laws.{Lengths, lengths, no-length}
+use Rattle.kinds.proofs.Laws.{Lengths, lengths, no-length, type-kind}
 use Rattle.fields.specs.Fields.{statusOf, clearOf, addOf, modifyOf, deleteOf, executionOf, tradeOf, cancelOf, refusal, decoded, bodyNumber}
 use Rattle.fields.specs.Messages.{systemTime, symbolUpdate, systemState}
 use Rattle.fields.specs.declared.Body.{Body}
@@ -112,7 +112,7 @@ judged-sound k b w =
     (λ e. inr refl)
 
 -- a framed body has a type of the table, and that type's length
-framed-is : (b : List ℕ) → framed b ≡ true → Framed (kindOf (getD b 0 0)) b
+pub framed-is : (b : List ℕ) → framed b ≡ true → Framed (kindOf (getD b 0 0)) b
 unfolding framed
 framed-is b h = go (lengths (getD b 0 0))
   where
@@ -127,6 +127,35 @@ framed-is b h = go (lengths (getD b 0 0))
     go (inr r) =
         let s = some in let l = len in
         record { type-is = r .of-type; length-is = len ∙ r .of-kind; some = omega arith; most = omega arith }
+
+-- a framed body is judged as one of its kind
+pub read-framed : (k : Kind) (b : List ℕ) → Framed k b → readBody b ≡ judged k b
+unfolding readBody framed pick both kindLength
+read-framed k b w = rw (lt-ltb 0 (length b) (w .some), w .type-is, eq-eqb (length b) (lengthOf (typeOf k)) (w .length-is), type-kind k)
+
+-- what is decoded has one number for all bodies of a kind
+decoded-number : (k : Kind) (b c : List ℕ) → bodyNumber (decoded k c) ≡ bodyNumber (decoded k b)
+unfolding decoded
+decoded-number Kind.SystemTime b c = refl
+decoded-number Kind.SymbolUpdate b c = refl
+decoded-number Kind.SystemState b c = refl
+decoded-number Kind.TradingStatus b c = refl
+decoded-number Kind.SymbolClear b c = refl
+decoded-number Kind.Add b c = refl
+decoded-number Kind.Modify b c = refl
+decoded-number Kind.Delete b c = refl
+decoded-number Kind.Execution b c = refl
+decoded-number Kind.Trade b c = refl
+decoded-number Kind.TradeCancel b c = refl
+decoded-number Kind.Unknown b c = refl
+
+-- so two bodies of a kind with the same fault are good, or refused by the same number
+pub number-by-fault : (k : Kind) (b c : List ℕ) → Framed k b → Framed k c → faultOf k c ≡ faultOf k b → bodyNumber (readBody c) ≡ bodyNumber (readBody b)
+unfolding judged
+number-by-fault k b c w v e =
+    rw (read-framed k c v, read-framed k b w, e)
+    (pick-map bodyNumber (eqb (faultOf k b) 0) (decoded k c) (Body.Refused (refusal 4))
+    ∙ (ap (λ (n : ℕ). pick (eqb (faultOf k b) 0) n 4) (decoded-number k b c) ∙ sym (pick-map bodyNumber (eqb (faultOf k b) 0) (decoded k b) (Body.Refused (refusal 4)))))
 
 pub read-sound : (b : List ℕ) → Sound (readBody b) b
 unfolding readBody

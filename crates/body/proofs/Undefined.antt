@@ -25,12 +25,7 @@ use Rattle.body.specs.Ranges.{nanosOk, priceOk, sizeOk}
 use Rattle.body.specs.Faults.{faultFrom, faultOf}
 use Rattle.body.specs.Read.{framed, judged, readBody, goodBody}
 use Rattle.body.specs.Undefined.{flagged, withFlags, OnlyBits}
-use Rattle.body.proofs.Laws.{Framed, Sound, read-sound, number-good}
-
--- a framed body is judged as one of its kind
-read-framed : (k : Kind) (b : List ℕ) → Framed k b → readBody b ≡ judged k b
-unfolding readBody framed pick both kindLength
-read-framed k b w = rw (lt-ltb 0 (length b) (w .some), w .type-is, eq-eqb (length b) (lengthOf (typeOf k)) (w .length-is), type-kind k)
+use Rattle.body.proofs.Laws.{Framed, Sound, read-framed, read-sound, number-by-fault, number-good}
 
 -- a Modify reaches to its flags
 modify-long : (b : List ℕ) → Framed Kind.Modify b → 29 < length b
@@ -68,11 +63,7 @@ module _ (b : List ℕ) (x : ℕ) where
 
   -- "the field range for flags is struck out": whatever they are, a body of that type and length is good or refused by the same number
   pub flags-unjudged : Framed Kind.Modify b → bodyNumber (readBody (flagged b x)) ≡ bodyNumber (readBody b)
-  unfolding judged decoded
-  flags-unjudged w =
-      rw (read-framed Kind.Modify (flagged b x) (flagged-framed w), read-framed Kind.Modify b w, fault-kept)
-      (pick-map bodyNumber (eqb (faultOf Kind.Modify b) 0) (Body.Modify (modifyOf (flagged b x))) (Body.Refused (refusal 4))
-      ∙ sym (pick-map bodyNumber (eqb (faultOf Kind.Modify b) 0) (Body.Modify (modifyOf b)) (Body.Refused (refusal 4))))
+  flags-unjudged w = number-by-fault Kind.Modify b (flagged b x) w (flagged-framed w) fault-kept
 
   -- and a good one is the same message but for them
   pub any-flags : (m : ModifyOrder) → readBody b ≡ Body.Modify m → readBody (flagged b x) ≡ Body.Modify (withFlags m x)

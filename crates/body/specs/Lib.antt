@@ -2,3 +2,4 @@ pub mod Ranges
 pub mod Faults
 pub mod Read
 pub mod Undefined
+pub mod Nanoseconds

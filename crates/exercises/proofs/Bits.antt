@@ -21,7 +21,7 @@ pub bits-met : OnlyBits (modified bit0Clear) (modified 32)
 unfolding modifyOrder pick both le toLe field
     kinds.table kinds.lookup kinds.lengthOf kinds.kindOf
     fields.decoded
-    ranges.priceOk ranges.sizeOk
+    ranges.nanosOk ranges.priceOk ranges.sizeOk
     faults.faultFrom faults.faultOf
     read.framed read.judged read.readBody
 bits-met = record { modify = fields.modifyOf (modified bit0Clear); flags = 32; first = refl; second = refl; bit-0 = refl; differ = λ e. omega arith }

@@ -51,7 +51,7 @@ unfolding table
     pick both either first cut pieces join putPiece sumBy onlyIf countBy le toLe field padded
     kinds.table kinds.lookup kinds.lengthOf kinds.kindOf
     fields.decoded
-    ranges.oneOf ranges.sideOk ranges.priceOk ranges.sizeOk ranges.testOk ranges.marketOk
+    ranges.nanosOk ranges.oneOf ranges.sideOk ranges.priceOk ranges.sizeOk ranges.testOk ranges.marketOk
     faults.faultFrom faults.faultOf
     read.framed read.judged read.readBody read.goodBody
     head.numberOk head.bodyOf head.bodyJudged head.readRecord

@@ -53,7 +53,7 @@ unfolding messages.systemTime messages.symbolUpdate messages.addOrder messages.e
     pick both either le toLe field padded
     kinds.table kinds.lookup kinds.lengthOf kinds.kindOf
     fields.decoded
-    ranges.oneOf ranges.sideOk ranges.priceOk ranges.sizeOk ranges.testOk ranges.marketOk
+    ranges.nanosOk ranges.oneOf ranges.sideOk ranges.priceOk ranges.sizeOk ranges.testOk ranges.marketOk
     faults.faultFrom faults.faultOf
     read.framed read.judged read.readBody read.goodBody
 all-good zero h = refl
@@ -69,7 +69,7 @@ unfolding messages.numbered messages.systemTime messages.symbolUpdate messages.a
     pick both either join le toLe field padded
     kinds.table kinds.lookup kinds.lengthOf kinds.kindOf
     fields.decoded
-    ranges.oneOf ranges.sideOk ranges.priceOk ranges.sizeOk ranges.testOk ranges.marketOk
+    ranges.nanosOk ranges.oneOf ranges.sideOk ranges.priceOk ranges.sizeOk ranges.testOk ranges.marketOk
     faults.faultFrom faults.faultOf
     read.framed read.judged read.readBody read.goodBody
     head.numberOk head.bodyOf head.bodyJudged head.readRecord
@@ -106,7 +106,7 @@ unfolding all-taken messages.numbered messages.systemTime messages.symbolUpdate 
     pick both either first cut pieces join putPiece le toLe field padded
     kinds.table kinds.lookup kinds.lengthOf kinds.kindOf
     fields.decoded
-    ranges.oneOf ranges.sideOk ranges.priceOk ranges.sizeOk ranges.testOk ranges.marketOk
+    ranges.nanosOk ranges.oneOf ranges.sideOk ranges.priceOk ranges.sizeOk ranges.testOk ranges.marketOk
     faults.faultFrom faults.faultOf
     read.framed read.judged read.readBody read.goodBody
     head.numberOk head.bodyOf head.bodyJudged head.readRecord

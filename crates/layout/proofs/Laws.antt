@@ -5,12 +5,13 @@ use mathlib.Core.List.{List, [], _∷_, _++_, append-assoc, append-nil}
 use Prim.Native.Nat.{ℕ, suc, _+_, _≤_}
 use mathlib.Core.Bool.{Bool, true}
 use mathlib.Core.Logic.{_⊎_, inl, inr}
+use native.Mathlib.Nat.{add-zero}
 use native.Mathlib.Omega.{arith}
 use lib.Dec.{eqb}
 use borrow.Author.Tests.{eqb-true}
 use Rattle.facts.specs.Pick.{pick, both}
 use lib.ListN.{length, getD, take, drop, replicate, length-append, length-drop}
-use lib.Seq.{take-at, drop-at, getD-at, take-add, take-all, drop-drop, drop-cons, length-take-le}
+use lib.Seq.{take-at, drop-at, getD-at, getD-drop, take-add, take-all, drop-drop, drop-cons, length-take-le}
 use Rattle.wire.specs.Le.{le, toLe, field, padded, Bytes}
 use Rattle.wire.proofs.Bytewise.{bytes-take, bytes-drop}
 use Rattle.wire.proofs.Laws.{padded-part, length-toLe, le-toLe, toLe-le}
@@ -44,7 +45,23 @@ bytes-back (number w) b at h l =
     ap (λ (k : ℕ). toLe k (le x)) (sym n) ∙ toLe-le x (bytes-take w (drop at b) (bytes-drop at b h))
 bytes-back (text w) b at h l = padded-part b at w l
 
+-- what is read from a place on is decided by the bytes from there on
+value-behind : (s : Shape) (b c : List ℕ) (at : ℕ) → drop at b ≡ drop at c → valueAt s b at ≡ valueAt s c at
+unfolding field padded
+value-behind byte b c at e = first b ∙ (ap (λ (l : List ℕ). getD l 0 0) e ∙ sym (first c))
+  where
+    first : (l : List ℕ) → getD l at 0 ≡ getD (drop at l) 0 0
+    first l = sym (getD-drop at l 0 0 ∙ ap (λ (k : ℕ). getD l k 0) (add-zero at))
+value-behind (number w) b c at e = ap (λ (l : List ℕ). le (take w l)) e
+value-behind (text w) b c at e = ap (λ (l : List ℕ). take w (l ++ replicate w 0)) e
+
 -- ---- all fields
+pub cut-behind : (ss : List Shape) (b c : List ℕ) (at : ℕ) → drop at b ≡ drop at c → cut ss b at ≡ cut ss c at
+cut-behind [] b c at e = refl
+cut-behind (s ∷ ss) b c at e =
+    let f : drop (at + width s) b ≡ drop (at + width s) c = sym (drop-drop (width s) at b) ∙ (ap (drop (width s)) e ∙ drop-drop (width s) at c) in
+    λ i. (value-behind s b c at e i, cut-behind ss b c (at + width s) f i)
+
 pub length-joined : (ss : List Shape) (vs : Values ss) → AllFit ss vs → length (joined ss vs) ≡ total ss
 unfolding joined
 length-joined [] vs f = refl

@@ -23,7 +23,7 @@ use Rattle.fields.specs.declared.Body.{Body}
 use Rattle.body.specs.Read.{readBody, goodBody}
 use Rattle.body.proofs.Laws.{numbers, number-good}
 use Rattle.packet.specs.Record.{numberOk, headOf, bodyOf, recOf, refused, bodyJudged, readRecord}
-use Rattle.packet.specs.Packet.{Framing, before, behind, framesFrom, framing, told, readPacket}
+use Rattle.packet.specs.Packet.{Framing, before, behind, framesFrom, Reached, at-front, past-good, framing, told, readPacket}
 use Rattle.packet.specs.declared.Head.{Head}
 use Rattle.packet.specs.declared.Record.{Record}
 use Rattle.packet.specs.declared.Packet.{Packet}
@@ -199,6 +199,23 @@ module _ (p : List ℕ) (at i : ℕ) (r : Record) (in-p : at < length p) (read :
             ∙ told-before i (recOf (drop at p)) (framesFrom (length p) (drop (10 + h .len) (drop at p)))
             ∙ ap (λ x. more (i + 1) (told (framesFrom (length p) x))) (drop-drop (10 + h .len) at p),
       )
+
+-- "each record .. from the front": what is wrong where good records lead to is what the packet is refused by
+reached-bad : (p : List ℕ) (at : ℕ) (r : Refusal) → Reached p at → framesFrom (length p) (drop at p) ≡ bad r → framesFrom (length p) p ≡ bad r
+unfolding behind before
+reached-bad p _ r at-front e = e
+reached-bad p _ r (past-good at h w l g) e =
+    reached-bad p at r w
+    (frames-step (length p) (drop at p) (rw length-drop (omega arith)) (rw length-drop (omega arith))
+    ∙ (ap (behind (framesFrom (length p)) (drop at p)) g ∙ ap (before (recOf (drop at p))) (ap (framesFrom (length p)) (drop-drop (10 + h .len) at p) ∙ e)))
+
+pub first-bad : (p : List ℕ) (at : ℕ) (r : Refusal) → length p ≤ packetMost → at < length p → Reached p at → readRecord (drop at p) ≡ Record.Refused r → framing p ≡ bad r
+unfolding framing behind pick both
+first-bad p at r m l w e =
+    let some : 1 ≤ length p = omega arith in
+    simp (le-leb 1 (length p) some, le-leb (length p) packetMost m)
+    (reached-bad p at r w
+    (frames-step (length p) (drop at p) (rw length-drop (omega arith)) (rw length-drop (omega arith)) ∙ ap (behind (framesFrom (length p)) (drop at p)) e))
 
 -- the loop's end: i records and no more
 pub at-end : (p : List ℕ) (at i : ℕ) → length p ≤ at → more i (told (framesFrom (length p) (drop at p))) ≡ Packet.Good i

@@ -1,3 +1,4 @@
 pub mod Laws
 pub mod Good
 pub mod PacketBytes
+pub mod Nanoseconds

@@ -1,0 +1,124 @@
+-- Nanoseconds of a second (request 6): the Timestamp is the first field of the ten kinds that carry one, so what is known of a first field is known of it.
+-- Assumes nothing.
+use Prim.Native.Nat.{ℕ, _+_, _≤_, _<_}
+use mathlib.Core.Path.{_≡_, refl, sym, ap, subst, _∙_}
+use mathlib.Core.Bool.{true, false, true≢false}
+use mathlib.Core.List.{List, [], _∷_}
+use native.Mathlib.Omega.{arith}
+use native.Mathlib.Decide.{decLt}
+use lib.ListN.{length, getD, drop}
+use lib.Dec.{eqb, leb}
+use borrow.Author.Tests.{le-leb, lt-leb, eqb-true}
+use Rattle.facts.specs.Limits.{mostNanos}
+use Rattle.facts.specs.Pick.{pick}
+use Rattle.facts.proofs.Picks.{pick-ind}
+use Rattle.layout.specs.Shape.{Shape, number, width, Values, valueAt, cut}
+use Rattle.layout.specs.Layout.{shapes}
+use Rattle.layout.proofs.Laws.{cut-behind}
+use Rattle.kinds.specs.Table.{kindOf, lengthOf}
+use Rattle.kinds.specs.declared.Kind.{Kind}
+use Rattle.fields.specs.Fields.{refusal, decoded, bodyNumber}
+use Rattle.fields.specs.declared.Body.{Body}
+use Rattle.body.specs.Ranges.{nanosOk}
+use Rattle.body.specs.Faults.{Tests, tests, faultFrom, faultOf}
+use Rattle.body.specs.Read.{framed, judged, readBody, goodBody}
+use Rattle.body.specs.Nanoseconds.{carriesStamp, stamped, stampOf, PastSecond, Restamped}
+use Rattle.body.proofs.Laws.{Framed, framed-is, read-framed, number-by-fault}
+
+-- fields of which the first is a Timestamp, with the range of one
+data Stamp : (ss : List Shape) → Tests ss → Type 0 where
+  stamp : (ss : List Shape) (ts : Tests ss) → Stamp (number 4 ∷ ss) (nanosOk, ts)
+
+stamp-of : (k : Kind) → carriesStamp k ≡ true → Stamp (shapes k) (tests k)
+stamp-of Kind.SystemTime c = absurd (true≢false (sym c))
+stamp-of Kind.SymbolUpdate c = stamp _ _
+stamp-of Kind.SystemState c = stamp _ _
+stamp-of Kind.TradingStatus c = stamp _ _
+stamp-of Kind.SymbolClear c = stamp _ _
+stamp-of Kind.Add c = stamp _ _
+stamp-of Kind.Modify c = stamp _ _
+stamp-of Kind.Delete c = stamp _ _
+stamp-of Kind.Execution c = stamp _ _
+stamp-of Kind.Trade c = stamp _ _
+stamp-of Kind.TradeCancel c = stamp _ _
+stamp-of Kind.Unknown c = absurd (true≢false (sym c))
+
+-- a first field that fails its test is the earliest fault
+first-fault : (ss : List Shape) (ts : Tests ss) → Stamp ss ts → (b : List ℕ) → mostNanos < stampOf b → faultFrom ss ts (cut ss b 1) 1 ≡ 1
+unfolding faultFrom nanosOk pick
+first-fault _ _ (stamp ss ts) b l = rw (lt-leb (stampOf b) mostNanos l) refl
+
+-- one that holds it leaves all to those behind it
+rest-decides : (ss : List Shape) (ts : Tests ss) → Stamp ss ts → (b c : List ℕ) → stampOf b ≤ mostNanos → stampOf c ≤ mostNanos → drop 5 c ≡ drop 5 b → faultFrom ss ts (cut ss c 1) 1 ≡ faultFrom ss ts (cut ss b 1) 1
+unfolding faultFrom nanosOk pick
+rest-decides _ _ (stamp ss ts) b c l m e = rw (le-leb (stampOf b) mostNanos l, le-leb (stampOf c) mostNanos m) (ap (λ (vs : Values ss). faultFrom ss ts vs 5) (cut-behind ss c b 5 e))
+
+-- "It lies .. before every other field, so it is the earliest fault wherever it is one": its place is byte 1
+pub earliest : (k : Kind) (b : List ℕ) → carriesStamp k ≡ true → mostNanos < stampOf b → faultOf k b ≡ 1
+unfolding faultOf
+earliest k b c l = first-fault (shapes k) (tests k) (stamp-of k c) b l
+
+-- "Larger is refused with 4"
+pub past-refused : (b : List ℕ) → PastSecond b → readBody b ≡ Body.Refused (refusal 4)
+unfolding judged pick
+past-refused b p =
+    let k : Kind = kindOf (getD b 0 0) in
+    read-framed k b (framed-is b (p .whole)) ∙ rw (earliest k b (p .carries) (p .larger)) refl
+
+-- and so it is no good body
+pub past-bad : (b : List ℕ) → PastSecond b → goodBody b ≡ false
+unfolding goodBody
+past-bad b p = rw (past-refused b p) refl
+
+-- a good body is a whole message
+good-framed : (b : List ℕ) → goodBody b ≡ true → framed b ≡ true
+unfolding goodBody readBody
+good-framed b g = go (eqb-true (bodyNumber (readBody b)) 0 g)
+  where
+    go : bodyNumber (readBody b) ≡ 0 → framed b ≡ true
+    go = pick-ind (λ (r : Body). bodyNumber r ≡ 0 → framed b ≡ true) (framed b) (judged (kindOf (getD b 0 0)) b) (Body.Refused (refusal 3)) (λ e h. e) (λ e h. absurd (omega arith))
+
+-- "The largest good value is 999,999,999, in every message that carries the field"
+pub largest : (b : List ℕ) → goodBody b ≡ true → stamped b ≡ true → stampOf b ≤ mostNanos
+largest b g c = go (decLt mostNanos (stampOf b))
+  where
+    go : Dec (mostNanos < stampOf b) → stampOf b ≤ mostNanos
+    go (yes l) = absurd (true≢false (sym g ∙ past-bad b (record { whole = good-framed b g; carries = c; larger = l })))
+    go (no l) = omega (arith, l)
+
+-- with another Timestamp it is a whole message of the same kind
+module _ (b c : List ℕ) (r : Restamped b c) where
+  kind-kept : kindOf (getD c 0 0) ≡ kindOf (getD b 0 0)
+  kind-kept = ap kindOf (r .type-kept)
+
+  framed-kept : framed c ≡ framed b
+  unfolding framed
+  framed-kept = rw (r .type-kept, r .length-kept) refl
+
+  -- as good as it was, where both Timestamps are in range
+  as-good : goodBody b ≡ true → stamped b ≡ true → stampOf c ≤ mostNanos → goodBody c ≡ true
+  unfolding goodBody faultOf
+  as-good g s l =
+      let k : Kind = kindOf (getD b 0 0) in
+      let w : Framed k b = framed-is b (good-framed b g) in
+      let v : Framed k c = subst (λ (x : Kind). Framed x c) kind-kept (framed-is c (framed-kept ∙ good-framed b g)) in
+      let same : faultOf k c ≡ faultOf k b = rest-decides (shapes k) (tests k) (stamp-of k s) b c (largest b g s) l (r .behind-kept) in
+      ap (λ (n : ℕ). eqb n 0) (number-by-fault k b c w v same) ∙ g
+
+-- and every value up to it is good: with another Timestamp a good message is good exactly where that is in range
+pub stamp-alone : (b c : List ℕ) → goodBody b ≡ true → stamped b ≡ true → Restamped b c → goodBody c ≡ nanosOk (stampOf c)
+unfolding nanosOk
+stamp-alone b c g s r = go (decLt mostNanos (stampOf c))
+  where
+    go : Dec (mostNanos < stampOf c) → goodBody c ≡ leb (stampOf c) mostNanos
+    go (yes l) =
+        let p : PastSecond c = record { whole = framed-kept b c r ∙ good-framed b g; carries = ap carriesStamp (kind-kept b c r) ∙ s; larger = l } in
+        past-bad c p ∙ sym (lt-leb (stampOf c) mostNanos l)
+    go (no l) =
+        let m : stampOf c ≤ mostNanos = omega (arith, l) in
+        as-good b c r g s m ∙ sym (le-leb (stampOf c) mostNanos m)
+
+-- a System Time has seconds in that place: whatever they are, it is good
+pub any-second : (b : List ℕ) → framed b ≡ true → kindOf (getD b 0 0) ≡ Kind.SystemTime → goodBody b ≡ true
+unfolding goodBody judged decoded faultOf faultFrom pick
+any-second b w e = rw (read-framed Kind.SystemTime b (subst (λ (x : Kind). Framed x b) e (framed-is b w))) refl
