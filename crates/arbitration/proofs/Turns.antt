@@ -36,6 +36,13 @@ pub slot-good : (E : Engine) (s : Slot) → goodSlot E s ≡ true → E .good (s
 unfolding goodSlot
 slot-good E s e = both-true e .1
 
+pub slot-bad : (E : Engine) (s : Slot) → E .good (slotBody s) ≡ false → goodSlot E s ≡ false
+slot-bad E s g = go (goodSlot E s) refl
+  where
+    go : (t : Bool) → goodSlot E s ≡ t → goodSlot E s ≡ false
+    go true e = absurd (false≢true (sym g ∙ slot-good E s e))
+    go false e = e
+
 module _ (S : Store) (E : Engine) where
   -- ---- the tests, in their order
   module _ (r : State S E) where

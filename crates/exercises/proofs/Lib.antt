@@ -2,3 +2,4 @@ pub mod Right
 pub mod Example
 pub mod Witness
 pub mod Bits
+pub mod Nanoseconds

@@ -1,5 +1,5 @@
--- Packets of the exercises, written byte by byte (document 01, "From the tap" and "Message bodies"; docs/MESSAGES.md). Times, trade IDs and reserved
--- bytes, which nothing judges, are zeros.
+-- Packets of the exercises, written byte by byte (document 01, "From the tap" and "Message bodies"; docs/MESSAGES.md). Opening and closing times,
+-- trade IDs and reserved bytes, which nothing judges, are zeros, and so are the nanoseconds, which are good up to 999,999,999 (request 6).
 use Prim.Native.Nat.{ℕ, _-_}
 use mathlib.Core.List.{List, [], _∷_, _++_, map}
 use lib.ListN.{length, replicate, getD}

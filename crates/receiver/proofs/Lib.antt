@@ -7,3 +7,4 @@ pub mod Demand
 pub mod Real
 pub mod Runs
 pub mod Undefined
+pub mod Nanoseconds

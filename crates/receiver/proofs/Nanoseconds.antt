@@ -1,0 +1,67 @@
+-- Nanoseconds of a second over the receiver (request 6): a packet that holds too many is refused whole, demand 3's lists have none, and an altered slot that does stops by 27.
+-- Assumes nothing.
+use Prim.Native.Nat.{ℕ, zero, suc, _≤_, _<_}
+use mathlib.Core.Path.{_≡_, refl, sym, ap, _∙_}
+use mathlib.Core.Bool.{true, true≢false}
+use mathlib.Core.List.{List, [], _∷_, _++_}
+use native.Mathlib.Omega.{arith}
+use lib.ListN.{length, getD}
+use Rattle.facts.specs.Limits.{mostNanos}
+use Rattle.facts.specs.Pick.{pick}
+use Rattle.wire.specs.Records.{Rec, Frames}
+use Rattle.fields.specs.Fields.{refusal}
+use Rattle.fields.specs.declared.Refusal.{Refusal}
+use Rattle.body.specs.Read.{goodBody}
+use Rattle.body.specs.Nanoseconds.{stamped, stampOf, PastSecond}
+use Rattle.body.proofs.Nanoseconds.{past-bad, largest}
+use Rattle.packet.specs.Packet.{framing}
+use Rattle.packet.specs.Nanoseconds.{PastIn}
+use Rattle.packet.proofs.Nanoseconds.{past-packet, past-none}
+use Rattle.arbitration.specs.Slots.{Slot, slotBody}
+use Rattle.arbitration.specs.Receive.{stuck, recordsOf, accepted, slotOf, try, stop, drain}
+use Rattle.arbitration.specs.Lists.{Every, WellFormed}
+use Rattle.arbitration.proofs.Turns.{slot-bad, try-bad, stop-stuck}
+use Rattle.arbitration.proofs.Packets.{every-accepted}
+use Rattle.shelf.specs.Store.{shelfStore}
+use Rattle.receiver.specs.Receiver.{fit, receives, handledBy}
+use Rattle.receiver.specs.Lent.{bookEngine, real, Rx, Lent, handled, received}
+use Rattle.receiver.specs.declared.Received.{Received}
+use Rattle.receiver.proofs.Real.{every-framed}
+
+-- ---- "Larger is refused with 4": a packet with one such record is refused whole, and the receiver keeps every byte
+pub past-received : (k : Lent) (p : List ℕ) → fit real k ≡ true → PastIn p → received k p ≡ handled (Received.Refused (refusal 4)) k
+unfolding receives handledBy pick
+past-received k p f x = rw (f, past-packet p x) refl
+
+-- "Recordings that held such values now leave a gap": none of its records is accepted, the good ones no more than the other
+pub past-gap : (p : List ℕ) (ps : List (List ℕ)) → PastIn p → accepted framing (p ∷ ps) ≡ accepted framing ps
+unfolding accepted
+past-gap p ps x = ap (λ (y : Frames Refusal). recordsOf y ++ accepted framing ps) (past-packet p x)
+
+-- wherever in a packet it stands: no accepted record is such
+pub never-accepted : (ps : List (List ℕ)) → Every (λ (c : Rec). PastSecond (c .body) → ⊥) (accepted framing ps)
+never-accepted ps = every-accepted framing (λ (c : Rec). PastSecond (c .body) → ⊥) (every-framed (λ (c : Rec). PastSecond (c .body) → ⊥) past-none) ps
+
+-- ---- "demand 3's well-formed list excludes them"
+pub listed-in-second : (ms : List (List ℕ)) → WellFormed goodBody ms → (i : ℕ) → i < length ms → stamped (getD ms i []) ≡ true → stampOf (getD ms i []) ≤ mostNanos
+listed-in-second ms w i l s = largest (getD ms i []) (w i l) s
+
+pub never-listed : (ms : List (List ℕ)) → WellFormed goodBody ms → (i : ℕ) → i < length ms → PastSecond (getD ms i []) → ⊥
+never-listed ms w i l p = true≢false (sym (w i l) ∙ past-bad (getD ms i []) p)
+
+-- ---- "A slot for next that holds .. no good body stops with 27": one that the caller altered so, for any tables and shelf
+module _ (r : Rx) where
+  abbrev here : Slot
+  here = slotOf shelfStore bookEngine r (r .next)
+
+  past-stuck : 1 ≤ r .next → here .number ≡ r .next → PastSecond (slotBody here) → try shelfStore bookEngine r ≡ stuck 27
+  past-stuck l e p = try-bad shelfStore bookEngine r (λ z. omega (arith, z, e)) e (slot-bad bookEngine here (past-bad (slotBody here) p))
+
+  pub past-stops : 1 ≤ r .next → here .number ≡ r .next → PastSecond (slotBody here) → stop shelfStore bookEngine r ≡ 27
+  past-stops l e p = stop-stuck shelfStore bookEngine r 27 (past-stuck l e p)
+
+  -- and nothing is worked behind it
+  pub past-waits : 1 ≤ r .next → here .number ≡ r .next → PastSecond (slotBody here) → (turns : ℕ) → drain shelfStore bookEngine turns r ≡ r
+  unfolding drain
+  past-waits l e p zero = refl
+  past-waits l e p (suc f) = rw (past-stuck l e p, drain) refl
