@@ -92,16 +92,16 @@ held k b f = no-fault (shapes k) (tests k) (fieldsIn k b) 1 (omega arith) f
 decoded-sound : (k : Kind) (b : List ℕ) → Framed k b → AllHold (shapes k) (tests k) (fieldsIn k b) → Sound (decoded k b) b
 unfolding decoded
 decoded-sound Kind.SystemTime b w h = (w, refl)
-decoded-sound Kind.SymbolUpdate b w h = (w, h .1 .1 .1 .1 .0, h .1 .1 .1 .1 .1 .1 .1 .1 .1 .0, in-time _ (h .0))
-decoded-sound Kind.SystemState b w h = (w, in-time _ (h .0))
-decoded-sound Kind.TradingStatus b w h = (w, refl, in-time _ (h .0))
-decoded-sound Kind.SymbolClear b w h = (w, refl, in-time _ (h .0))
-decoded-sound Kind.Add b w h = (w, refl, h .1 .1 .1 .0, deal (addOf b .price) (addOf b .size) (h .1 .1 .1 .1 .0) (h .1 .1 .1 .1 .1 .0), in-time _ (h .0))
-decoded-sound Kind.Modify b w h = (w, refl, deal (modifyOf b .price) (modifyOf b .size) (h .1 .1 .1 .0) (h .1 .1 .1 .1 .0), in-time _ (h .0))
-decoded-sound Kind.Delete b w h = (w, refl, in-time _ (h .0))
-decoded-sound Kind.Execution b w h = (w, refl, deal (executionOf b .price) (executionOf b .size) (h .1 .1 .1 .1 .0) (h .1 .1 .1 .1 .1 .0), in-time _ (h .0))
-decoded-sound Kind.Trade b w h = (w, refl, deal (tradeOf b .price) (tradeOf b .size) (h .1 .1 .1 .1 .0) (h .1 .1 .1 .1 .1 .0), in-time _ (h .0))
-decoded-sound Kind.TradeCancel b w h = (w, refl, deal (cancelOf b .price) (cancelOf b .size) (h .1 .1 .1 .1 .0) (h .1 .1 .1 .1 .1 .0), in-time _ (h .0))
+decoded-sound Kind.SymbolUpdate b w h = (w, h .1 .1 .1 .1 .0, h .1 .1 .1 .1 .1 .1 .1 .1 .1 .0, in-time (readAs symbolUpdate b .nanos) (h .0))
+decoded-sound Kind.SystemState b w h = (w, in-time (readAs systemState b .nanos) (h .0))
+decoded-sound Kind.TradingStatus b w h = (w, refl, in-time (statusOf b .nanos) (h .0))
+decoded-sound Kind.SymbolClear b w h = (w, refl, in-time (clearOf b .nanos) (h .0))
+decoded-sound Kind.Add b w h = (w, refl, h .1 .1 .1 .0, deal (addOf b .price) (addOf b .size) (h .1 .1 .1 .1 .0) (h .1 .1 .1 .1 .1 .0), in-time (addOf b .nanos) (h .0))
+decoded-sound Kind.Modify b w h = (w, refl, deal (modifyOf b .price) (modifyOf b .size) (h .1 .1 .1 .0) (h .1 .1 .1 .1 .0), in-time (modifyOf b .nanos) (h .0))
+decoded-sound Kind.Delete b w h = (w, refl, in-time (deleteOf b .nanos) (h .0))
+decoded-sound Kind.Execution b w h = (w, refl, deal (executionOf b .price) (executionOf b .size) (h .1 .1 .1 .1 .0) (h .1 .1 .1 .1 .1 .0), in-time (executionOf b .nanos) (h .0))
+decoded-sound Kind.Trade b w h = (w, refl, deal (tradeOf b .price) (tradeOf b .size) (h .1 .1 .1 .1 .0) (h .1 .1 .1 .1 .1 .0), in-time (tradeOf b .nanos) (h .0))
+decoded-sound Kind.TradeCancel b w h = (w, refl, deal (cancelOf b .price) (cancelOf b .size) (h .1 .1 .1 .1 .0) (h .1 .1 .1 .1 .1 .0), in-time (cancelOf b .nanos) (h .0))
 decoded-sound Kind.Unknown b w h = inl refl
 
 judged-sound : (k : Kind) (b : List ℕ) → Framed k b → Sound (judged k b) b

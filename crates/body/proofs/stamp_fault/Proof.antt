@@ -15,7 +15,7 @@ fault-at-requires : tie.Need-fault-at-requires
 fault-at-requires c κs = search needs
 
 returns : tie.Need-returns
-returns c = cc
+returns c = rw (← c .before .before .u32-at .ensures, ← c .before .nanos-ok .ensures) (c .fault-at .ensures)
 
 pub stamp-fault-spec : {M : Type 1} → statement M
 stamp-fault-spec = tie.close (tie.spec u32-at-requires nanos-ok-requires fault-at-requires returns)

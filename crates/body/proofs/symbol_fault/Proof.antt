@@ -1,6 +1,11 @@
 -- Each call answers its part, in the order of the fields; those without a range have no part in it.
 -- Assumes nothing.
+use Prim.Native.Nat.{ℕ}
+use mathlib.Core.Path.{_≡_, ap, _∙_}
+use mathlib.Core.List.{List}
+use lib.ListN.{getD}
 use Rattle.facts.specs.Pick.{pick}
+use Rattle.body.specs.Ranges.{testOk, marketOk}
 use Rattle.body.specs.Faults.{faultFrom, faultOf}
 use borrow.Author.Needs.{needs}
 use Rattle.body.proofs.symbol_fault.Statement.{statement}
@@ -30,7 +35,13 @@ stamp-fault-requires c κs = search needs
 
 returns : tie.Need-returns
 unfolding faultOf faultFrom pick
-returns c = cc
+returns c =
+    let l : List ℕ = c .before .before .before .before .before .before .before .before .args .b .now in
+    let market : _≡_ {A = ℕ} (c .before .before .fault-at .result) (pick (c .before .before .before .market-ok .result) 0 41) = c .before .before .fault-at .ensures in
+    let test : _≡_ {A = ℕ} (c .before .fault-at2 .result) (pick (c .before .before .before .before .before .test-ok .result) (c .before .before .fault-at .result) 21) = c .before .fault-at2 .ensures in
+    let market-is : c .before .before .before .market-ok .result ≡ marketOk (getD l 41 0) = c .before .before .before .market-ok .ensures ∙ ap marketOk (c .before .before .before .before .u8-at2 .ensures) in
+    let test-is : c .before .before .before .before .before .test-ok .result ≡ testOk (getD l 21 0) = c .before .before .before .before .before .test-ok .ensures ∙ ap testOk (c .before .before .before .before .before .before .u8-at .ensures) in
+    rw (← market-is, ← test-is, ← market, ← test) (c .stamp-fault .ensures)
 
 pub symbol-fault-spec : {M : Type 1} → statement M
 symbol-fault-spec =
