@@ -182,10 +182,7 @@ impl ListMaker {
     }
 
     fn nanoseconds(&mut self) -> u32 {
-        match self.dice.below(20) {
-            0 => self.dice.bits() as u32,
-            _ => self.dice.below(1_000_000_000) as u32,
-        }
+        good_nanoseconds(&mut self.dice)
     }
 
     fn symbol(&mut self) -> u32 {
