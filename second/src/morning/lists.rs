@@ -278,7 +278,7 @@ impl ListMaker {
         body[22] = self.dice.pick(&[0, 0, 7]);
         body[41] = self.dice.pick(b"ABCHIJKLMNPQUVWXYZ");
         if self.dice.chance(50) {
-            body[25..41].fill(0);
+            body[25..41].fill(255);
         }
         body
     }
