@@ -2,7 +2,7 @@
 
 use crate::desk::Desk;
 use crate::morning::*;
-use crate::packet::{little, read_packet};
+use crate::packet::{little, read_packet, SYSTEM_TIME};
 use crate::receiver::{highest_number, slot, slot_number};
 use crate::tables::{MOST_ENTRIES, MOST_ROWS};
 
@@ -171,7 +171,8 @@ impl Writer {
 }
 
 /// The long recording's packets: lines A and B with losses, repeats and late copies, gap fills
-/// where they are missed, differing copies of what lies on the shelf, and bad packets.
+/// where they are missed, differing copies of what lies on the shelf, and bad packets, among them
+/// some with the tap fault of request 6.
 pub fn long_packets() -> Vec<Vec<u8>> {
     let list = long_list();
     let settings = DeliverySettings {
@@ -192,7 +193,10 @@ pub fn long_packets() -> Vec<Vec<u8>> {
         packets: Vec::new(),
     };
     let mut missed = (0, 0); // a next number, and for how many packets it has been missed
-    for (place, packet) in delivery(43, &list, settings).into_iter().enumerate() {
+    for (place, mut packet) in delivery(43, &list, settings).into_iter().enumerate() {
+        if place % 60 == 24 {
+            packet = with_tap_fault(&packet);
+        }
         writer.give(packet);
         let next = writer.desk.state.next;
         if dice.chance(120) {
@@ -233,6 +237,22 @@ pub fn long_packets() -> Vec<Vec<u8>> {
     }
     assert!(writer.packets.iter().all(|packet| packet.len() <= 65_535));
     writer.packets
+}
+
+/// A packet as the tap fault of request 6 makes it, with "1,000,000,000 in a Timestamp": the first that it
+/// has. What it held is a gap then.
+fn with_tap_fault(good: &[u8]) -> Vec<u8> {
+    let mut records = Vec::new();
+    let mut done = false;
+    for one in read_packet(good).expect("a good packet") {
+        let mut body = one.body.to_vec();
+        if !done && body[0] != SYSTEM_TIME {
+            set_timestamp(&mut body, 1_000_000_000);
+            done = true;
+        }
+        records.push((one.number, body));
+    }
+    packet(&records)
 }
 
 /// A number on the shelf that is neither next nor gone.
