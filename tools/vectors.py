@@ -6,9 +6,9 @@
     python3 tools/vectors.py messages FILE  compare the tables of docs/MESSAGES.md with the script's
     python3 tools/vectors.py counts      how many packets are good or refused (to standard error)
 
-The script rests on document 01, on No. 2 of document 02 and on section 4 of document 003 alone.
-It shares nothing with the library, so that a slip in one shows against the other. Every run gives
-the same bytes.
+The script rests on document 01, on Nos. 2 and 6 of document 02 and on section 4 of document 003
+alone. It shares nothing with the library, so that a slip in one shows against the other. Every run
+gives the same bytes.
 
 The text, packet by packet:
 
@@ -81,8 +81,10 @@ SCOPE = {
 
 # Document 01's field ranges, by the name of the field in 003, and the messages that have them:
 # "The price and size ranges hold in all eleven messages", the others where document 01 has them.
-# Document 02, No. 2: "the field range for flags is struck out".
+# Document 02, No. 2: "the field range for flags is struck out". No. 6: "The largest good value is
+# 999,999,999, in every message that carries the field", which 003 prints as Timestamp, a NanoTime.
 RANGES = {
+    "Timestamp": ("0 to 999,999,999", [1, 83, 4, 5, 20, 21, 23, 24, 10, 11]),
     "Order Side": ("`B` or `S`", [20]),
     "Price": ("1 to 10^15", [20, 21, 24, 10, 11]),
     "Size": ("1 or more", [20, 21, 24, 10, 11]),
@@ -119,6 +121,7 @@ LARGEST_PACKET = 1500
 HEADER = 10  # sequence number in 8 bytes, body length in 2
 LARGEST_NUMBER = 10**12
 LARGEST_PRICE = 10**15
+LARGEST_NANOSECOND = 999_999_999
 MARKETS = b"ABCHIJKLMNPQUVWXYZ"
 
 NUMBER = "one number"
@@ -213,7 +216,10 @@ def little(part):
 
 
 def in_range(field, value):
-    """Document 01's field ranges, without that of the flags. What has none is always in range."""
+    """Document 01's field ranges, without that of the flags and with that of the nanoseconds. What
+    has none is always in range."""
+    if field == "nanoseconds":
+        return value <= LARGEST_NANOSECOND
     if field == "price":
         return 1 <= value <= LARGEST_PRICE
     if field == "size":
@@ -320,7 +326,7 @@ UNPRINTED = {(UPDATE, "nanoseconds"), (UPDATE, "reserved20"), (UPDATE, "test"),
              (UPDATE, "reserved22")}
 JUDGED = {(UPDATE, "test"), (UPDATE, "market"), (ADD, "side")} | {
     (kind, field) for kind in (ADD, MODIFY, EXECUTION, TRADE, CANCEL)
-    for field in ("price", "size")}
+    for field in ("price", "size")} | {(kind, "nanoseconds") for kind in KINDS if kind != TIME}
 
 
 def whole(kind, changes):
@@ -402,7 +408,9 @@ class Dice:
         kind = self.pick(KINDS)
         changes = {}
         for field, width, usual in LAYOUT[kind]:
-            if field == "price":
+            if field == "nanoseconds":
+                changes[field] = self.spread(0, LARGEST_NANOSECOND)
+            elif field == "price":
                 changes[field] = self.spread(1, LARGEST_PRICE)
             elif field == "size":
                 changes[field] = self.spread(1, 2**32 - 1)
@@ -579,6 +587,7 @@ def add_long_packets(vectors):
         ("side X", record(1, compose(ADD, side=ord("X")))),
         ("test indicator X", record(1, compose(UPDATE, test=ord("X")))),
         ("size 0 with flags 255", record(1, compose(MODIFY, size=0, flags=255))),
+        ("10^9 nanoseconds", record(1, compose(DELETE, nanoseconds=10**9))),
     ]
     for label, fault in faults:
         behind = (good * 100)[:1501 - len(fault)]
@@ -658,6 +667,44 @@ def add_judged_fields(vectors):
                           chr(byte) in good_letters[field], 1, kind, {field: byte})
 
 
+def add_timestamps(vectors):
+    """The nanoseconds of every message that has them, around their limit; the seconds of a System
+    Time, which are no nanoseconds; and other faults beside them."""
+    stamped = [kind for kind in KINDS if kind != TIME]
+    # 255 and 255 * 2^24 are each other's bytes turned round, and only the first is good; 60 * 2^24
+    # passes the limit by its last byte alone; 2^30 is the first number with that bit.
+    good = (0, 255, 999_999_998, 999_999_999)
+    late = (10**9, 60 * 2**24, 2**30, 2**31, 255 * 2**24, 2**32 - 1)
+    for kind in stamped:
+        for value in good + late:
+            vectors.judge("type %d, %d nanoseconds" % (kind, value), value in good, 1, kind,
+                          {"nanoseconds": value})
+        body = compose(kind, nanoseconds=10**9)
+        vectors.bad("type %d with 10^9 nanoseconds between good records" % kind, 4,
+                    record(1, compose(TIME)) + record(2, body) + record(3, compose(CLEAR)))
+        vectors.bad("3 with 4: type %d, 10^9 nanoseconds and a byte too many" % kind, 3,
+                    record(1, body + b"\x00"))
+        vectors.bad("5 with 4: type %d, number 0 and 10^9 nanoseconds" % kind, 5, record(0, body))
+        vectors.bad("2 with 4: type %d, 10^9 nanoseconds, body past the end" % kind, 2,
+                    record(2, body)[:-1])
+    for seconds in (0, 999_999_999, 10**9, 2**31, 2**32 - 1):
+        vectors.good("%d seconds in a System Time" % seconds, (1, TIME, {"seconds": seconds}))
+    wrong = {"price": 0, "size": 0, "side": ord("X"), "test": ord("X"), "market": ord("D")}
+    for kind, field in sorted(JUDGED):
+        if field not in wrong:
+            continue
+        for value in (999_999_999, 10**9, 2**32 - 1):
+            fields = {"nanoseconds": value, field: wrong[field]}
+            vectors.bad("type %d, %d nanoseconds and a bad %s" % (kind, value, field), 4,
+                        record(1, compose(kind, **fields)))
+    vectors.good("the last nanosecond of a second in every message that has nanoseconds", *[
+        (number, kind, {"nanoseconds": 999_999_999}) for number, kind in enumerate(stamped, 1)])
+    for place in (1, len(stamped)):
+        vectors.bad("record %d of all ten has 10^9 nanoseconds" % place, 4, b"".join(
+            record(number, compose(kind, nanoseconds=10**9 if number == place else 0))
+            for number, kind in enumerate(stamped, 1)))
+
+
 def add_fields_not_judged(vectors):
     """Every field without a range, at its smallest and its largest value."""
     for kind in KINDS:
@@ -669,9 +716,6 @@ def add_fields_not_judged(vectors):
                 largest[field] = bytes([255] * width) if letters else 256**width - 1
         vectors.good("type %d, all that is not judged smallest" % kind, (1, kind, smallest))
         vectors.good("type %d, all that is not judged largest" % kind, (1, kind, largest))
-    vectors.good("a whole second of nanoseconds", *[
-        (number, kind, {"nanoseconds": 10**9})
-        for number, kind in enumerate(KINDS, 1) if kind != TIME])
     for byte in range(256):
         flags = {"flags": byte}
         vectors.good("flags %d in Modify, Execution and Trade" % byte,
@@ -756,6 +800,7 @@ def add_several_faults(vectors):
         ("unknown type", 3, record(2, b"\x00" + compose(TIME)[1:])),
         ("wrong length", 3, record(2, compose(TIME) + b"\x00")),
         ("price 0", 4, record(2, compose(MODIFY, price=0))),
+        ("10^9 nanoseconds", 4, record(2, compose(CLEAR, nanoseconds=10**9))),
     ]
     for label, refusal, part in faults:
         vectors.bad("good, then " + label, refusal, good + part)
@@ -863,6 +908,7 @@ def all_vectors():
     add_long_packets(vectors)
     add_types_and_lengths(vectors)
     add_judged_fields(vectors)
+    add_timestamps(vectors)
     add_fields_not_judged(vectors)
     add_numbers(vectors)
     add_several_faults(vectors)
@@ -963,6 +1009,8 @@ def wanted_tables():
             (["No."], [[str(number)] for number in REFUSALS_IN_ORDER[1:]])],
         "Which fields are judged (\"Field ranges\")": [
             (["Field", "Good values", "In which messages"], [
+                ["nanoseconds", RANGES["Timestamp"][0], "all but %s" % ", ".join(
+                    PRINTED[kind][1] for kind in PRINTED if kind not in RANGES["Timestamp"][1])],
                 ["side", "`B` (66) or `S` (83)", messages["Order Side"]],
                 ["price", price, messages["Price"]],
                 ["size", "1 to 4,294,967,295 (the most that 4 bytes hold)", "the same five"],

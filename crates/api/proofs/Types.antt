@@ -17,7 +17,7 @@ use Rattle.api.specs.Messages.{typed, kindIn, fieldsOf}
 pub type-told : (m : Body) (b : List ℕ) → Sound m b → bodyNumber m ≡ 0 → typeOf (kindIn m) ≡ getD b 0 0
 type-told (Body.SystemTime n) b s z = sym (s .0 .type-is)
 type-told Body.SymbolUpdate b s z = sym (s .0 .type-is)
-type-told Body.SystemState b s z = sym (s .type-is)
+type-told Body.SystemState b s z = sym (s .0 .type-is)
 type-told (Body.TradingStatus m) b s z = sym (s .0 .type-is)
 type-told (Body.SymbolClear m) b s z = sym (s .0 .type-is)
 type-told (Body.Add m) b s z = sym (s .0 .type-is)

@@ -9,7 +9,7 @@ use native.Mathlib.Omega.{arith}
 use lib.ListN.{length, getD}
 use lib.Dec.{eqb, leb, ltb}
 use borrow.Author.Tests.{eq-eqb, ne-eqb, eqb-true, leb-true, lt-ltb, ltb-true}
-use Rattle.facts.specs.Limits.{mostPrice, entrySize}
+use Rattle.facts.specs.Limits.{mostPrice, mostNanos, entrySize}
 use Rattle.facts.specs.Pick.{pick, both, either}
 use Rattle.facts.proofs.Picks.{pick-ind, pick-cases, both-true, either-true, either-none}
 use Rattle.layout.specs.Shape.{Shape, width, Values}
@@ -19,9 +19,9 @@ use Rattle.kinds.specs.Table.{lengthOf, kindOf, typeOf, kindLength, refusalOf}
 use Rattle.kinds.specs.declared.Kind.{Kind}
 use Rattle.kinds.proofs.Laws.{Lengths, lengths, no-length}
 use Rattle.fields.specs.Fields.{statusOf, clearOf, addOf, modifyOf, deleteOf, executionOf, tradeOf, cancelOf, refusal, decoded, bodyNumber}
-use Rattle.fields.specs.Messages.{systemTime, symbolUpdate}
+use Rattle.fields.specs.Messages.{systemTime, symbolUpdate, systemState}
 use Rattle.fields.specs.declared.Body.{Body}
-use Rattle.body.specs.Ranges.{oneOf, sideOk, priceOk, sizeOk, testOk, marketOk}
+use Rattle.body.specs.Ranges.{nanosOk, oneOf, sideOk, priceOk, sizeOk, testOk, marketOk}
 use Rattle.body.specs.Faults.{Tests, tests, faultFrom, faultOf}
 use Rattle.body.specs.Read.{framed, judged, readBody, goodBody}
 
@@ -48,6 +48,11 @@ deal price size p s =
     let r = both-true {a = leb 1 price} {b = leb price mostPrice} p in
     record { price-from = leb-true 1 price (r .0); price-to = leb-true price mostPrice (r .1); size-from = leb-true 1 size s }
 
+-- nanoseconds of a message that has them
+in-time : (n : ℕ) → nanosOk n ≡ true → n ≤ mostNanos
+unfolding nanosOk
+in-time n h = leb-true n mostNanos h
+
 -- a side is a buy or a sell
 pub sides : (x : ℕ) → sideOk x ≡ true → (x ≡ 66) ⊎ (x ≡ 83)
 unfolding sideOk oneOf
@@ -67,16 +72,16 @@ pub record Framed (k : Kind) (b : List ℕ) : Type 0 where
 -- what an answer says: the body is framed, the message is what its layout reads there, and the fields that it shows are in range
 abbrev pub Sound : Body → List ℕ → Type 0
 Sound (Body.SystemTime n) b = Framed Kind.SystemTime b × (n ≡ readAs systemTime b)
-Sound Body.SymbolUpdate b = Framed Kind.SymbolUpdate b × (testOk (readAs symbolUpdate b .test) ≡ true) × (marketOk (readAs symbolUpdate b .market) ≡ true)
-Sound Body.SystemState b = Framed Kind.SystemState b
-Sound (Body.TradingStatus m) b = Framed Kind.TradingStatus b × (m ≡ statusOf b)
-Sound (Body.SymbolClear m) b = Framed Kind.SymbolClear b × (m ≡ clearOf b)
-Sound (Body.Add m) b = Framed Kind.Add b × (m ≡ addOf b) × (sideOk (m .side) ≡ true) × Deal (m .price) (m .size)
-Sound (Body.Modify m) b = Framed Kind.Modify b × (m ≡ modifyOf b) × Deal (m .price) (m .size)
-Sound (Body.Delete m) b = Framed Kind.Delete b × (m ≡ deleteOf b)
-Sound (Body.Execution m) b = Framed Kind.Execution b × (m ≡ executionOf b) × Deal (m .price) (m .size)
-Sound (Body.Trade m) b = Framed Kind.Trade b × (m ≡ tradeOf b) × Deal (m .price) (m .size)
-Sound (Body.TradeCancel m) b = Framed Kind.TradeCancel b × (m ≡ cancelOf b) × Deal (m .price) (m .size)
+Sound Body.SymbolUpdate b = Framed Kind.SymbolUpdate b × (testOk (readAs symbolUpdate b .test) ≡ true) × (marketOk (readAs symbolUpdate b .market) ≡ true) × (readAs symbolUpdate b .nanos ≤ mostNanos)
+Sound Body.SystemState b = Framed Kind.SystemState b × (readAs systemState b .nanos ≤ mostNanos)
+Sound (Body.TradingStatus m) b = Framed Kind.TradingStatus b × (m ≡ statusOf b) × (m .nanos ≤ mostNanos)
+Sound (Body.SymbolClear m) b = Framed Kind.SymbolClear b × (m ≡ clearOf b) × (m .nanos ≤ mostNanos)
+Sound (Body.Add m) b = Framed Kind.Add b × (m ≡ addOf b) × (sideOk (m .side) ≡ true) × Deal (m .price) (m .size) × (m .nanos ≤ mostNanos)
+Sound (Body.Modify m) b = Framed Kind.Modify b × (m ≡ modifyOf b) × Deal (m .price) (m .size) × (m .nanos ≤ mostNanos)
+Sound (Body.Delete m) b = Framed Kind.Delete b × (m ≡ deleteOf b) × (m .nanos ≤ mostNanos)
+Sound (Body.Execution m) b = Framed Kind.Execution b × (m ≡ executionOf b) × Deal (m .price) (m .size) × (m .nanos ≤ mostNanos)
+Sound (Body.Trade m) b = Framed Kind.Trade b × (m ≡ tradeOf b) × Deal (m .price) (m .size) × (m .nanos ≤ mostNanos)
+Sound (Body.TradeCancel m) b = Framed Kind.TradeCancel b × (m ≡ cancelOf b) × Deal (m .price) (m .size) × (m .nanos ≤ mostNanos)
 Sound (Body.Refused r) b = (r ≡ refusal 3) ⊎ (r ≡ refusal 4)
 
 -- every field of the kind holds its test
@@ -87,16 +92,16 @@ held k b f = no-fault (shapes k) (tests k) (fieldsIn k b) 1 (omega arith) f
 decoded-sound : (k : Kind) (b : List ℕ) → Framed k b → AllHold (shapes k) (tests k) (fieldsIn k b) → Sound (decoded k b) b
 unfolding decoded
 decoded-sound Kind.SystemTime b w h = (w, refl)
-decoded-sound Kind.SymbolUpdate b w h = (w, h .1 .1 .1 .1 .0, h .1 .1 .1 .1 .1 .1 .1 .1 .1 .0)
-decoded-sound Kind.SystemState b w h = w
-decoded-sound Kind.TradingStatus b w h = (w, refl)
-decoded-sound Kind.SymbolClear b w h = (w, refl)
-decoded-sound Kind.Add b w h = (w, refl, h .1 .1 .1 .0, deal (addOf b .price) (addOf b .size) (h .1 .1 .1 .1 .0) (h .1 .1 .1 .1 .1 .0))
-decoded-sound Kind.Modify b w h = (w, refl, deal (modifyOf b .price) (modifyOf b .size) (h .1 .1 .1 .0) (h .1 .1 .1 .1 .0))
-decoded-sound Kind.Delete b w h = (w, refl)
-decoded-sound Kind.Execution b w h = (w, refl, deal (executionOf b .price) (executionOf b .size) (h .1 .1 .1 .1 .0) (h .1 .1 .1 .1 .1 .0))
-decoded-sound Kind.Trade b w h = (w, refl, deal (tradeOf b .price) (tradeOf b .size) (h .1 .1 .1 .1 .0) (h .1 .1 .1 .1 .1 .0))
-decoded-sound Kind.TradeCancel b w h = (w, refl, deal (cancelOf b .price) (cancelOf b .size) (h .1 .1 .1 .1 .0) (h .1 .1 .1 .1 .1 .0))
+decoded-sound Kind.SymbolUpdate b w h = (w, h .1 .1 .1 .1 .0, h .1 .1 .1 .1 .1 .1 .1 .1 .1 .0, in-time _ (h .0))
+decoded-sound Kind.SystemState b w h = (w, in-time _ (h .0))
+decoded-sound Kind.TradingStatus b w h = (w, refl, in-time _ (h .0))
+decoded-sound Kind.SymbolClear b w h = (w, refl, in-time _ (h .0))
+decoded-sound Kind.Add b w h = (w, refl, h .1 .1 .1 .0, deal (addOf b .price) (addOf b .size) (h .1 .1 .1 .1 .0) (h .1 .1 .1 .1 .1 .0), in-time _ (h .0))
+decoded-sound Kind.Modify b w h = (w, refl, deal (modifyOf b .price) (modifyOf b .size) (h .1 .1 .1 .0) (h .1 .1 .1 .1 .0), in-time _ (h .0))
+decoded-sound Kind.Delete b w h = (w, refl, in-time _ (h .0))
+decoded-sound Kind.Execution b w h = (w, refl, deal (executionOf b .price) (executionOf b .size) (h .1 .1 .1 .1 .0) (h .1 .1 .1 .1 .1 .0), in-time _ (h .0))
+decoded-sound Kind.Trade b w h = (w, refl, deal (tradeOf b .price) (tradeOf b .size) (h .1 .1 .1 .1 .0) (h .1 .1 .1 .1 .1 .0), in-time _ (h .0))
+decoded-sound Kind.TradeCancel b w h = (w, refl, deal (cancelOf b .price) (cancelOf b .size) (h .1 .1 .1 .1 .0) (h .1 .1 .1 .1 .1 .0), in-time _ (h .0))
 decoded-sound Kind.Unknown b w h = inl refl
 
 judged-sound : (k : Kind) (b : List ℕ) → Framed k b → Sound (judged k b) b

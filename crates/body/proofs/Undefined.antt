@@ -21,7 +21,7 @@ use Rattle.layout.proofs.Laws.{tiles}
 use Rattle.fields.specs.Fields.{modifyOf, refusal, decoded, bodyNumber}
 use Rattle.fields.specs.declared.ModifyOrder.{ModifyOrder}
 use Rattle.fields.specs.declared.Body.{Body}
-use Rattle.body.specs.Ranges.{priceOk, sizeOk}
+use Rattle.body.specs.Ranges.{nanosOk, priceOk, sizeOk}
 use Rattle.body.specs.Faults.{faultFrom, faultOf}
 use Rattle.body.specs.Read.{framed, judged, readBody, goodBody}
 use Rattle.body.specs.Undefined.{flagged, withFlags, OnlyBits}
@@ -53,7 +53,7 @@ module _ (b : List ℕ) (x : ℕ) where
 
   fault-kept : faultOf Kind.Modify (flagged b x) ≡ faultOf Kind.Modify b
   unfolding faultOf faultFrom pick
-  fault-kept i = pick (priceOk (before 17 8 (omega arith) i)) (pick (sizeOk (before 25 4 (omega arith) i)) 0 25) 17
+  fault-kept i = pick (nanosOk (before 1 4 (omega arith) i)) (pick (priceOk (before 17 8 (omega arith) i)) (pick (sizeOk (before 25 4 (omega arith) i)) 0 25) 17) 1
 
   fields-kept : 29 < length b → modifyOf (flagged b x) ≡ withFlags (modifyOf b) x
   fields-kept l i =

@@ -6,7 +6,7 @@ use Rattle.facts.specs.Pick.{pick}
 use Rattle.kinds.specs.declared.Kind.{Kind}
 use Rattle.layout.specs.Shape.{Shape, width, Value, Values}
 use Rattle.layout.specs.Layout.{shapes, fieldsIn}
-use Rattle.body.specs.Ranges.{sideOk, priceOk, sizeOk, testOk, marketOk}
+use Rattle.body.specs.Ranges.{nanosOk, sideOk, priceOk, sizeOk, testOk, marketOk}
 
 -- a test for each field of a run
 abbrev pub Tests : List Shape → Type 0
@@ -17,19 +17,20 @@ Tests (s ∷ ss) = (Value s → Bool) × Tests ss
 abbrev pub any : {A : Type 0} → A → Bool
 any v = true
 
--- the fields of each kind in their order (layout/Layout has their names); "The price and size ranges hold in all eleven messages"
+-- the fields of each kind in their order (layout/Layout has their names); "The price and size ranges hold in all eleven messages"; the nanoseconds have theirs "in every message that
+-- carries the field", and a System Time's seconds are none
 abbrev pub tests : (k : Kind) → Tests (shapes k)
 tests Kind.SystemTime = (any, tt)
-tests Kind.SymbolUpdate = (any, (any, (any, (any, (testOk, (any, (any, (any, (any, (marketOk, tt))))))))))
-tests Kind.SystemState = (any, (any, (any, (any, tt))))
-tests Kind.TradingStatus = (any, (any, (any, (any, (any, tt)))))
-tests Kind.SymbolClear = (any, (any, tt))
-tests Kind.Add = (any, (any, (any, (sideOk, (priceOk, (sizeOk, (any, tt)))))))
-tests Kind.Modify = (any, (any, (any, (priceOk, (sizeOk, (any, tt))))))
-tests Kind.Delete = (any, (any, (any, tt)))
-tests Kind.Execution = (any, (any, (any, (any, (priceOk, (sizeOk, (any, tt)))))))
-tests Kind.Trade = (any, (any, (any, (any, (priceOk, (sizeOk, (any, tt)))))))
-tests Kind.TradeCancel = (any, (any, (any, (any, (priceOk, (sizeOk, tt))))))
+tests Kind.SymbolUpdate = (nanosOk, (any, (any, (any, (testOk, (any, (any, (any, (any, (marketOk, tt))))))))))
+tests Kind.SystemState = (nanosOk, (any, (any, (any, tt))))
+tests Kind.TradingStatus = (nanosOk, (any, (any, (any, (any, tt)))))
+tests Kind.SymbolClear = (nanosOk, (any, tt))
+tests Kind.Add = (nanosOk, (any, (any, (sideOk, (priceOk, (sizeOk, (any, tt)))))))
+tests Kind.Modify = (nanosOk, (any, (any, (priceOk, (sizeOk, (any, tt))))))
+tests Kind.Delete = (nanosOk, (any, (any, tt)))
+tests Kind.Execution = (nanosOk, (any, (any, (any, (priceOk, (sizeOk, (any, tt)))))))
+tests Kind.Trade = (nanosOk, (any, (any, (any, (priceOk, (sizeOk, (any, tt)))))))
+tests Kind.TradeCancel = (nanosOk, (any, (any, (any, (priceOk, (sizeOk, tt))))))
 tests Kind.Unknown = tt
 
 -- the offset of the first field whose test fails, the first of them lying at `at`; 0 for none

@@ -1,15 +1,19 @@
--- The field ranges of document 01, "Message bodies": "Field ranges: ..". Flags have none: "the field range for flags is struck out" (request 2).
+-- The field ranges of document 01, "Message bodies": "Field ranges: ..". Flags have none: "the field range for flags is struck out" (request 2). Timestamps have that of request 6.
 use Prim.Native.Nat.{ℕ}
 use mathlib.Core.Bool.{Bool, false}
 use mathlib.Core.List.{List, [], _∷_}
 use lib.Dec.{eqb, leb}
-use Rattle.facts.specs.Limits.{mostPrice}
+use Rattle.facts.specs.Limits.{mostPrice, mostNanos}
 use Rattle.facts.specs.Pick.{both, either}
 
 -- one of the listed bytes
 unfoldable pub oneOf : ℕ → List ℕ → Bool
 oneOf x [] = false
 oneOf x (y ∷ ys) = either (eqb x y) (oneOf x ys)
+
+-- "Nanoseconds of a second .. The largest good value is 999,999,999" (request 6)
+unfoldable pub nanosOk : ℕ → Bool
+nanosOk n = leb n mostNanos
 
 -- "side `B` or `S`"
 unfoldable pub sideOk : ℕ → Bool

@@ -7,9 +7,15 @@ ghost use Prim.Native.Nat.{_+_};
 ghost use lib.Dec.{leb};
 ghost use Rattle.facts.specs.Pick.{pick, both};
 ghost use Rattle.wire.specs.Le.{field};
-ghost use Rattle.body.specs.Ranges.{sideOk, priceOk, sizeOk, testOk, marketOk};
+ghost use Rattle.body.specs.Ranges.{nanosOk, sideOk, priceOk, sizeOk, testOk, marketOk};
 ghost use Rattle.body.specs.Faults.{faultOf};
 ghost use Rattle.body.specs.Read.{readBody};
+
+pub fn nanos_ok(n: u32) -> bool
+    ensures { λ r. ⌜ r ≡ nanosOk n ⌝ }
+{
+    n <= facts::MOST_NANOS
+}
 
 pub fn side_ok(x: u8) -> bool
     ensures { λ r. ⌜ r ≡ sideOk x ⌝ }
@@ -59,51 +65,36 @@ fn fault_at(ok: bool, at: usize, behind: usize) -> usize
     if ok { behind } else { at }
 }
 
-// Price and size, which stand side by side in every message that has them, then what is found behind them.
-fn deal_fault(b: &[u8], at: u8, behind: usize) -> usize
-    ensures { λ r. ⌜ r ≡ pick (priceOk (field (now (b .entry)) at 8)) (pick (sizeOk (field (now (b .entry)) (at + 8) 4)) behind (at + 8)) at ⌝ }
+// The Timestamp, which lies behind the type byte of every message that carries one, then what is found behind it.
+fn stamp_fault(b: &[u8], behind: usize) -> usize
+    ensures { λ r. ⌜ r ≡ pick (nanosOk (field (now (b .entry)) 1 4)) behind 1 ⌝ }
+{
+    fault_at(nanos_ok(wire::u32_at(b, 1)), 1, behind)
+}
+
+// Price and size, which stand side by side in every message that has them; no range stands behind them.
+fn deal_fault(b: &[u8], at: u8) -> usize
+    ensures { λ r. ⌜ r ≡ pick (priceOk (field (now (b .entry)) at 8)) (pick (sizeOk (field (now (b .entry)) (at + 8) 4)) 0 (at + 8)) at ⌝ }
 {
     let i = at as usize;
     let j = i + 8;
-    let size = fault_at(size_ok(wire::u32_at(b, j)), j, behind);
+    let size = fault_at(size_ok(wire::u32_at(b, j)), j, 0);
     fault_at(price_ok(wire::u64_at(b, i)), i, size)
 }
 
 fn symbol_fault(b: &[u8]) -> usize
     ensures { λ r. ⌜ r ≡ faultOf Kind.SymbolUpdate (now (b .entry)) ⌝ }
 {
-    let market = fault_at(market_ok(wire::u8_at(b, 41)), 41, 0);
-    fault_at(test_ok(wire::u8_at(b, 21)), 21, market)
+    let test = test_ok(wire::u8_at(b, 21));
+    let market = market_ok(wire::u8_at(b, 41));
+    stamp_fault(b, fault_at(test, 21, fault_at(market, 41, 0)))
 }
 
 fn add_fault(b: &[u8]) -> usize
     ensures { λ r. ⌜ r ≡ faultOf Kind.Add (now (b .entry)) ⌝ }
 {
-    fault_at(side_ok(wire::u8_at(b, 17)), 17, deal_fault(b, 18, 0))
-}
-
-fn modify_fault(b: &[u8]) -> usize
-    ensures { λ r. ⌜ r ≡ faultOf Kind.Modify (now (b .entry)) ⌝ }
-{
-    deal_fault(b, 17, 0)
-}
-
-fn execution_fault(b: &[u8]) -> usize
-    ensures { λ r. ⌜ r ≡ faultOf Kind.Execution (now (b .entry)) ⌝ }
-{
-    deal_fault(b, 25, 0)
-}
-
-fn trade_fault(b: &[u8]) -> usize
-    ensures { λ r. ⌜ r ≡ faultOf Kind.Trade (now (b .entry)) ⌝ }
-{
-    deal_fault(b, 18, 0)
-}
-
-fn cancel_fault(b: &[u8]) -> usize
-    ensures { λ r. ⌜ r ≡ faultOf Kind.TradeCancel (now (b .entry)) ⌝ }
-{
-    deal_fault(b, 18, 0)
+    let side = side_ok(wire::u8_at(b, 17));
+    stamp_fault(b, fault_at(side, 17, deal_fault(b, 18)))
 }
 
 // The first byte of the earliest field out of range, 0 for none (no field starts at 0).
@@ -113,15 +104,15 @@ fn fault(k: Kind, b: &[u8]) -> usize
     match k {
         Kind::SystemTime => 0,
         Kind::SymbolUpdate => symbol_fault(b),
-        Kind::SystemState => 0,
-        Kind::TradingStatus => 0,
-        Kind::SymbolClear => 0,
+        Kind::SystemState => stamp_fault(b, 0),
+        Kind::TradingStatus => stamp_fault(b, 0),
+        Kind::SymbolClear => stamp_fault(b, 0),
         Kind::Add => add_fault(b),
-        Kind::Modify => modify_fault(b),
-        Kind::Delete => 0,
-        Kind::Execution => execution_fault(b),
-        Kind::Trade => trade_fault(b),
-        Kind::TradeCancel => cancel_fault(b),
+        Kind::Modify => stamp_fault(b, deal_fault(b, 17)),
+        Kind::Delete => stamp_fault(b, 0),
+        Kind::Execution => stamp_fault(b, deal_fault(b, 25)),
+        Kind::Trade => stamp_fault(b, deal_fault(b, 18)),
+        Kind::TradeCancel => stamp_fault(b, deal_fault(b, 18)),
         Kind::Unknown => 0,
     }
 }

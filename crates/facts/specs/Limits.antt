@@ -1,4 +1,4 @@
--- The limits of document 01, and what follows of them, each once. The code's are the constants of src/lib.rt; a contract that speaks of both ties them.
+-- The limits of documents 01 and 02, and what follows of them, each once. The code's are the constants of src/lib.rt; a contract that speaks of both ties them.
 use Prim.Native.Nat.{ℕ}
 
 -- "Sequence numbers run from 1 to 1,000,000,000,000"
@@ -8,6 +8,10 @@ lastNumber = 1000000000000
 -- "price (millionths of a dollar) 1 to 1,000,000,000,000,000"
 abbrev pub mostPrice : ℕ
 mostPrice = 1000000000000000
+
+-- "The largest good value is 999,999,999", of a Timestamp (document 02, No. 6)
+abbrev pub mostNanos : ℕ
+mostNanos = 999999999
 
 -- "A packet is 1 to 1,500 bytes"
 abbrev pub packetMost : ℕ

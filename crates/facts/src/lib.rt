@@ -6,10 +6,12 @@ pub enum Found {
     Nothing,
 }
 
-// The limits of document 01, each by one name (specs/Limits.antt has its sentences).
+// The limits of documents 01 and 02, each by one name (specs/Limits.antt has its sentences).
 pub const LAST_NUMBER: u64 = 1_000_000_000_000;
 
 pub const MOST_PRICE: u64 = 1_000_000_000_000_000;
+
+pub const MOST_NANOS: u32 = 999_999_999;
 
 pub const PACKET_MOST: usize = 1_500;
 

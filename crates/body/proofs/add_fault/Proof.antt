@@ -5,6 +5,7 @@ use Rattle.body.specs.Faults.{faultFrom, faultOf}
 use borrow.Author.Needs.{needs}
 use Rattle.body.proofs.add_fault.Statement.{statement}
 use Rattle.body.proofs.add_fault.Tie as tie
+use Rattle.wire.proofs.u8_at.Reads as u8-at-reads
 
 u8-at-requires : tie.Need-u8-at-requires
 u8-at-requires c κs = search needs
@@ -18,6 +19,9 @@ deal-fault-requires c κs = search needs
 fault-at-requires : tie.Need-fault-at-requires
 fault-at-requires c κs = search needs
 
+stamp-fault-requires : tie.Need-stamp-fault-requires
+stamp-fault-requires c κs = search needs
+
 returns : tie.Need-returns
 unfolding faultOf faultFrom pick
 returns c = cc
@@ -25,4 +29,10 @@ returns c = cc
 pub add-fault-spec : {M : Type 1} → statement M
 add-fault-spec =
     tie.close
-    (tie.spec u8-at-requires side-ok-requires deal-fault-requires fault-at-requires returns)
+    (tie.spec
+    u8-at-requires
+    side-ok-requires
+    deal-fault-requires
+    fault-at-requires
+    stamp-fault-requires
+    returns)

@@ -1,4 +1,4 @@
--- Each arm knows its kind, and answers by that kind's own function, or 0 where the kind has no range.
+-- Each arm knows its kind, and answers by the tests of that kind: its own function, the Timestamp and what is found behind it, or 0 where nothing is judged.
 -- Assumes nothing.
 use mathlib.Core.Path.{refl}
 use Rattle.facts.specs.Pick.{pick}
@@ -19,11 +19,20 @@ symbol-fault-requires c κs = search needs
 enum-told-3 : tie.Need-enum-told-3
 enum-told-3 c = search needs
 
+stamp-fault-requires : tie.Need-stamp-fault-requires
+stamp-fault-requires c κs = search needs
+
 enum-told-4 : tie.Need-enum-told-4
 enum-told-4 c = search needs
 
+stamp-fault-requires-2 : tie.Need-stamp-fault-requires-2
+stamp-fault-requires-2 c κs = search needs
+
 enum-told-5 : tie.Need-enum-told-5
 enum-told-5 c = search needs
+
+stamp-fault-requires-3 : tie.Need-stamp-fault-requires-3
+stamp-fault-requires-3 c κs = search needs
 
 enum-told-6 : tie.Need-enum-told-6
 enum-told-6 c = search needs
@@ -34,29 +43,44 @@ add-fault-requires c κs = search needs
 enum-told-7 : tie.Need-enum-told-7
 enum-told-7 c = search needs
 
-modify-fault-requires : tie.Need-modify-fault-requires
-modify-fault-requires c κs = search needs
+deal-fault-requires : tie.Need-deal-fault-requires
+deal-fault-requires c κs = search needs
+
+stamp-fault-requires-4 : tie.Need-stamp-fault-requires-4
+stamp-fault-requires-4 c κs = search needs
 
 enum-told-8 : tie.Need-enum-told-8
 enum-told-8 c = search needs
 
+stamp-fault-requires-5 : tie.Need-stamp-fault-requires-5
+stamp-fault-requires-5 c κs = search needs
+
 enum-told-9 : tie.Need-enum-told-9
 enum-told-9 c = search needs
 
-execution-fault-requires : tie.Need-execution-fault-requires
-execution-fault-requires c κs = search needs
+deal-fault-requires-2 : tie.Need-deal-fault-requires-2
+deal-fault-requires-2 c κs = search needs
+
+stamp-fault-requires-6 : tie.Need-stamp-fault-requires-6
+stamp-fault-requires-6 c κs = search needs
 
 enum-told-10 : tie.Need-enum-told-10
 enum-told-10 c = search needs
 
-trade-fault-requires : tie.Need-trade-fault-requires
-trade-fault-requires c κs = search needs
+deal-fault-requires-3 : tie.Need-deal-fault-requires-3
+deal-fault-requires-3 c κs = search needs
+
+stamp-fault-requires-7 : tie.Need-stamp-fault-requires-7
+stamp-fault-requires-7 c κs = search needs
 
 enum-told-11 : tie.Need-enum-told-11
 enum-told-11 c = search needs
 
-cancel-fault-requires : tie.Need-cancel-fault-requires
-cancel-fault-requires c κs = search needs
+deal-fault-requires-4 : tie.Need-deal-fault-requires-4
+deal-fault-requires-4 c κs = search needs
+
+stamp-fault-requires-8 : tie.Need-stamp-fault-requires-8
+stamp-fault-requires-8 c κs = search needs
 
 enum-told-12 : tie.Need-enum-told-12
 enum-told-12 c = search needs
@@ -70,34 +94,38 @@ returns-2 c = rw (c .before .enum-told2 .given .1) (c .symbol-fault .ensures)
 
 returns-3 : tie.Need-returns-3
 unfolding faultOf faultFrom pick
-returns-3 c = rw (c .enum-told3 .given .1) refl
+returns-3 c = rw (c .before .enum-told3 .given .1) (c .stamp-fault .ensures)
 
 returns-4 : tie.Need-returns-4
 unfolding faultOf faultFrom pick
-returns-4 c = rw (c .enum-told4 .given .1) refl
+returns-4 c = rw (c .before .enum-told4 .given .1) (c .stamp-fault2 .ensures)
 
 returns-5 : tie.Need-returns-5
 unfolding faultOf faultFrom pick
-returns-5 c = rw (c .enum-told5 .given .1) refl
+returns-5 c = rw (c .before .enum-told5 .given .1) (c .stamp-fault3 .ensures)
 
 returns-6 : tie.Need-returns-6
 returns-6 c = rw (c .before .enum-told6 .given .1) (c .add-fault .ensures)
 
 returns-7 : tie.Need-returns-7
-returns-7 c = rw (c .before .enum-told7 .given .1) (c .modify-fault .ensures)
+unfolding faultOf faultFrom pick
+returns-7 c = rw (c .before .before .enum-told7 .given .1, ← c .before .deal-fault .ensures) (c .stamp-fault4 .ensures)
 
 returns-8 : tie.Need-returns-8
 unfolding faultOf faultFrom pick
-returns-8 c = rw (c .enum-told8 .given .1) refl
+returns-8 c = rw (c .before .enum-told8 .given .1) (c .stamp-fault5 .ensures)
 
 returns-9 : tie.Need-returns-9
-returns-9 c = rw (c .before .enum-told9 .given .1) (c .execution-fault .ensures)
+unfolding faultOf faultFrom pick
+returns-9 c = rw (c .before .before .enum-told9 .given .1, ← c .before .deal-fault2 .ensures) (c .stamp-fault6 .ensures)
 
 returns-10 : tie.Need-returns-10
-returns-10 c = rw (c .before .enum-told10 .given .1) (c .trade-fault .ensures)
+unfolding faultOf faultFrom pick
+returns-10 c = rw (c .before .before .enum-told10 .given .1, ← c .before .deal-fault3 .ensures) (c .stamp-fault7 .ensures)
 
 returns-11 : tie.Need-returns-11
-returns-11 c = rw (c .before .enum-told11 .given .1) (c .cancel-fault .ensures)
+unfolding faultOf faultFrom pick
+returns-11 c = rw (c .before .before .enum-told11 .given .1, ← c .before .deal-fault4 .ensures) (c .stamp-fault8 .ensures)
 
 returns-12 : tie.Need-returns-12
 unfolding faultOf faultFrom pick
@@ -111,19 +139,27 @@ fault-spec =
     enum-told-2
     symbol-fault-requires
     enum-told-3
+    stamp-fault-requires
     enum-told-4
+    stamp-fault-requires-2
     enum-told-5
+    stamp-fault-requires-3
     enum-told-6
     add-fault-requires
     enum-told-7
-    modify-fault-requires
+    deal-fault-requires
+    stamp-fault-requires-4
     enum-told-8
+    stamp-fault-requires-5
     enum-told-9
-    execution-fault-requires
+    deal-fault-requires-2
+    stamp-fault-requires-6
     enum-told-10
-    trade-fault-requires
+    deal-fault-requires-3
+    stamp-fault-requires-7
     enum-told-11
-    cancel-fault-requires
+    deal-fault-requires-4
+    stamp-fault-requires-8
     enum-told-12
     returns
     returns-2
