@@ -2,7 +2,7 @@
 
 use crate::desk::Desk;
 use crate::morning::*;
-use crate::packet::{little, read_packet, SYSTEM_TIME};
+use crate::packet::{little, read_packet};
 use crate::receiver::{highest_number, slot, slot_number};
 use crate::tables::{MOST_ENTRIES, MOST_ROWS};
 
@@ -237,22 +237,6 @@ pub fn long_packets() -> Vec<Vec<u8>> {
     }
     assert!(writer.packets.iter().all(|packet| packet.len() <= 65_535));
     writer.packets
-}
-
-/// A packet as the tap fault of request 6 makes it, with "1,000,000,000 in a Timestamp": the first that it
-/// has. What it held is a gap then.
-fn with_tap_fault(good: &[u8]) -> Vec<u8> {
-    let mut records = Vec::new();
-    let mut done = false;
-    for one in read_packet(good).expect("a good packet") {
-        let mut body = one.body.to_vec();
-        if !done && body[0] != SYSTEM_TIME {
-            set_timestamp(&mut body, 1_000_000_000);
-            done = true;
-        }
-        records.push((one.number, body));
-    }
-    packet(&records)
 }
 
 /// A number on the shelf that is neither next nor gone.

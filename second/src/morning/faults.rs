@@ -141,6 +141,22 @@ fn faulty_record(dice: &mut Dice, refusal: u8) -> Vec<u8> {
     record(number, &bad_body(dice.bits(), refusal))
 }
 
+/// A good packet as the tap fault of request 6 makes it, with "1,000,000,000 in a Timestamp": the first
+/// that it has. One of System Times alone stays as it is.
+pub fn with_tap_fault(good: &[u8]) -> Vec<u8> {
+    let mut records = Vec::new();
+    let mut done = false;
+    for one in read_packet(good).expect("a good packet") {
+        let mut body = one.body.to_vec();
+        if !done && body[0] != SYSTEM_TIME {
+            set_timestamp(&mut body, 1_000_000_000);
+            done = true;
+        }
+        records.push((one.number, body));
+    }
+    packet(&records)
+}
+
 /// A packet's end that is refused with 2, perhaps with lesser faults too.
 fn faulty_end(dice: &mut Dice) -> Vec<u8> {
     let number = any_number(dice);
