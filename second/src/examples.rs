@@ -171,7 +171,8 @@ impl Writer {
 }
 
 /// The long recording's packets: lines A and B with losses, repeats and late copies, gap fills
-/// where they are missed, differing copies of what lies on the shelf, and bad packets.
+/// where they are missed, differing copies of what lies on the shelf, and bad packets, among them
+/// some with the tap fault of request 6.
 pub fn long_packets() -> Vec<Vec<u8>> {
     let list = long_list();
     let settings = DeliverySettings {
@@ -192,7 +193,10 @@ pub fn long_packets() -> Vec<Vec<u8>> {
         packets: Vec::new(),
     };
     let mut missed = (0, 0); // a next number, and for how many packets it has been missed
-    for (place, packet) in delivery(43, &list, settings).into_iter().enumerate() {
+    for (place, mut packet) in delivery(43, &list, settings).into_iter().enumerate() {
+        if place % 60 == 24 {
+            packet = with_tap_fault(&packet);
+        }
         writer.give(packet);
         let next = writer.desk.state.next;
         if dice.chance(120) {

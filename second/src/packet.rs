@@ -9,6 +9,8 @@ pub const HEADER_BYTES: usize = 10;
 pub const LAST_NUMBER: u64 = 1_000_000_000_000;
 /// "price (millionths of a dollar) 1 to 1,000,000,000,000,000"
 pub const HIGHEST_PRICE: u64 = 1_000_000_000_000_000;
+/// Request 6: "The largest good value is 999,999,999".
+pub const LAST_NANOSECOND: u32 = 999_999_999;
 
 pub const SYSTEM_TIME: u8 = 49;
 pub const SYMBOL_UPDATE: u8 = 1;
@@ -346,6 +348,15 @@ fn check_price_and_size(price: u64, size: u32) -> Result<(), u8> {
     check(size >= 1)
 }
 
+/// The nanoseconds of a body that has a Timestamp, or 4. All messages but System Time have one, as 003's
+/// NanoTime behind the type byte. Request 6: "The largest good value is 999,999,999, in every message
+/// that carries the field. Larger is refused with 4".
+fn timestamp(body: &[u8]) -> Result<u32, u8> {
+    let nanoseconds = u32_at(body, 1);
+    check(nanoseconds <= LAST_NANOSECOND)?;
+    Ok(nanoseconds)
+}
+
 /// A body: refused with 3 ("no such type, an empty body, or not that type's length"), else with 4
 /// ("a field out of range"), else the message that its type byte decides.
 pub fn read_body(body: &[u8]) -> Result<Message, u8> {
@@ -362,7 +373,7 @@ pub fn read_body(body: &[u8]) -> Result<Message, u8> {
         }),
         SYMBOL_UPDATE => {
             let update = SymbolUpdate {
-                nanoseconds: u32_at(body, 1),
+                nanoseconds: timestamp(body)?,
                 symbol: u32_at(body, 5),
                 ticker: bytes_at(body, 9),
                 reserved20: body[20],
@@ -379,23 +390,24 @@ pub fn read_body(body: &[u8]) -> Result<Message, u8> {
             Ok(Message::SymbolUpdate(update))
         }
         SYSTEM_STATE => Ok(Message::SystemState {
-            nanoseconds: u32_at(body, 1),
+            nanoseconds: timestamp(body)?,
             version: bytes_at(body, 5),
             session: body[13],
             status: body[14],
         }),
         TRADING_STATUS => Ok(Message::TradingStatus {
-            nanoseconds: u32_at(body, 1),
+            nanoseconds: timestamp(body)?,
             symbol: u32_at(body, 5),
             trading: body[9],
             market_state: body[10],
             short_sale: body[11],
         }),
         SYMBOL_CLEAR => Ok(Message::SymbolClear {
-            nanoseconds: u32_at(body, 1),
+            nanoseconds: timestamp(body)?,
             symbol: u32_at(body, 5),
         }),
         ADD_ORDER => {
+            let nanoseconds = timestamp(body)?;
             let side = match body[17] {
                 b'B' => Side::Buy,
                 b'S' => Side::Sell,
@@ -405,7 +417,7 @@ pub fn read_body(body: &[u8]) -> Result<Message, u8> {
             let size = u32_at(body, 26);
             check_price_and_size(price, size)?;
             Ok(Message::AddOrder {
-                nanoseconds: u32_at(body, 1),
+                nanoseconds,
                 symbol: u32_at(body, 5),
                 order: u64_at(body, 9),
                 side,
@@ -415,6 +427,7 @@ pub fn read_body(body: &[u8]) -> Result<Message, u8> {
             })
         }
         MODIFY_ORDER => {
+            let nanoseconds = timestamp(body)?;
             let price = u64_at(body, 17);
             let size = u32_at(body, 25);
             check_price_and_size(price, size)?;
@@ -422,7 +435,7 @@ pub fn read_body(body: &[u8]) -> Result<Message, u8> {
             // want zeros. They are ignored from now on, kept on the shelf as they came, and the
             // field range for flags is struck out."
             Ok(Message::ModifyOrder {
-                nanoseconds: u32_at(body, 1),
+                nanoseconds,
                 symbol: u32_at(body, 5),
                 order: u64_at(body, 9),
                 price,
@@ -431,16 +444,17 @@ pub fn read_body(body: &[u8]) -> Result<Message, u8> {
             })
         }
         DELETE_ORDER => Ok(Message::DeleteOrder {
-            nanoseconds: u32_at(body, 1),
+            nanoseconds: timestamp(body)?,
             symbol: u32_at(body, 5),
             order: u64_at(body, 9),
         }),
         ORDER_EXECUTION => {
+            let nanoseconds = timestamp(body)?;
             let price = u64_at(body, 25);
             let size = u32_at(body, 33);
             check_price_and_size(price, size)?;
             Ok(Message::OrderExecution {
-                nanoseconds: u32_at(body, 1),
+                nanoseconds,
                 symbol: u32_at(body, 5),
                 order: u64_at(body, 9),
                 trade: u64_at(body, 17),
@@ -450,11 +464,12 @@ pub fn read_body(body: &[u8]) -> Result<Message, u8> {
             })
         }
         TRADE => {
+            let nanoseconds = timestamp(body)?;
             let price = u64_at(body, 18);
             let size = u32_at(body, 26);
             check_price_and_size(price, size)?;
             Ok(Message::Trade {
-                nanoseconds: u32_at(body, 1),
+                nanoseconds,
                 symbol: u32_at(body, 5),
                 trade: u64_at(body, 9),
                 correction: body[17],
@@ -464,11 +479,12 @@ pub fn read_body(body: &[u8]) -> Result<Message, u8> {
             })
         }
         TRADE_CANCEL => {
+            let nanoseconds = timestamp(body)?;
             let price = u64_at(body, 18);
             let size = u32_at(body, 26);
             check_price_and_size(price, size)?;
             Ok(Message::TradeCancel {
-                nanoseconds: u32_at(body, 1),
+                nanoseconds,
                 symbol: u32_at(body, 5),
                 trade: u64_at(body, 9),
                 correction: body[17],

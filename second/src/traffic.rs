@@ -2,7 +2,7 @@
 //! several records. Everything is a function of a seed.
 
 use crate::morning::*;
-use crate::packet::MOST_PACKET_BYTES;
+use crate::packet::{LAST_NANOSECOND, MOST_PACKET_BYTES};
 
 /// Symbols in play.
 const SYMBOLS: u64 = 40;
@@ -78,7 +78,7 @@ impl Traffic {
     }
 
     fn nanoseconds(&mut self) -> u32 {
-        self.dice.below(1_000_000_000) as u32
+        self.dice.between(0, LAST_NANOSECOND.into()) as u32
     }
 
     fn price(&mut self, symbol: u32, side: u8) -> u64 {

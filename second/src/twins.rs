@@ -3,10 +3,10 @@
 //! filled with a mark first, so that a stray write shows.
 
 use crate::desk::{Desk, MARK, MARK_BYTE};
-use crate::morning::{differ_in_undefined_bits_alone, Dice};
+use crate::morning::{differ_in_undefined_bits_alone, set_timestamp, Dice};
 use crate::packet::*;
 use crate::proved::{lent, Proved, SHEET_BYTES};
-use crate::receiver::{filled_slot, slot, Answer, SLOTS, SLOT_BYTES};
+use crate::receiver::{filled_slot, slot, slot_number, Answer, SLOTS, SLOT_BYTES};
 use crate::sheet::sheet;
 use crate::stream::Stream;
 use crate::tables::*;
@@ -26,6 +26,12 @@ pub struct Tally {
     pub stops: [u64; 28],
     /// Records by their answer, 10 to 14.
     pub records: [u64; 5],
+    /// Bodies by the places of their types, good but perhaps for their Timestamp (request 6): those that
+    /// have 999,999,999 in it, or as a System Time's seconds, and those that have more.
+    pub at_the_limit: [u64; 11],
+    pub beyond_the_limit: [u64; 11],
+    /// Accepted packets that stopped by 27 for a Timestamp alone.
+    pub stops_by_timestamp: u64,
     /// Records answered 14 that differ from the Modify on the shelf in undefined bits alone (request 2).
     pub differing_by_undefined_bits: u64,
     pub applied: u64,
@@ -58,6 +64,9 @@ impl Tally {
         add_each(&mut self.refusals, &other.refusals);
         add_each(&mut self.stops, &other.stops);
         add_each(&mut self.records, &other.records);
+        add_each(&mut self.at_the_limit, &other.at_the_limit);
+        add_each(&mut self.beyond_the_limit, &other.beyond_the_limit);
+        self.stops_by_timestamp += other.stops_by_timestamp;
         self.differing_by_undefined_bits += other.differing_by_undefined_bits;
         self.applied += other.applied;
         self.bodies += other.bodies;
@@ -93,7 +102,17 @@ impl Tally {
         for ((kind, _), count) in TYPES_AND_LENGTHS.iter().zip(self.spoiled) {
             seen.push((format!("type {kind} over a spoiled row"), count));
         }
+        for (place, (kind, _)) in TYPES_AND_LENGTHS.iter().enumerate() {
+            let field = match *kind {
+                SYSTEM_TIME => "seconds",
+                _ => "Timestamp",
+            };
+            let (at, beyond) = (self.at_the_limit[place], self.beyond_the_limit[place]);
+            seen.push((format!("type {kind}, {field} of 999,999,999"), at));
+            seen.push((format!("type {kind}, {field} above that alone"), beyond));
+        }
         for (what, count) in [
+            ("stop 27 by a Timestamp alone", self.stops_by_timestamp),
             (
                 "a differing copy by undefined bits alone",
                 self.differing_by_undefined_bits,
@@ -348,6 +367,8 @@ impl Twins {
                 add_each(&mut tally.records, &answer.counts());
                 tally.differing_by_undefined_bits +=
                     differing_by_undefined_bits(packet, answer, &self.second.shelf);
+                tally.stops_by_timestamp +=
+                    u64::from(stopped_by_timestamp(answer, &self.second.shelf));
             }
         }
     }
@@ -372,12 +393,12 @@ impl Twins {
             };
             same("record: answer", &number, &wanted)?;
             same("record: head", &head, &wanted_head)?;
+            let (body, behind) = claimed_body(rest);
+            self.body(body)?;
             if wanted != 0 {
-                return self.body(&rest[rest.len().min(HEADER_BYTES)..]);
+                return Ok(());
             }
-            let end = HEADER_BYTES + wanted_head[1] as usize;
-            self.body(&rest[HEADER_BYTES..end])?;
-            rest = &rest[end..];
+            rest = behind;
         }
     }
 
@@ -391,7 +412,21 @@ impl Twins {
             Ok(message) => (0, fields_of(&message)),
         };
         same("body: answer", &number, &wanted)?;
-        same("body: fields", &fields, &wanted_fields)
+        same("body: fields", &fields, &wanted_fields)?;
+        self.note_timestamp(body);
+        Ok(())
+    }
+
+    fn note_timestamp(&mut self, body: &[u8]) {
+        let Some(nanoseconds) = timestamp_of_a_good_rest(body) else {
+            return;
+        };
+        for (place, (kind, _)) in TYPES_AND_LENGTHS.iter().enumerate() {
+            if *kind == body[0] {
+                self.tally.at_the_limit[place] += u64::from(nanoseconds == LAST_NANOSECOND);
+                self.tally.beyond_the_limit[place] += u64::from(nanoseconds > LAST_NANOSECOND);
+            }
+        }
     }
 
     /// Every byte of tables, shelf and state. (The state of a refused call is the caller's to judge.)
@@ -582,6 +617,33 @@ fn differing_by_undefined_bits(packet: &[u8], answer: &Answer, shelf: &[u8]) -> 
         count += u64::from(alone && in_reach.contains(&record.number));
     }
     count
+}
+
+/// The body of the first record of what is left of a packet, by its header's length and as far as there
+/// are bytes, and what lies behind it.
+fn claimed_body(rest: &[u8]) -> (&[u8], &[u8]) {
+    if rest.len() < HEADER_BYTES {
+        return (&[], &[]);
+    }
+    let (header, rest) = rest.split_at(HEADER_BYTES);
+    let length = little(&header[8..]) as usize;
+    rest.split_at(length.min(rest.len()))
+}
+
+/// What stands in the Timestamp, or as a System Time's seconds, if all the rest of the body is good.
+fn timestamp_of_a_good_rest(body: &[u8]) -> Option<u32> {
+    let nanoseconds = little(body.get(1..5)?) as u32;
+    let mut at_0 = body.to_vec();
+    set_timestamp(&mut at_0, 0);
+    read_body(&at_0).ok().map(|_| nanoseconds)
+}
+
+/// Whether the work stopped at a body that is no good one for its Timestamp alone.
+fn stopped_by_timestamp(answer: &Answer, shelf: &[u8]) -> bool {
+    let slot = slot(shelf, answer.next);
+    let (body, _) = claimed_body(slot);
+    let beyond = timestamp_of_a_good_rest(body).is_some_and(|told| told > LAST_NANOSECOND);
+    answer.stop == 27 && slot_number(slot) == answer.next && beyond
 }
 
 fn shown(text: &[u8]) -> String {

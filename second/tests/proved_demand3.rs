@@ -3,29 +3,8 @@
 #![cfg(linked)]
 
 mod common;
-use common::watched::{self, Receiver, Three};
+use common::watched;
 use second::proved::Proved;
-use second::receiver::{Answer, State};
-
-impl Receiver for Proved {
-    fn started(rows: usize, entries: usize) -> Proved {
-        Proved::new(rows, entries).expect("capacities in the limits")
-    }
-
-    fn hear(&mut self, packet: &[u8]) -> Result<Answer, u8> {
-        self.receive(packet).map_err(|refusal| refusal.number())
-    }
-
-    fn state(&self) -> State {
-        let [next, second, stop] = self.state;
-        let stop = u8::try_from(stop).expect("0 or 20 to 27");
-        State { next, second, stop }
-    }
-
-    fn three(&self) -> Three {
-        (self.orders.clone(), self.symbols.clone(), self.state[1])
-    }
-}
 
 #[test]
 fn deliveries_of_true_copies() {

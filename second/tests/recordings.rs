@@ -4,7 +4,7 @@ mod common;
 use common::*;
 use second::examples::*;
 use second::morning::*;
-use second::packet::{read_packet, LAST_NUMBER, MODIFY_ORDER};
+use second::packet::{little, read_packet, LAST_NUMBER, MODIFY_ORDER};
 use second::sheet::*;
 use std::collections::{BTreeMap, BTreeSet};
 
@@ -196,6 +196,32 @@ fn the_example_files_are_those_that_make_examples_writes() {
     assert!(example_file("long.sheet") == sheet_of_recording(&long).unwrap());
 }
 
+/// The numbers of a packet's records, if they are the list's but for one that has 1,000,000,000 in its
+/// Timestamp.
+fn tap_fault(packet: &[u8], list: &[Vec<u8>]) -> Option<Vec<u64>> {
+    let (mut numbers, mut faults) = (Vec::new(), 0);
+    let mut rest = packet;
+    while !rest.is_empty() {
+        let number = little(rest.get(..8)?);
+        let end = 10 + little(rest.get(8..10)?) as usize;
+        let (body, own) = (
+            rest.get(10..end)?,
+            list.get(number.checked_sub(1)? as usize)?,
+        );
+        if body != own {
+            let mut faulty = own.clone();
+            set_timestamp(&mut faulty, 1_000_000_000);
+            faults += 1;
+            if body != faulty {
+                return None;
+            }
+        }
+        numbers.push(number);
+        rest = &rest[end..];
+    }
+    (faults == 1).then_some(numbers)
+}
+
 /// The long recording has what it is there for.
 #[test]
 fn the_long_recording_shows_everything() {
@@ -214,10 +240,23 @@ fn the_long_recording_shows_everything() {
     let mut refused = [0; 7];
     let mut waited = 0;
     let mut by_undefined_bits = 0;
+    let (mut tap_faults, mut gap, mut gaps) = (0, 0, 0);
     for packet in long_packets() {
+        let tap_fault = tap_fault(&packet, &list);
         match desk.give(&packet) {
-            Err(number) => refused[number as usize] += 1,
+            Err(number) => {
+                refused[number as usize] += 1;
+                if let Some(numbers) = tap_fault {
+                    assert_eq!(number, 4);
+                    tap_faults += 1;
+                    if numbers.contains(&desk.state.next) {
+                        gap = desk.state.next;
+                    }
+                }
+            }
             Ok(answer) => {
+                assert_eq!(tap_fault, None);
+                gaps += u64::from(answer.next == gap && answer.highest > gap);
                 for one in read_packet(&packet).unwrap() {
                     let alone = shadow.give(&record(one.number, one.body)).unwrap();
                     // Whatever is no copy of the list's is told apart (14), so the book is the list's.
@@ -238,6 +277,8 @@ fn the_long_recording_shows_everything() {
     assert!(refused[1..=5].iter().all(|count| *count > 3), "{refused:?}");
     assert!(waited > 50);
     assert!(by_undefined_bits > 0);
+    assert!(tap_faults > 3, "{tap_faults}");
+    assert!(gaps > 1, "{gaps}");
     assert_eq!((state.stop, state.next), (24, list.len() as u64 - 20));
 
     let text = sheet_text(&long_recording());

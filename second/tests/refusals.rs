@@ -203,11 +203,13 @@ fn nothing_else_is_judged() {
     ];
     for (body, judged) in bodies {
         assert_eq!(length_of_type(body[0]), Some(body.len()));
+        // A Timestamp is judged (request 6), a System Time's seconds are not.
+        let timestamp = if body[0] == SYSTEM_TIME { 0..0 } else { 1..5 };
         for at in 1..body.len() {
             for byte in 0..=255 {
                 let mut changed = body.clone();
                 changed[at] = byte;
-                if !judged.contains(&at) {
+                if !judged.contains(&at) && !timestamp.contains(&at) {
                     assert!(read_body(&changed).is_ok(), "type {}, byte {at}", body[0]);
                 }
             }

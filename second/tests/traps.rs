@@ -48,8 +48,8 @@ fn a_known_type_with_another_length_is_3_before_a_field_is_looked_at() {
         );
         kinds.insert(body[0]);
     }
-    // The six that have a judged field.
-    let judged = [1, 10, 11, 20, 21, 24];
+    // The ten that have a judged field: all but System Time.
+    let judged = [1, 4, 5, 10, 11, 20, 21, 23, 24, 83];
     assert_eq!(kinds.into_iter().collect::<Vec<_>>(), judged);
 }
 

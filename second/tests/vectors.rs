@@ -89,7 +89,7 @@ fn a_symbol_update_keeps_all_42_bytes() {
             0 => 1,
             21 => b'Y',
             41 => b'Z',
-            _ => 100 + at,
+            _ => at,
         })
         .collect();
     match read_body(&body) {
@@ -98,8 +98,8 @@ fn a_symbol_update_keeps_all_42_bytes() {
             assert_eq!(update.nanoseconds.to_le_bytes(), body[1..5]);
             assert_eq!(update.symbol.to_le_bytes(), body[5..9]);
             assert_eq!(update.ticker, body[9..20]);
-            assert_eq!((update.reserved20, update.test), (120, b'Y'));
-            assert_eq!(update.reserved22, 122);
+            assert_eq!((update.reserved20, update.test), (20, b'Y'));
+            assert_eq!(update.reserved22, 22);
             assert_eq!(update.lot.to_le_bytes(), body[23..25]);
             assert_eq!(update.opening, body[25..33]);
             assert_eq!(update.closing, body[33..41]);

@@ -324,10 +324,11 @@ mod linked {
                 matches!(body[21], b'Y' | b'N') && b"ABCHIJKLMNPQUVWXYZ".contains(&body[41])
             }
             ADD_ORDER => matches!(body[17], b'B' | b'S'),
-            MODIFY_ORDER => body[29] < 2,
             _ => true,
         };
-        if priced && judged {
+        let nanoseconds = u32::from_le_bytes([body[1], body[2], body[3], body[4]]);
+        let timed = kind == SYSTEM_TIME || nanoseconds <= LAST_NANOSECOND;
+        if timed && priced && judged {
             Ok(())
         } else {
             Err(4)

@@ -1,8 +1,8 @@
 //! Damage to tables, shelves and states, as a caller may do it between two calls.
 
 use super::{
-    bad_body, bad_packet, delivery, differing_copy, good_body, list, packet, rough_delivery, Dice,
-    ListSettings,
+    bad_body, bad_nanoseconds, bad_packet, delivery, differing_copy, good_body, good_nanoseconds,
+    list, packet, rough_delivery, set_timestamp, Dice, ListSettings,
 };
 use crate::desk::Desk;
 use crate::packet::*;
@@ -82,7 +82,7 @@ pub fn damage_shelf(seed: u64, shelf: &mut [u8], next: u64) {
             _ => dice.bits(),
         };
         let slot = slot_mut(shelf, number);
-        match dice.below(10) {
+        match dice.below(12) {
             // a good message, with this number or with one that has no business here
             0..=2 => {
                 let body = good_body(&mut dice);
@@ -113,6 +113,17 @@ pub fn damage_shelf(seed: u64, shelf: &mut [u8], next: u64) {
             6 => slot[0..8].copy_from_slice(&number.to_le_bytes()),
             // padding
             7 => slot[dice.between(52, 73) as usize] = dice.bits() as u8,
+            // another Timestamp, good or not, of what lies there or of a good message put there
+            9 | 10 => {
+                if slot_number(slot) == 0 {
+                    slot.copy_from_slice(&filled_slot(number, &good_body(&mut dice)));
+                }
+                let nanoseconds = match dice.below(2) {
+                    0 => good_nanoseconds(&mut dice),
+                    _ => bad_nanoseconds(&mut dice),
+                };
+                set_timestamp(&mut slot[10..], nanoseconds);
+            }
             8 => slot[10] = dice.bits() as u8,
             _ => slot[dice.below(SLOT_BYTES as u64) as usize] = dice.bits() as u8,
         }

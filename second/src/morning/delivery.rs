@@ -167,7 +167,7 @@ pub fn differing_copy(seed: u64, body: &[u8]) -> Vec<u8> {
             }
             _ => copy[1 + dice.below(4) as usize] ^= dice.between(1, 255) as u8,
         }
-        if copy != body {
+        if copy != body && read_body(&copy).is_ok() {
             return copy;
         }
     }

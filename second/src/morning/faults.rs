@@ -94,27 +94,34 @@ pub fn bad_body(seed: u64, refusal: u8) -> Vec<u8> {
     body
 }
 
-/// Put one to three judged fields out of range, in a message that has such fields.
+/// Put one to three judged fields out of range, in a message that has such fields: any but System Time.
 fn spoil_fields(dice: &mut Dice, body: &mut Vec<u8>) {
-    while price_offset(body[0]).is_none() && body[0] != SYMBOL_UPDATE {
+    while body[0] == SYSTEM_TIME {
         *body = good_body(dice);
     }
     for _ in 0..dice.between(1, 3) {
-        if body[0] == SYMBOL_UPDATE {
-            match dice.below(2) {
+        match (dice.below(3), body[0]) {
+            (0, _) => set_timestamp(body, bad_nanoseconds(dice)),
+            (_, SYMBOL_UPDATE) => match dice.below(2) {
                 0 => body[21] = dice.pick(b"ynEX\0 "),
                 _ => body[41] = dice.pick(b"DEFGORSTah@[\0 "),
-            }
-            continue;
+            },
+            (_, kind) => match price_offset(kind) {
+                Some(at) => spoil_order(dice, body, at),
+                None => set_timestamp(body, bad_nanoseconds(dice)),
+            },
         }
-        let at = price_offset(body[0]).unwrap_or(0);
-        match (dice.below(3), body[0]) {
-            (0, ADD_ORDER) => body[17] = dice.pick(b"bsXACRT\0 "),
-            (1, _) => body[at + 8..at + 12].fill(0),
-            _ => {
-                let price = dice.pick(&[0, HIGHEST_PRICE + 1, 1 << 50, 1 << 63, u64::MAX]);
-                body[at..at + 8].copy_from_slice(&price.to_le_bytes());
-            }
+    }
+}
+
+/// Put a price, the size behind it, or the side of an Add out of range.
+fn spoil_order(dice: &mut Dice, body: &mut [u8], at: usize) {
+    match (dice.below(3), body[0]) {
+        (0, ADD_ORDER) => body[17] = dice.pick(b"bsXACRT\0 "),
+        (1, _) => body[at + 8..at + 12].fill(0),
+        _ => {
+            let price = dice.pick(&[0, HIGHEST_PRICE + 1, 1 << 50, 1 << 63, u64::MAX]);
+            body[at..at + 8].copy_from_slice(&price.to_le_bytes());
         }
     }
 }
@@ -132,6 +139,22 @@ fn faulty_record(dice: &mut Dice, refusal: u8) -> Vec<u8> {
     }
     let number = dice.between(1, LAST_NUMBER);
     record(number, &bad_body(dice.bits(), refusal))
+}
+
+/// A good packet as the tap fault of request 6 makes it, with "1,000,000,000 in a Timestamp": the first
+/// that it has. One of System Times alone stays as it is.
+pub fn with_tap_fault(good: &[u8]) -> Vec<u8> {
+    let mut records = Vec::new();
+    let mut done = false;
+    for one in read_packet(good).expect("a good packet") {
+        let mut body = one.body.to_vec();
+        if !done && body[0] != SYSTEM_TIME {
+            set_timestamp(&mut body, 1_000_000_000);
+            done = true;
+        }
+        records.push((one.number, body));
+    }
+    packet(&records)
 }
 
 /// A packet's end that is refused with 2, perhaps with lesser faults too.

@@ -182,10 +182,7 @@ impl ListMaker {
     }
 
     fn nanoseconds(&mut self) -> u32 {
-        match self.dice.below(20) {
-            0 => self.dice.bits() as u32,
-            _ => self.dice.below(1_000_000_000) as u32,
-        }
+        good_nanoseconds(&mut self.dice)
     }
 
     fn symbol(&mut self) -> u32 {
@@ -281,7 +278,7 @@ impl ListMaker {
         body[22] = self.dice.pick(&[0, 0, 7]);
         body[41] = self.dice.pick(b"ABCHIJKLMNPQUVWXYZ");
         if self.dice.chance(50) {
-            body[25..41].fill(0);
+            body[25..41].fill(255);
         }
         body
     }

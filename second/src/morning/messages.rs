@@ -208,6 +208,30 @@ pub fn recording(packets: &[Vec<u8>]) -> Vec<u8> {
     bytes
 }
 
+/// Puts a number into the Timestamp, which lies behind the type byte; of a System Time, which has none,
+/// into the seconds.
+pub fn set_timestamp(body: &mut [u8], nanoseconds: u32) {
+    body[1..5].copy_from_slice(&nanoseconds.to_le_bytes());
+}
+
+/// Good nanoseconds, one time in twenty the last of a second or one of the three before it (request 6).
+pub fn good_nanoseconds(dice: &mut Dice) -> u32 {
+    match dice.below(20) {
+        0 => LAST_NANOSECOND - dice.below(4) as u32,
+        _ => dice.between(0, LAST_NANOSECOND.into()) as u32,
+    }
+}
+
+/// More nanoseconds than a second has: right beyond the limit, with one bit set or all, or any.
+pub fn bad_nanoseconds(dice: &mut Dice) -> u32 {
+    match dice.below(4) {
+        0 => LAST_NANOSECOND + 1,
+        1 => LAST_NANOSECOND + dice.between(2, 5) as u32,
+        2 => dice.pick(&[1 << 30, 1 << 31, u32::MAX]),
+        _ => dice.between(u64::from(LAST_NANOSECOND) + 1, u32::MAX.into()) as u32,
+    }
+}
+
 /// Where a type has its price, if it has one.
 pub fn price_offset(kind: u8) -> Option<usize> {
     match kind {
@@ -244,6 +268,7 @@ fn defined(modify: &[u8]) -> Vec<u8> {
 /// What a message tells, for those fields that its type has.
 #[derive(Clone, Copy, Debug)]
 pub struct Told {
+    /// Of a System Time the seconds.
     pub nanoseconds: u32,
     pub symbol: u32,
     pub order: u64,
@@ -251,7 +276,7 @@ pub struct Told {
     pub size: u32,
 }
 
-/// A good body of a type that tells this.
+/// A body of a type that tells this, good if this is.
 pub fn body_telling(dice: &mut Dice, kind: u8, told: Told) -> Vec<u8> {
     let Told {
         nanoseconds,
@@ -280,7 +305,7 @@ pub fn body_telling(dice: &mut Dice, kind: u8, told: Told) -> Vec<u8> {
 pub fn good_body(dice: &mut Dice) -> Vec<u8> {
     let symbol = dice.below(10) as u32;
     let order = dice.below(100);
-    let nanoseconds = dice.below(1_000_000_000) as u32;
+    let nanoseconds = good_nanoseconds(dice);
     let price = dice.between(1, HIGHEST_PRICE);
     let size = dice.between(1, u32::MAX as u64) as u32;
     let told = Told {

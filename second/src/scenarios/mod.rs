@@ -5,6 +5,7 @@ mod callers;
 mod mornings;
 mod packets;
 mod pieces;
+mod timestamps;
 
 use crate::morning::Dice;
 use crate::twins::{Difference, Tally, Twins};
@@ -26,7 +27,7 @@ const fn scenario(
     Scenario { name, weight, run }
 }
 
-pub const SCENARIOS: [Scenario; 17] = [
+pub const SCENARIOS: [Scenario; 18] = [
     scenario("morning", 60, mornings::morning),
     scenario("rules", 60, mornings::rules),
     scenario("small-tables", 50, mornings::small_tables),
@@ -42,6 +43,7 @@ pub const SCENARIOS: [Scenario; 17] = [
     scenario("largest", 20, callers::largest),
     scenario("refused", 50, packets::refused),
     scenario("garbage", 30, packets::garbage),
+    scenario("timestamps", 20, timestamps::timestamps),
     scenario("pieces", 40, pieces::pieces),
     scenario("long-pieces", 1, pieces::long_pieces),
 ];

@@ -253,7 +253,7 @@ pub(super) fn window(dice: &mut Dice, twins: &mut Twins) -> Outcome {
 /// applied. Request 2: "Two copies that differ only in those bits are still differing copies (14)."
 fn copies_by_undefined_bits(dice: &mut Dice, twins: &mut Twins) -> Outcome {
     let (symbol, order) = (dice.bits() as u32, dice.bits());
-    let (nanoseconds, price) = (dice.bits() as u32, dice.between(1, 1_000_000));
+    let (nanoseconds, price) = (good_nanoseconds(dice), dice.between(1, 1_000_000));
     let first = modify_order(nanoseconds, symbol, order, price, 100, dice.bits() as u8);
     let mut other = first.clone();
     other[FLAGS_OF_MODIFY] ^= 1 << dice.between(1, 7);

@@ -79,6 +79,11 @@ pub fn example_file(name: &str) -> Vec<u8> {
     std::fs::read(example_path(name)).expect(name)
 }
 
+/// Whether a list is one of those that demand 3 speaks of: "any list of well-formed messages".
+pub fn well_formed(list: &[Vec<u8>]) -> bool {
+    list.iter().all(|body| read_body(body).is_ok())
+}
+
 /// The list applied in order, in tables of its own.
 pub struct Reference<'a> {
     pub list: &'a [Vec<u8>],

@@ -2,9 +2,11 @@
 //! and the second are those of the list's first k messages; what was answered is applied or named; two
 //! receivers agree. The second program's book is the list's meaning.
 
-use super::{all_seeds, seeds, Desk, Reference};
+use super::{all_seeds, seeds, well_formed, Desk, Reference};
 use second::morning::*;
 use second::packet::read_packet;
+#[cfg(linked)]
+use second::proved::Proved;
 use second::receiver::{Answer, State};
 use std::fmt::Debug;
 
@@ -38,6 +40,27 @@ impl Receiver for Desk {
     }
 }
 
+#[cfg(linked)]
+impl Receiver for Proved {
+    fn started(rows: usize, entries: usize) -> Proved {
+        Proved::new(rows, entries).expect("capacities in the limits")
+    }
+
+    fn hear(&mut self, packet: &[u8]) -> Result<Answer, u8> {
+        self.receive(packet).map_err(|refusal| refusal.number())
+    }
+
+    fn state(&self) -> State {
+        let [next, second, stop] = self.state;
+        let stop = u8::try_from(stop).expect("0 or 20 to 27");
+        State { next, second, stop }
+    }
+
+    fn three(&self) -> Three {
+        (self.orders.clone(), self.symbols.clone(), self.state[1])
+    }
+}
+
 /// A receiver watched through a delivery of true copies.
 struct Watched<'a, R> {
     seed: u64,
@@ -52,6 +75,7 @@ struct Watched<'a, R> {
 
 impl<'a, R: Receiver> Watched<'a, R> {
     fn new(seed: u64, list: &'a [Vec<u8>], settings: ListSettings) -> Watched<'a, R> {
+        assert!(well_formed(list), "seed {seed}");
         let receiver = R::started(settings.rows, settings.entries);
         Watched {
             seed,
