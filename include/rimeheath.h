@@ -58,7 +58,7 @@ enum {
     RIMEHEATH_REFUSED_PACKET = 1, /* a packet of 0 bytes, or of more than RIMEHEATH_PACKET_MOST */
     RIMEHEATH_REFUSED_RECORD = 2, /* fewer than 10 bytes are left for a record's header, or its body runs past the end */
     RIMEHEATH_REFUSED_BODY = 3,   /* no such type, an empty body, or not that type's length */
-    RIMEHEATH_REFUSED_FIELD = 4,  /* a field out of range: side, price, size, test indicator, market */
+    RIMEHEATH_REFUSED_FIELD = 4,  /* a field out of range: nanoseconds (999,999,999 at most), side, price, size, test indicator, market */
     RIMEHEATH_REFUSED_NUMBER = 5, /* a sequence number of 0 or above 10^12 */
     RIMEHEATH_REFUSED_SIZE = 6,   /* a table or buffer whose size is not as said above, or a next number outside 1 to 10^12 + 1 */
     RIMEHEATH_REFUSED_SYMBOL = 30 /* a view of a symbol that no entry in use has */

@@ -125,7 +125,8 @@ def text(lines):
     return "".join(line + "\n" for line in lines).encode("ascii")
 
 
-def main(arguments):
+def write(arguments, usage, packets, answers, sheet):
+    """One of a morning's three files to standard output; else how to ask for one, and status 2."""
     if arguments == ["recording"]:
         out = b"".join(len(packet).to_bytes(2, "little") + packet for packet, _ in packets())
     elif arguments == ["answers"]:
@@ -133,11 +134,11 @@ def main(arguments):
     elif arguments == ["sheet"]:
         out = text(sheet())
     else:
-        print(__doc__, file=sys.stderr)
+        print(usage, file=sys.stderr)
         return 2
     sys.stdout.buffer.write(out)
     return 0
 
 
 if __name__ == "__main__":
-    sys.exit(main(sys.argv[1:]))
+    sys.exit(write(sys.argv[1:], __doc__, packets, answers, sheet))

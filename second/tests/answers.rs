@@ -180,16 +180,26 @@ fn the_long_recording_line_by_line() {
     program_prints("long.rec", &lines);
 }
 
-/// The morning of every flag byte comes to the lines that tools/flags.py states for it.
-#[test]
-fn the_morning_of_every_flag_byte_line_by_line() {
-    let wanted = String::from_utf8(example_file("flags.answers")).unwrap();
-    let lines = text(&example_file("flags.rec"));
+/// A morning comes to the lines that its script in tools/ states for it.
+fn comes_to_what_is_stated(morning: &str) {
+    let recording = format!("{morning}.rec");
+    let wanted = String::from_utf8(example_file(&format!("{morning}.answers"))).unwrap();
+    let lines = text(&example_file(&recording));
     for (place, (line, want)) in lines.lines().zip(wanted.lines()).enumerate() {
         assert_eq!(line, want, "line {}", place + 1);
     }
     assert_eq!(lines, wanted);
-    program_prints("flags.rec", &wanted);
+    program_prints(&recording, &wanted);
+}
+
+#[test]
+fn the_morning_of_every_flag_byte_line_by_line() {
+    comes_to_what_is_stated("flags");
+}
+
+#[test]
+fn the_morning_of_the_tap_fault_line_by_line() {
+    comes_to_what_is_stated("nanoseconds");
 }
 
 #[test]

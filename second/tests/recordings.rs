@@ -4,7 +4,7 @@ mod common;
 use common::*;
 use second::examples::*;
 use second::morning::*;
-use second::packet::{little, read_packet, LAST_NUMBER, MODIFY_ORDER};
+use second::packet::{little, read_packet, LAST_NANOSECOND, LAST_NUMBER, MODIFY_ORDER};
 use second::sheet::*;
 use std::collections::{BTreeMap, BTreeSet};
 
@@ -324,6 +324,31 @@ fn the_morning_of_every_flag_byte() {
     let modifies = first.values().filter(|body| body[0] == MODIFY_ORDER);
     let flags: BTreeSet<u8> = modifies.map(|body| body[FLAGS_OF_MODIFY]).collect();
     assert!(flags.into_iter().eq(0..=255));
+}
+
+/// The morning of the tap fault comes to the sheet that tools/nanoseconds.py states for it, and has what
+/// it is there for: each of the ten messages with a Timestamp in a packet that is refused for it alone.
+#[test]
+fn the_morning_of_the_tap_fault() {
+    let stored = example_file("nanoseconds.rec");
+    let wanted = String::from_utf8(example_file("nanoseconds.sheet")).unwrap();
+    assert_eq!(sheet_text(&stored), wanted);
+
+    // The second of three records, behind an Add of 34 bytes and two headers of 10.
+    const TYPE: usize = 54;
+    let mut types = BTreeSet::new();
+    for packet in packets_of(&stored).0 {
+        let Err(refusal) = read_packet(packet) else {
+            continue;
+        };
+        assert_eq!(refusal, 4);
+        assert_eq!(little(&packet[TYPE + 1..TYPE + 5]), 1_000_000_000);
+        let mut mended = packet.to_vec();
+        mended[TYPE + 1..TYPE + 5].copy_from_slice(&LAST_NANOSECOND.to_le_bytes());
+        assert_eq!(read_packet(&mended).unwrap().len(), 3);
+        assert!(types.insert(packet[TYPE]));
+    }
+    assert_eq!(types.len(), 10);
 }
 
 /// Seeded recordings: every one gives a sheet, and together they show every rule and both words.
