@@ -1,21 +1,21 @@
 -- Nanoseconds of a second (request 6): the Timestamp is the first field of the ten kinds that carry one, so what is known of a first field is known of it.
 -- Assumes nothing.
-use Prim.Native.Nat.{ℕ, _+_, _≤_, _<_}
+use Prim.Native.Nat.{ℕ, _≤_, _<_}
 use mathlib.Core.Path.{_≡_, refl, sym, ap, subst, _∙_}
 use mathlib.Core.Bool.{true, false, true≢false}
-use mathlib.Core.List.{List, [], _∷_}
+use mathlib.Core.List.{List, _∷_}
 use native.Mathlib.Omega.{arith}
 use native.Mathlib.Decide.{decLt}
-use lib.ListN.{length, getD, drop}
+use lib.ListN.{getD, drop}
 use lib.Dec.{eqb, leb}
 use borrow.Author.Tests.{le-leb, lt-leb, eqb-true}
 use Rattle.facts.specs.Limits.{mostNanos}
 use Rattle.facts.specs.Pick.{pick}
 use Rattle.facts.proofs.Picks.{pick-ind}
-use Rattle.layout.specs.Shape.{Shape, number, width, Values, valueAt, cut}
+use Rattle.layout.specs.Shape.{Shape, number, Values, cut}
 use Rattle.layout.specs.Layout.{shapes}
 use Rattle.layout.proofs.Laws.{cut-behind}
-use Rattle.kinds.specs.Table.{kindOf, lengthOf}
+use Rattle.kinds.specs.Table.{kindOf}
 use Rattle.kinds.specs.declared.Kind.{Kind}
 use Rattle.fields.specs.Fields.{refusal, decoded, bodyNumber}
 use Rattle.fields.specs.declared.Body.{Body}

@@ -9,21 +9,17 @@ use native.Mathlib.Omega.{arith}
 use lib.ListN.{length, getD, set, length-set}
 use lib.Seq.{getD-set-same, getD-set-other, set-getD}
 use lib.Dec.{eqb}
-use borrow.Author.Tests.{eq-eqb, lt-ltb}
-use Rattle.facts.specs.Pick.{pick, both}
-use Rattle.facts.proofs.Picks.{pick-map}
+use Rattle.facts.specs.Pick.{pick}
 use Rattle.wire.specs.Le.{field}
 use Rattle.wire.proofs.Laws.{field-same}
-use Rattle.kinds.specs.Table.{typeOf, lengthOf, kindLength}
 use Rattle.kinds.specs.declared.Kind.{Kind}
-use Rattle.kinds.proofs.Laws.{type-kind}
 use Rattle.layout.proofs.Laws.{tiles}
 use Rattle.fields.specs.Fields.{modifyOf, refusal, decoded, bodyNumber}
 use Rattle.fields.specs.declared.ModifyOrder.{ModifyOrder}
 use Rattle.fields.specs.declared.Body.{Body}
 use Rattle.body.specs.Ranges.{nanosOk, priceOk, sizeOk}
 use Rattle.body.specs.Faults.{faultFrom, faultOf}
-use Rattle.body.specs.Read.{framed, judged, readBody, goodBody}
+use Rattle.body.specs.Read.{judged, readBody, goodBody}
 use Rattle.body.specs.Undefined.{flagged, withFlags, OnlyBits}
 use Rattle.body.proofs.Laws.{Framed, Sound, read-framed, read-sound, number-by-fault, number-good}
 

@@ -1,7 +1,7 @@
 -- Witnesses that request 6 speaks of something: the buy 500 of document 01's example in the last nanosecond of a second is good, and one nanosecond on it is past the second;
 -- and a packet of the example's System Time with that buy behind it. All of it computes.
 -- Assumes nothing.
-use Prim.Native.Nat.{ℕ, _+_}
+use Prim.Native.Nat.{ℕ}
 use mathlib.Core.Path.{_≡_, refl}
 use mathlib.Core.Bool.{true}
 use mathlib.Core.List.{List, _∷_, _++_}

@@ -1,13 +1,13 @@
 -- Nanoseconds of a second, in a packet (request 6): the body is refused with 4, so its record is, so the packet is, whatever else it holds.
 -- Assumes nothing.
-use Prim.Native.Nat.{ℕ, _+_, _-_, _≤_, _<_}
+use Prim.Native.Nat.{ℕ, _+_, _-_, _≤_}
 use mathlib.Core.Path.{_≡_, refl, sym, ap, _∙_}
 use mathlib.Core.Bool.{true, true≢false}
-use mathlib.Core.List.{List, [], _∷_}
+use mathlib.Core.List.{List}
 use native.Mathlib.Omega.{arith}
 use lib.ListN.{length, drop, length-drop}
-use Rattle.wire.specs.Records.{Rec, bad, records}
-use Rattle.fields.specs.Fields.{refusal, bodyNumber}
+use Rattle.wire.specs.Records.{Rec, bad}
+use Rattle.fields.specs.Fields.{refusal}
 use Rattle.fields.specs.declared.Body.{Body}
 use Rattle.body.specs.Read.{readBody}
 use Rattle.body.specs.Nanoseconds.{PastSecond}
