@@ -2,7 +2,7 @@
 -- Assumes nothing.
 use mathlib.Core.Path.{_≡_, refl, sym, ap, _∙_}
 use mathlib.Core.List.{List, [], _∷_}
-use mathlib.Core.Bool.{Bool, true, false}
+use mathlib.Core.Bool.{true, false}
 use mathlib.Core.Logic.{_⊎_, inl, inr}
 use Prim.Native.Nat.{ℕ, zero, suc, _+_, _≤_, _<_}
 use native.Mathlib.Omega.{arith}
@@ -48,7 +48,7 @@ deal price size p s =
     let r = both-true {a = leb 1 price} {b = leb price mostPrice} p in
     record { price-from = leb-true 1 price (r .0); price-to = leb-true price mostPrice (r .1); size-from = leb-true 1 size s }
 
--- nanoseconds of a message that has them
+-- nanoseconds in range are at most the largest good value
 in-time : (n : ℕ) → nanosOk n ≡ true → n ≤ mostNanos
 unfolding nanosOk
 in-time n h = leb-true n mostNanos h
@@ -181,18 +181,25 @@ pub record BodyFits (b : List ℕ) : Type 0 where
   pub most : length b ≤ entrySize
   pub of-type : length b ≡ lengthOf (getD b 0 0)
 
+-- a body that is not refused is framed
+number-framed : (b : List ℕ) → bodyNumber (readBody b) ≡ 0 → framed b ≡ true
+unfolding readBody
+number-framed b = pick-ind (λ r. bodyNumber r ≡ 0 → framed b ≡ true) (framed b) (judged (kindOf (getD b 0 0)) b) (Body.Refused (refusal 3)) (λ e h. e) (λ e h. absurd (omega arith))
+
+pub good-framed : (b : List ℕ) → goodBody b ≡ true → framed b ≡ true
+unfolding goodBody
+good-framed b h = number-framed b (eqb-true (bodyNumber (readBody b)) 0 h)
+
 number-fits : (b : List ℕ) → bodyNumber (readBody b) ≡ 0 → BodyFits b
-unfolding readBody framed
-number-fits b =
-    pick-ind (λ r. bodyNumber r ≡ 0 → BodyFits b) (framed b) (judged (kindOf (getD b 0 0)) b) (Body.Refused (refusal 3))
-    (λ e h.
+unfolding framed
+number-fits b h =
+    let e = number-framed b h in
     let w = framed-is b e in
     record {
       some = w .some;
       most = w .most;
       of-type = eqb-true (length b) (lengthOf (getD b 0 0)) (both-true {a = ltb 0 (length b)} {b = eqb (length b) (lengthOf (getD b 0 0))} e .1);
-    })
-    (λ e h. absurd (omega arith))
+    }
 
 pub good-fits : (b : List ℕ) → goodBody b ≡ true → BodyFits b
 unfolding goodBody

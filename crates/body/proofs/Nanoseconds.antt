@@ -23,7 +23,7 @@ use Rattle.body.specs.Ranges.{nanosOk}
 use Rattle.body.specs.Faults.{Tests, tests, faultFrom, faultOf}
 use Rattle.body.specs.Read.{framed, judged, readBody, goodBody}
 use Rattle.body.specs.Nanoseconds.{carriesStamp, stamped, stampOf, PastSecond, Restamped}
-use Rattle.body.proofs.Laws.{Framed, framed-is, read-framed, number-by-fault}
+use Rattle.body.proofs.Laws.{Framed, framed-is, read-framed, number-by-fault, good-framed}
 
 -- fields of which the first is a Timestamp, with the range of one
 data Stamp : (ss : List Shape) → Tests ss → Type 0 where
@@ -53,7 +53,7 @@ rest-decides : (ss : List Shape) (ts : Tests ss) → Stamp ss ts → (b c : List
 unfolding faultFrom nanosOk pick
 rest-decides _ _ (stamp ss ts) b c l m e = rw (le-leb (stampOf b) mostNanos l, le-leb (stampOf c) mostNanos m) (ap (λ (vs : Values ss). faultFrom ss ts vs 5) (cut-behind ss c b 5 e))
 
--- "It lies .. before every other field, so it is the earliest fault wherever it is one": its place is byte 1
+-- it lies before every other field, so it is the earliest fault wherever it is one: byte 1, which "and its offset" will show (request 5)
 pub earliest : (k : Kind) (b : List ℕ) → carriesStamp k ≡ true → mostNanos < stampOf b → faultOf k b ≡ 1
 unfolding faultOf
 earliest k b c l = first-fault (shapes k) (tests k) (stamp-of k c) b l
@@ -69,14 +69,6 @@ past-refused b p =
 pub past-bad : (b : List ℕ) → PastSecond b → goodBody b ≡ false
 unfolding goodBody
 past-bad b p = rw (past-refused b p) refl
-
--- a good body is a whole message
-good-framed : (b : List ℕ) → goodBody b ≡ true → framed b ≡ true
-unfolding goodBody readBody
-good-framed b g = go (eqb-true (bodyNumber (readBody b)) 0 g)
-  where
-    go : bodyNumber (readBody b) ≡ 0 → framed b ≡ true
-    go = pick-ind (λ (r : Body). bodyNumber r ≡ 0 → framed b ≡ true) (framed b) (judged (kindOf (getD b 0 0)) b) (Body.Refused (refusal 3)) (λ e h. e) (λ e h. absurd (omega arith))
 
 -- "The largest good value is 999,999,999, in every message that carries the field"
 pub largest : (b : List ℕ) → goodBody b ≡ true → stamped b ≡ true → stampOf b ≤ mostNanos

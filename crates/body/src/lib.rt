@@ -97,6 +97,13 @@ fn add_fault(b: &[u8]) -> usize
     stamp_fault(b, fault_at(side, 17, deal_fault(b, 18)))
 }
 
+// A message in which Timestamp, price and size are all that is judged.
+fn stamped_deal_fault(b: &[u8], at: u8) -> usize
+    ensures { λ r. ⌜ r ≡ pick (nanosOk (field (now (b .entry)) 1 4)) (pick (priceOk (field (now (b .entry)) at 8)) (pick (sizeOk (field (now (b .entry)) (at + 8) 4)) 0 (at + 8)) at) 1 ⌝ }
+{
+    stamp_fault(b, deal_fault(b, at))
+}
+
 // The first byte of the earliest field out of range, 0 for none (no field starts at 0).
 fn fault(k: Kind, b: &[u8]) -> usize
     ensures { λ r. ⌜ r ≡ faultOf k (now (b .entry)) ⌝ }
@@ -108,11 +115,11 @@ fn fault(k: Kind, b: &[u8]) -> usize
         Kind::TradingStatus => stamp_fault(b, 0),
         Kind::SymbolClear => stamp_fault(b, 0),
         Kind::Add => add_fault(b),
-        Kind::Modify => stamp_fault(b, deal_fault(b, 17)),
+        Kind::Modify => stamped_deal_fault(b, 17),
         Kind::Delete => stamp_fault(b, 0),
-        Kind::Execution => stamp_fault(b, deal_fault(b, 25)),
-        Kind::Trade => stamp_fault(b, deal_fault(b, 18)),
-        Kind::TradeCancel => stamp_fault(b, deal_fault(b, 18)),
+        Kind::Execution => stamped_deal_fault(b, 25),
+        Kind::Trade => stamped_deal_fault(b, 18),
+        Kind::TradeCancel => stamped_deal_fault(b, 18),
         Kind::Unknown => 0,
     }
 }

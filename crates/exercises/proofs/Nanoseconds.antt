@@ -16,7 +16,7 @@ use Rattle.body.specs.Faults as faults
 use Rattle.body.specs.Read as read
 use Rattle.body.specs.Nanoseconds.{PastSecond, Restamped}
 use Rattle.packet.specs.Record as head
-use Rattle.packet.specs.Packet.{at-front, past-good}
+use Rattle.packet.specs.Front.{at-front, past-good}
 use Rattle.packet.specs.Nanoseconds.{PastIn}
 use Rattle.exercises.specs.Messages as messages
 

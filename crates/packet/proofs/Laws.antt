@@ -23,7 +23,8 @@ use Rattle.fields.specs.declared.Body.{Body}
 use Rattle.body.specs.Read.{readBody, goodBody}
 use Rattle.body.proofs.Laws.{numbers, number-good}
 use Rattle.packet.specs.Record.{numberOk, headOf, bodyOf, recOf, refused, bodyJudged, readRecord}
-use Rattle.packet.specs.Packet.{Framing, before, behind, framesFrom, Reached, at-front, past-good, framing, told, readPacket}
+use Rattle.packet.specs.Packet.{Framing, before, behind, framesFrom, framing, told, readPacket}
+use Rattle.packet.specs.Front.{Reached, at-front, past-good}
 use Rattle.packet.specs.declared.Head.{Head}
 use Rattle.packet.specs.declared.Record.{Record}
 use Rattle.packet.specs.declared.Packet.{Packet}
@@ -200,7 +201,7 @@ module _ (p : List ℕ) (at i : ℕ) (r : Record) (in-p : at < length p) (read :
             ∙ ap (λ x. more (i + 1) (told (framesFrom (length p) x))) (drop-drop (10 + h .len) at p),
       )
 
--- "each record .. from the front": what is wrong where good records lead to is what the packet is refused by
+-- "records from the front, each by 2, 5, 3, 4": what is wrong where good records lead to is what the packet is refused by
 reached-bad : (p : List ℕ) (at : ℕ) (r : Refusal) → Reached p at → framesFrom (length p) (drop at p) ≡ bad r → framesFrom (length p) p ≡ bad r
 unfolding behind before
 reached-bad p _ r at-front e = e

@@ -1,4 +1,4 @@
--- Nanoseconds of a second, in a packet (request 6): the body is refused with 4, so its record is, so the packet is, whatever else it holds.
+-- Nanoseconds of a second, in a packet (request 6): the body is refused with 4, so its record is, so a packet is that has it behind good ones, whatever stands behind it.
 -- Assumes nothing.
 use Prim.Native.Nat.{ℕ, _+_, _-_, _≤_}
 use mathlib.Core.Path.{_≡_, refl, sym, ap, _∙_}
@@ -25,7 +25,7 @@ past-record t w o p =
     let e : Body.Refused (refusal 4) ≡ readBody _ = sym (ap readBody (body-cut t (headOf t .len) refl) ∙ past-refused (bodyOf t) p) in
     sym (judged-bad _ 4 (λ z. omega arith) ∙ record-judged t (headOf t) refl a b o (Body.Refused (refusal 4)) 4 e refl)
 
--- "A packet with one such record is refused whole", with 4
+-- "Larger is refused with 4": the packet whole
 pub past-packet : (p : List ℕ) → PastIn p → framing p ≡ bad (refusal 4)
 past-packet p x =
     let t : List ℕ = drop (x .at) p in

@@ -7,7 +7,7 @@ use lib.ListN.{length, drop}
 use Rattle.facts.specs.Limits.{packetMost}
 use Rattle.body.specs.Nanoseconds.{PastSecond}
 use Rattle.packet.specs.Record.{numberOk, headOf, bodyOf}
-use Rattle.packet.specs.Packet.{Reached}
+use Rattle.packet.specs.Front.{Reached}
 
 -- a packet of a good size with a record, behind good ones, that has nothing wrong before its body, and such a body
 pub record PastIn (p : List ℕ) : Type 0 where

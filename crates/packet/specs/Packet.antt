@@ -1,6 +1,5 @@
 -- "A packet is 1 to 1,500 bytes holding one or more records, back to back" (document 01, "From the tap").
-use Prim.Native.Nat.{ℕ, zero, suc, _+_, _<_}
-use mathlib.Core.Path.{_≡_}
+use Prim.Native.Nat.{ℕ, zero, suc, _+_}
 use mathlib.Core.List.{List, [], _∷_}
 use lib.ListN.{length, drop}
 use lib.Dec.{ltb, leb}
@@ -10,7 +9,6 @@ use Rattle.wire.specs.Records.{Rec, Frames, bad, records}
 use Rattle.fields.specs.Fields.{refusal}
 use Rattle.fields.specs.declared.Refusal.{Refusal}
 use Rattle.packet.specs.Record.{recOf, readRecord}
-use Rattle.packet.specs.declared.Head.{Head}
 use Rattle.packet.specs.declared.Record.{Record}
 use Rattle.packet.specs.declared.Packet.{Packet}
 
@@ -32,11 +30,6 @@ behind rest t (Record.Refused r) = bad r
 unfoldable pub framesFrom : ℕ → List ℕ → Framing
 framesFrom zero t = records []
 framesFrom (suc f) t = pick (ltb 0 (length t)) (behind (framesFrom f) t (readRecord t)) (records [])
-
--- the places of a packet that are reached from the front over good records alone
-pub data Reached (p : List ℕ) : ℕ → Type 0 where
-  at-front : Reached p 0
-  past-good : (at : ℕ) (h : Head) → Reached p at → at < length p → readRecord (drop at p) ≡ Record.Good h → Reached p (at + (10 + h .len))
 
 -- 1, then the records (no packet has more records than bytes)
 unfoldable pub framing : List ℕ → Framing

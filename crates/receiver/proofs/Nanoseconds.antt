@@ -1,13 +1,14 @@
--- Nanoseconds of a second over the receiver (request 6): a packet that holds too many is refused whole, demand 3's lists have none, and an altered slot that does stops by 27.
+-- Nanoseconds of a second over the receiver (request 6): a packet that holds too many is refused whole and leaves a gap, demand 3's lists have none, and an altered slot that does stops with 27.
 -- Assumes nothing.
 use Prim.Native.Nat.{ℕ, zero, suc, _≤_, _<_}
-use mathlib.Core.Path.{_≡_, refl, sym, ap, _∙_}
-use mathlib.Core.Bool.{true, true≢false}
+use mathlib.Core.Path.{_≡_, refl, ap}
+use mathlib.Core.Bool.{true}
 use mathlib.Core.List.{List, [], _∷_, _++_}
 use native.Mathlib.Omega.{arith}
 use lib.ListN.{length, getD}
 use Rattle.facts.specs.Limits.{mostNanos}
 use Rattle.facts.specs.Pick.{pick}
+use Rattle.facts.proofs.Picks.{pick-ind}
 use Rattle.wire.specs.Records.{Rec, Frames}
 use Rattle.fields.specs.Fields.{refusal}
 use Rattle.fields.specs.declared.Refusal.{Refusal}
@@ -23,20 +24,32 @@ use Rattle.arbitration.specs.Lists.{Every, WellFormed}
 use Rattle.arbitration.proofs.Turns.{slot-bad, try-bad, stop-stuck}
 use Rattle.arbitration.proofs.Packets.{every-accepted}
 use Rattle.shelf.specs.Store.{shelfStore}
-use Rattle.receiver.specs.Receiver.{fit, receives, handledBy}
-use Rattle.receiver.specs.Lent.{bookEngine, real, Rx, Lent, handled, received}
+use Rattle.receiver.specs.Receiver.{fit, receives, receivesAll, handledBy}
+use Rattle.receiver.specs.Lent.{bookEngine, real, Rx, Lent, Handled, handled, received, receivedAll}
 use Rattle.receiver.specs.declared.Received.{Received}
 use Rattle.receiver.proofs.Real.{every-framed}
 
--- ---- "Larger is refused with 4": a packet with one such record is refused whole, and the receiver keeps every byte
+-- ---- "Larger is refused with 4": a packet with such a record behind good ones is refused whole, where nothing is by 6
 pub past-received : (k : Lent) (p : List ℕ) → fit real k ≡ true → PastIn p → received k p ≡ handled (Received.Refused (refusal 4)) k
 unfolding receives handledBy pick
 past-received k p f x = rw (f, past-packet p x) refl
 
--- "Recordings that held such values now leave a gap": none of its records is accepted, the good ones no more than the other
-pub past-gap : (p : List ℕ) (ps : List (List ℕ)) → PastIn p → accepted framing (p ∷ ps) ≡ accepted framing ps
+-- and every byte stays, by 6 as by 4
+pub past-keeps : (k : Lent) (p : List ℕ) → PastIn p → received k p .after ≡ k
+unfolding receives handledBy
+past-keeps k p x = pick-ind (λ (h : Handled). h .after ≡ k) (fit real k) (handledBy real (framing p) k) (handled (Received.Refused (refusal 6)) k) (λ _. rw (past-packet p x) refl) (λ _. refl)
+
+-- ---- "Recordings that held such values now leave a gap": the receiver ends as if the packet had been lost
+pub past-lost : (ps qs : List (List ℕ)) (p : List ℕ) (k : Lent) → PastIn p → receivedAll (ps ++ (p ∷ qs)) k ≡ receivedAll (ps ++ qs) k
+unfolding receivesAll
+past-lost [] qs p k x = ap (receivedAll qs) (past-keeps k p x)
+past-lost (q ∷ ps) qs p k x = past-lost ps qs p (received k q .after) x
+
+-- and none of its records is accepted, the good ones no more than the other
+pub past-gap : (ps qs : List (List ℕ)) (p : List ℕ) → PastIn p → accepted framing (ps ++ (p ∷ qs)) ≡ accepted framing (ps ++ qs)
 unfolding accepted
-past-gap p ps x = ap (λ (y : Frames Refusal). recordsOf y ++ accepted framing ps) (past-packet p x)
+past-gap [] qs p x = ap (λ (y : Frames Refusal). recordsOf y ++ accepted framing qs) (past-packet p x)
+past-gap (q ∷ ps) qs p x = ap (λ (cs : List Rec). recordsOf (framing q) ++ cs) (past-gap ps qs p x)
 
 -- wherever in a packet it stands: no accepted record is such
 pub never-accepted : (ps : List (List ℕ)) → Every (λ (c : Rec). PastSecond (c .body) → ⊥) (accepted framing ps)
@@ -47,7 +60,7 @@ pub listed-in-second : (ms : List (List ℕ)) → WellFormed goodBody ms → (i 
 listed-in-second ms w i l s = largest (getD ms i []) (w i l) s
 
 pub never-listed : (ms : List (List ℕ)) → WellFormed goodBody ms → (i : ℕ) → i < length ms → PastSecond (getD ms i []) → ⊥
-never-listed ms w i l p = true≢false (sym (w i l) ∙ past-bad (getD ms i []) p)
+never-listed ms w i l p = omega (arith, p .larger, listed-in-second ms w i l (p .carries))
 
 -- ---- "A slot for next that holds .. no good body stops with 27": one that the caller altered so, for any tables and shelf
 module _ (r : Rx) where

@@ -3,8 +3,6 @@
 use borrow.Author.Needs.{needs}
 use Rattle.body.proofs.deal_fault.Statement.{statement}
 use Rattle.body.proofs.deal_fault.Tie as tie
-use Rattle.wire.proofs.u32_at.Reads as u32-at-reads
-use Rattle.wire.proofs.u64_at.Reads as u64-at-reads
 
 add-j : tie.Need-add-j
 add-j c = search needs

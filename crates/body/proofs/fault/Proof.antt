@@ -1,4 +1,4 @@
--- Each arm knows its kind, and answers by the tests of that kind: its own function, the Timestamp and what is found behind it, or 0 where nothing is judged.
+-- Each arm knows its kind, and answers by the function of all that is judged in it, or 0 where nothing is.
 -- Assumes nothing.
 use mathlib.Core.Path.{refl}
 use Rattle.facts.specs.Pick.{pick}
@@ -43,44 +43,32 @@ add-fault-requires c κs = search needs
 enum-told-7 : tie.Need-enum-told-7
 enum-told-7 c = search needs
 
-deal-fault-requires : tie.Need-deal-fault-requires
-deal-fault-requires c κs = search needs
-
-stamp-fault-requires-4 : tie.Need-stamp-fault-requires-4
-stamp-fault-requires-4 c κs = search needs
+stamped-deal-fault-requires : tie.Need-stamped-deal-fault-requires
+stamped-deal-fault-requires c κs = search needs
 
 enum-told-8 : tie.Need-enum-told-8
 enum-told-8 c = search needs
 
-stamp-fault-requires-5 : tie.Need-stamp-fault-requires-5
-stamp-fault-requires-5 c κs = search needs
+stamp-fault-requires-4 : tie.Need-stamp-fault-requires-4
+stamp-fault-requires-4 c κs = search needs
 
 enum-told-9 : tie.Need-enum-told-9
 enum-told-9 c = search needs
 
-deal-fault-requires-2 : tie.Need-deal-fault-requires-2
-deal-fault-requires-2 c κs = search needs
-
-stamp-fault-requires-6 : tie.Need-stamp-fault-requires-6
-stamp-fault-requires-6 c κs = search needs
+stamped-deal-fault-requires-2 : tie.Need-stamped-deal-fault-requires-2
+stamped-deal-fault-requires-2 c κs = search needs
 
 enum-told-10 : tie.Need-enum-told-10
 enum-told-10 c = search needs
 
-deal-fault-requires-3 : tie.Need-deal-fault-requires-3
-deal-fault-requires-3 c κs = search needs
-
-stamp-fault-requires-7 : tie.Need-stamp-fault-requires-7
-stamp-fault-requires-7 c κs = search needs
+stamped-deal-fault-requires-3 : tie.Need-stamped-deal-fault-requires-3
+stamped-deal-fault-requires-3 c κs = search needs
 
 enum-told-11 : tie.Need-enum-told-11
 enum-told-11 c = search needs
 
-deal-fault-requires-4 : tie.Need-deal-fault-requires-4
-deal-fault-requires-4 c κs = search needs
-
-stamp-fault-requires-8 : tie.Need-stamp-fault-requires-8
-stamp-fault-requires-8 c κs = search needs
+stamped-deal-fault-requires-4 : tie.Need-stamped-deal-fault-requires-4
+stamped-deal-fault-requires-4 c κs = search needs
 
 enum-told-12 : tie.Need-enum-told-12
 enum-told-12 c = search needs
@@ -109,23 +97,23 @@ returns-6 c = rw (c .before .enum-told6 .given .1) (c .add-fault .ensures)
 
 returns-7 : tie.Need-returns-7
 unfolding faultOf faultFrom pick
-returns-7 c = rw (c .before .before .enum-told7 .given .1, ← c .before .deal-fault .ensures) (c .stamp-fault4 .ensures)
+returns-7 c = rw (c .before .enum-told7 .given .1) (c .stamped-deal-fault .ensures)
 
 returns-8 : tie.Need-returns-8
 unfolding faultOf faultFrom pick
-returns-8 c = rw (c .before .enum-told8 .given .1) (c .stamp-fault5 .ensures)
+returns-8 c = rw (c .before .enum-told8 .given .1) (c .stamp-fault4 .ensures)
 
 returns-9 : tie.Need-returns-9
 unfolding faultOf faultFrom pick
-returns-9 c = rw (c .before .before .enum-told9 .given .1, ← c .before .deal-fault2 .ensures) (c .stamp-fault6 .ensures)
+returns-9 c = rw (c .before .enum-told9 .given .1) (c .stamped-deal-fault2 .ensures)
 
 returns-10 : tie.Need-returns-10
 unfolding faultOf faultFrom pick
-returns-10 c = rw (c .before .before .enum-told10 .given .1, ← c .before .deal-fault3 .ensures) (c .stamp-fault7 .ensures)
+returns-10 c = rw (c .before .enum-told10 .given .1) (c .stamped-deal-fault3 .ensures)
 
 returns-11 : tie.Need-returns-11
 unfolding faultOf faultFrom pick
-returns-11 c = rw (c .before .before .enum-told11 .given .1, ← c .before .deal-fault4 .ensures) (c .stamp-fault8 .ensures)
+returns-11 c = rw (c .before .enum-told11 .given .1) (c .stamped-deal-fault4 .ensures)
 
 returns-12 : tie.Need-returns-12
 unfolding faultOf faultFrom pick
@@ -147,19 +135,15 @@ fault-spec =
     enum-told-6
     add-fault-requires
     enum-told-7
-    deal-fault-requires
-    stamp-fault-requires-4
+    stamped-deal-fault-requires
     enum-told-8
-    stamp-fault-requires-5
+    stamp-fault-requires-4
     enum-told-9
-    deal-fault-requires-2
-    stamp-fault-requires-6
+    stamped-deal-fault-requires-2
     enum-told-10
-    deal-fault-requires-3
-    stamp-fault-requires-7
+    stamped-deal-fault-requires-3
     enum-told-11
-    deal-fault-requires-4
-    stamp-fault-requires-8
+    stamped-deal-fault-requires-4
     enum-told-12
     returns
     returns-2

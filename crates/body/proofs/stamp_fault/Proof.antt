@@ -3,7 +3,6 @@
 use borrow.Author.Needs.{needs}
 use Rattle.body.proofs.stamp_fault.Statement.{statement}
 use Rattle.body.proofs.stamp_fault.Tie as tie
-use Rattle.wire.proofs.u32_at.Reads as u32-at-reads
 
 u32-at-requires : tie.Need-u32-at-requires
 u32-at-requires c κs = search needs
