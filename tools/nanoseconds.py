@@ -5,12 +5,12 @@
     python3 tools/nanoseconds.py sheet       its sheet
 
 Document 02, No. 6: "A tap fault gave us 1,000,000,000 in a Timestamp. The largest good value is
-999,999,999, in every message that carries the field. .. Recordings that held such values now leave
-a gap". On line A each of the ten messages that carry the field has 1,000,000,000 in it, between
-good records: the packet is refused with 4, the next one waits behind the gap, and line B, which has
-999,999,999 there, fills it. A System Time of 4,294,967,295 seconds, which are no nanoseconds, ends
-the morning. What both texts say is stated from the documents' words, in the form that README.md
-gives; no message is applied here. Every run gives the same bytes. They are
+999,999,999, in every message that carries the field", and "Recordings that held such values now
+leave a gap". On line A each of the ten messages that carry the field has 1,000,000,000 in it,
+between good records: the packet is refused with 4, the next one waits behind the gap, and line B,
+which has 999,999,999 there, fills it. A System Time of 4,294,967,295 seconds, which are no
+nanoseconds, ends the morning. What both texts say is stated from the documents' words, in the form
+that README.md gives; no message is applied here. Every run gives the same bytes. They are
 examples/nanoseconds.rec, examples/nanoseconds.answers and examples/nanoseconds.sheet.
 """
 
@@ -18,16 +18,18 @@ import sys
 
 sys.dont_write_bytecode = True
 from flags import ONE_TAKEN, PRICE, add, told, write  # noqa: E402
-from vectors import (ADD, CANCEL, CLEAR, DELETE, EXAMPLE, EXECUTION, MODIFY, STATE, STATUS,  # noqa: E402
-                     TIME, TRADE, UPDATE, compose, record)
+from vectors import (ADD, CANCEL, CLEAR, DELETE, EXAMPLE, EXECUTION, MODIFY,  # noqa: E402
+                     STATE, STATUS, TIME, TRADE, UPDATE, compose, record)
 
 LAST, WHOLE = 999_999_999, 1_000_000_000
 FIRST = 3  # behind the second and the symbol
 A_TURN = 4  # numbers for each message: an Add, the message, an Add, and the Add that waits
+ONE_MORE = 109  # the order of the Add that is such a message itself
 
-# Each message, and what it says of the first order of its turn where it says anything of it.
+# Each message, and the fields that matter here; Modify, Delete and Execution are of the first order
+# of their turn.
 TURNS = [(CLEAR, {}), (UPDATE, {"lot": 200}), (STATE, {}), (STATUS, {}),
-         (ADD, {"order": 109, "price": PRICE, "size": 100}),
+         (ADD, {"order": ONE_MORE, "price": PRICE, "size": 100}),
          (MODIFY, {"price": PRICE, "size": 80, "flags": 1}), (DELETE, {}),
          (EXECUTION, {"price": PRICE, "size": 40}), (TRADE, {}), (CANCEL, {})]
 OF_AN_ORDER = (MODIFY, DELETE, EXECUTION)
@@ -75,7 +77,7 @@ def rows():
         elif kind not in (CLEAR, DELETE):
             yield order, 60 if kind == EXECUTION else 100, number
         if kind == ADD:
-            yield 109, 100, number + 1
+            yield ONE_MORE, 100, number + 1
         yield order + 1, 100, number + 2
         yield order + 2, 100, number + 3
 

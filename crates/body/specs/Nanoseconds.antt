@@ -1,4 +1,5 @@
--- Request 6 of document 02, "Nanoseconds of a second": the words for what it says. The range itself is `nanosOk` (Ranges), and stands beside its field (Faults).
+-- Request 6 of document 02, "Nanoseconds of a second": the words for what it says. The request's Timestamp is document 01's "nanoseconds 1-4". The range itself is `nanosOk` (Ranges), and
+-- stands beside its field (Faults).
 use Prim.Native.Nat.{ℕ, _<_}
 use mathlib.Core.Path.{_≡_}
 use mathlib.Core.Bool.{Bool, true, false}
