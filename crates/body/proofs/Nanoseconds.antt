@@ -8,16 +8,15 @@ use native.Mathlib.Omega.{arith}
 use native.Mathlib.Decide.{decLt}
 use lib.ListN.{getD, drop}
 use lib.Dec.{eqb, leb}
-use borrow.Author.Tests.{le-leb, lt-leb, eqb-true}
+use borrow.Author.Tests.{le-leb, lt-leb}
 use Rattle.facts.specs.Limits.{mostNanos}
 use Rattle.facts.specs.Pick.{pick}
-use Rattle.facts.proofs.Picks.{pick-ind}
 use Rattle.layout.specs.Shape.{Shape, number, Values, cut}
 use Rattle.layout.specs.Layout.{shapes}
 use Rattle.layout.proofs.Laws.{cut-behind}
 use Rattle.kinds.specs.Table.{kindOf}
 use Rattle.kinds.specs.declared.Kind.{Kind}
-use Rattle.fields.specs.Fields.{refusal, decoded, bodyNumber}
+use Rattle.fields.specs.Fields.{refusal, decoded}
 use Rattle.fields.specs.declared.Body.{Body}
 use Rattle.body.specs.Ranges.{nanosOk}
 use Rattle.body.specs.Faults.{Tests, tests, faultFrom, faultOf}

@@ -1,12 +1,11 @@
 -- A witness that demand 3 speaks of something: document 01's example, in one packet to a fresh receiver, meets every premise, and every number up to 5 is answered. All of it computes.
 -- Assumes nothing.
-use Prim.Native.Nat.{ℕ, zero, suc, _-_, _≤_, _<_}
+use Prim.Native.Nat.{ℕ, zero, suc, _-_, _≤_}
 use mathlib.Core.Path.{_≡_, refl, sym, subst}
 use mathlib.Core.Logic.{_⊎_}
 use mathlib.Core.Bool.{true}
 use mathlib.Core.List.{List, [], _∷_}
 use native.Mathlib.Omega.{arith}
-use lib.ListN.{length, getD}
 use borrow.Author.Tests.{leb-true}
 use Rattle.facts.specs.Limits.{entrySize, shelfSize}
 use Rattle.facts.specs.Pick.{pick, both, either}

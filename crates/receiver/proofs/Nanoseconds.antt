@@ -1,29 +1,35 @@
 -- Nanoseconds of a second over the receiver (request 6): a packet that holds too many is refused whole and leaves a gap, demand 3's lists have none, and an altered slot that does stops with 27.
 -- Assumes nothing.
-use Prim.Native.Nat.{ℕ, zero, suc, _≤_, _<_}
-use mathlib.Core.Path.{_≡_, refl, ap}
+use Prim.Native.Nat.{ℕ, zero, suc, _%_, _≤_, _<_}
+use mathlib.Core.Path.{_≡_, refl, sym, ap, subst, _∙_}
 use mathlib.Core.Bool.{true}
 use mathlib.Core.List.{List, [], _∷_, _++_}
 use native.Mathlib.Omega.{arith}
 use lib.ListN.{length, getD}
-use Rattle.facts.specs.Limits.{mostNanos}
+use Rattle.facts.specs.Limits.{mostNanos, lastNumber, shelfSize}
 use Rattle.facts.specs.Pick.{pick}
 use Rattle.facts.proofs.Picks.{pick-ind}
-use Rattle.wire.specs.Records.{Rec, Frames}
+use Rattle.wire.specs.Records.{Rec, rec, Frames}
 use Rattle.fields.specs.Fields.{refusal}
 use Rattle.fields.specs.declared.Refusal.{Refusal}
 use Rattle.body.specs.Read.{goodBody}
 use Rattle.body.specs.Nanoseconds.{stamped, stampOf, PastSecond}
+use Rattle.body.proofs.Laws.{framed-is}
 use Rattle.body.proofs.Nanoseconds.{past-bad, largest}
 use Rattle.packet.specs.Packet.{framing}
 use Rattle.packet.specs.Nanoseconds.{PastIn}
 use Rattle.packet.proofs.Nanoseconds.{past-packet, past-none}
-use Rattle.arbitration.specs.Slots.{Slot, slotBody}
-use Rattle.arbitration.specs.Receive.{stuck, recordsOf, accepted, slotOf, try, stop, drain}
+use Rattle.arbitration.specs.Slots.{Slot, slotFor, slotBody}
+use Rattle.arbitration.specs.Receive.{stuck, recordsOf, accepted, slotOf, try, stop, drain, shelved}
 use Rattle.arbitration.specs.Lists.{Every, WellFormed}
+use Rattle.arbitration.proofs.Window.{slot-lt}
+use Rattle.arbitration.proofs.SlotLaws.{body-back}
+use Rattle.arbitration.proofs.Range.{bounded-fits}
 use Rattle.arbitration.proofs.Turns.{slot-bad, try-bad, stop-stuck}
 use Rattle.arbitration.proofs.Packets.{every-accepted}
+use Rattle.shelf.specs.Shelf.{slotAt, putSlot}
 use Rattle.shelf.specs.Store.{shelfStore}
+use Rattle.shelf.proofs.StoreLaws.{shelfLaws}
 use Rattle.receiver.specs.Receiver.{fit, receives, receivesAll, handledBy}
 use Rattle.receiver.specs.Lent.{bookEngine, real, Rx, Lent, Handled, handled, received, receivedAll}
 use Rattle.receiver.specs.declared.Received.{Received}
@@ -78,3 +84,13 @@ module _ (r : Rx) where
   unfolding drain
   past-waits l e p zero = refl
   past-waits l e p (suc f) = rw (past-stuck l e p, drain) refl
+
+-- such a slot: one for next with such a body in it, as a record is shelved, on any shelf of the right size
+pub past-laid : (r : Rx) (b : List ℕ) → length (r .shelf) ≡ shelfSize → 1 ≤ r .next → r .next ≤ lastNumber → PastSecond b → stop shelfStore bookEngine (shelved shelfStore bookEngine (rec (r .next) b) r) ≡ 27
+past-laid r b o l m p =
+    let c : Rec = rec (r .next) b in
+    let short : length b ≤ 64 = omega (arith, framed-is b (p .whole) .most) in
+    let x : Slot = slotFor (r .next) b in
+    let at : slotAt (putSlot (r .shelf) (r .next % 64) x) (r .next % 64) ≡ x = shelfLaws .get-same (r .shelf) (r .next % 64) x o (slot-lt (r .next)) (bounded-fits c (record { number-to = m; short = short })) in
+    past-stops (shelved shelfStore bookEngine c r) l (ap (λ (y : Slot). y .number) at)
+    (subst PastSecond (sym (ap slotBody at ∙ body-back (r .next) b short)) p)
