@@ -103,13 +103,14 @@ impl Tally {
             seen.push((format!("type {kind} over a spoiled row"), count));
         }
         for (place, (kind, _)) in TYPES_AND_LENGTHS.iter().enumerate() {
-            let field = match *kind {
-                SYSTEM_TIME => "seconds",
-                _ => "Timestamp",
-            };
             let (at, beyond) = (self.at_the_limit[place], self.beyond_the_limit[place]);
-            seen.push((format!("type {kind}, {field} of 999,999,999"), at));
-            seen.push((format!("type {kind}, {field} above that alone"), beyond));
+            // A System Time's seconds have no limit to stand at.
+            if *kind == SYSTEM_TIME {
+                seen.push((format!("type {kind}, seconds above 999,999,999"), beyond));
+                continue;
+            }
+            seen.push((format!("type {kind}, Timestamp of 999,999,999"), at));
+            seen.push((format!("type {kind}, Timestamp above that alone"), beyond));
         }
         for (what, count) in [
             ("stop 27 by a Timestamp alone", self.stops_by_timestamp),
@@ -347,8 +348,8 @@ impl Twins {
     /// The same of a message over a spoiled row that bears its own IDs.
     pub fn receive_over_spoiled(&mut self, kind: u8, packet: &[u8]) -> Result<(), Difference> {
         let _ = self.receive(packet)?;
-        for (place, (known, _)) in TYPES_AND_LENGTHS.iter().enumerate() {
-            self.tally.spoiled[place] += u64::from(*known == kind);
+        if let Some(place) = place_of(kind) {
+            self.tally.spoiled[place] += 1;
         }
         Ok(())
     }
@@ -373,7 +374,8 @@ impl Twins {
         }
     }
 
-    /// The packet reader, then its records and bodies one by one up to the first fault.
+    /// The packet reader, then its records and bodies one by one up to the first fault. There the body
+    /// reader also gets all that is left behind the header, where that is more than the header claims.
     fn read(&mut self, packet: &[u8]) -> Result<(), Difference> {
         let mut records = [MARK];
         let number = lent::packet(packet, &mut records);
@@ -396,7 +398,10 @@ impl Twins {
             let (body, behind) = claimed_body(rest);
             self.body(body)?;
             if wanted != 0 {
-                return Ok(());
+                return match behind {
+                    [] => Ok(()),
+                    _ => self.body(&rest[HEADER_BYTES..]),
+                };
             }
             rest = behind;
         }
@@ -421,11 +426,9 @@ impl Twins {
         let Some(nanoseconds) = timestamp_of_a_good_rest(body) else {
             return;
         };
-        for (place, (kind, _)) in TYPES_AND_LENGTHS.iter().enumerate() {
-            if *kind == body[0] {
-                self.tally.at_the_limit[place] += u64::from(nanoseconds == LAST_NANOSECOND);
-                self.tally.beyond_the_limit[place] += u64::from(nanoseconds > LAST_NANOSECOND);
-            }
+        if let Some(place) = place_of(body[0]) {
+            self.tally.at_the_limit[place] += u64::from(nanoseconds == LAST_NANOSECOND);
+            self.tally.beyond_the_limit[place] += u64::from(nanoseconds > LAST_NANOSECOND);
         }
     }
 
@@ -619,13 +622,20 @@ fn differing_by_undefined_bits(packet: &[u8], answer: &Answer, shelf: &[u8]) -> 
     count
 }
 
-/// The body of the first record of what is left of a packet, by its header's length and as far as there
-/// are bytes, and what lies behind it.
-fn claimed_body(rest: &[u8]) -> (&[u8], &[u8]) {
-    if rest.len() < HEADER_BYTES {
+/// A kind's place among all.
+fn place_of(kind: u8) -> Option<usize> {
+    TYPES_AND_LENGTHS
+        .iter()
+        .position(|(known, _)| *known == kind)
+}
+
+/// The body of the first record of what is left of a packet, or of a shelf's slot, which begins as a record
+/// does: by its header's length and as far as there are bytes, and what lies behind it.
+fn claimed_body(bytes: &[u8]) -> (&[u8], &[u8]) {
+    if bytes.len() < HEADER_BYTES {
         return (&[], &[]);
     }
-    let (header, rest) = rest.split_at(HEADER_BYTES);
+    let (header, rest) = bytes.split_at(HEADER_BYTES);
     let length = little(&header[8..]) as usize;
     rest.split_at(length.min(rest.len()))
 }

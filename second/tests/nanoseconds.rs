@@ -343,7 +343,9 @@ fn seconds_altered_on_the_shelf_are_good<R: Tap>() {
 }
 
 /// Its number is not answered, so demand 3 asks nothing behind it: the receiver waits and names no rule.
+/// Each program's own reader judges what is well formed.
 fn a_list_with_one_is_none_of_demand_3<R: Tap>() {
+    let well_formed = |list: &[Vec<u8>]| list.iter().all(|body| R::read(body).is_ok());
     for (bad, good) in ten(1_000_000_000).into_iter().zip(ten(999_999_999)) {
         let mut list = example_list();
         list.extend([good.clone(), time(1), time(2)]);
@@ -436,6 +438,23 @@ fn seeded_lists_are_well_formed_up_to_the_last_nanosecond() {
             at_the_limit.values().all(|count| *count > 0),
             "{at_the_limit:?}"
         );
+    }
+}
+
+/// Opening and closing times of seeded lists are at both ends of what they can be.
+#[test]
+fn seeded_lists_open_and_close_at_both_ends() {
+    let mut ends = [0; 2];
+    for seed in seeds(1_000) {
+        for body in list(seed, ListSettings::drawn(&mut Dice::new(seed))) {
+            if body[0] == SYMBOL_UPDATE {
+                ends[0] += u64::from(body[25..41] == [0; 16]);
+                ends[1] += u64::from(body[25..41] == [255; 16]);
+            }
+        }
+    }
+    if all_seeds() {
+        assert!(ends.iter().all(|count| *count > 10), "{ends:?}");
     }
 }
 

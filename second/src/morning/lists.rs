@@ -277,8 +277,11 @@ impl ListMaker {
         body[21] = self.dice.pick(b"NNNY");
         body[22] = self.dice.pick(&[0, 0, 7]);
         body[41] = self.dice.pick(b"ABCHIJKLMNPQUVWXYZ");
+        // Opening and closing times are not judged, so both ends of what they can be occur. The nanoseconds
+        // tell which, since another draw would change what every seed means.
         if self.dice.chance(50) {
-            body[25..41].fill(255);
+            let byte = if nanoseconds % 2 == 0 { 0 } else { 255 };
+            body[25..41].fill(byte);
         }
         body
     }

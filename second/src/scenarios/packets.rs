@@ -95,6 +95,10 @@ fn garbled_record(dice: &mut Dice, next: u64) -> Vec<u8> {
     }
     if small {
         zero_price(&mut body);
+    } else if kind != SYSTEM_TIME && dice.chance(900) {
+        // Three in four random Timestamps are beyond the limit (request 6). Most get a good one, so that
+        // random Deletes, Clears, States and Statuses are still accepted; the rest stay as drawn.
+        set_timestamp(&mut body, good_nanoseconds(dice));
     }
     record(next.saturating_add(dice.below(3)), &body)
 }
