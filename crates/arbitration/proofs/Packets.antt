@@ -24,6 +24,12 @@ module _ {Q : Type 0} (frame : List ℕ → Frames Q) where
   every-accepted P h [] = tt
   every-accepted P h (p ∷ ps) = every-append P (recordsOf (frame p)) (accepted frame ps) (h p) (every-accepted P h ps)
 
+  -- a refused packet adds none, wherever it comes
+  pub refused-adds-none : (p : List ℕ) (q : Q) → frame p ≡ bad q → (ps qs : List (List ℕ)) → accepted frame (ps ++ (p ∷ qs)) ≡ accepted frame (ps ++ qs)
+  unfolding accepted
+  refused-adds-none p q e [] qs = ap (λ (x : Frames Q). recordsOf x ++ accepted frame qs) e
+  refused-adds-none p q e (x ∷ ps) qs = ap (λ (cs : List Rec). recordsOf (frame x) ++ cs) (refused-adds-none p q e ps qs)
+
   module _ (S : Store) (E : Engine) where
     worked-run : (x : Frames Q) (r : State S E) → worked S E x r ≡ run S E (recordsOf x) r
     unfolding worked run

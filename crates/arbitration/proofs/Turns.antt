@@ -100,6 +100,12 @@ module _ (S : Store) (E : Engine) where
     unfolding stop
     stop-goes b e = rw (e, stop)
 
+    -- what is stuck is not worked, nor is anything behind it
+    pub drain-stuck : (q : ℕ) → try S E r ≡ stuck q → (turns : ℕ) → drain S E turns r ≡ r
+    unfolding drain
+    drain-stuck q e zero = refl
+    drain-stuck q e (suc f) = rw (e, drain) refl
+
     -- ---- what a message that was applied shows
     pub record Went (b : E .Book) : Type 0 where
       pub number-is : here .number ≡ r .next

@@ -3,7 +3,7 @@
 use Prim.Native.Nat.{ℕ, _+_, _-_, _≤_}
 use mathlib.Core.Path.{_≡_, refl, sym, ap, subst, _∙_}
 use mathlib.Core.Bool.{Bool, true, false}
-use mathlib.Core.List.{List}
+use mathlib.Core.List.{List, [], _∷_, _++_}
 use native.Mathlib.Omega.{arith}
 use Rattle.facts.specs.Pick.{pick, both}
 use Rattle.facts.specs.Limits.{lastNumber}
@@ -20,7 +20,7 @@ use Rattle.arbitration.specs.declared.Counts.{Counts}
 use Rattle.arbitration.proofs.Answers.{run-next}
 use Rattle.arbitration.proofs.Tallies.{work-told}
 use Rattle.receiver.specs.Parts.{Parts, engineOf}
-use Rattle.receiver.specs.Receiver.{nextOk, receivedNumber, Rx, Receiver, receiver, Handled, handled, handledBy, fit, receives}
+use Rattle.receiver.specs.Receiver.{nextOk, receivedNumber, Rx, Receiver, receiver, Handled, handled, handledBy, fit, receives, receivesAll}
 use Rattle.receiver.specs.Demand3.{Reported}
 use Rattle.receiver.specs.declared.Account.{Account}
 use Rattle.receiver.specs.declared.Received.{Received}
@@ -101,6 +101,17 @@ module _ (P : Parts) where
       go : (a : Received) → receives P k p .answer ≡ a → receives P k p .after ≡ k
       go (Received.Refused r) e = refused-same k p r e
       go (Received.Accepted t) e = absurd (n (ap receivedNumber e))
+
+  -- a packet that framing refuses keeps the receiver, by its own number or by 6
+  pub bad-keeps : (k : Receiver P) (p : List ℕ) (q : Refusal) → P .frame p ≡ bad q → receives P k p .after ≡ k
+  unfolding receives handledBy
+  bad-keeps k p q e = pick-ind (λ (h : Handled P). h .after ≡ k) (fit P k) (handledBy P (P .frame p) k) (handled P (Received.Refused (refusal 6)) k) (λ _. rw e refl) (λ _. refl)
+
+  -- and wherever in a run it comes, the receiver ends as if it had been lost
+  pub refused-lost : (p : List ℕ) (q : Refusal) → P .frame p ≡ bad q → (ps qs : List (List ℕ)) (k : Receiver P) → receivesAll P (ps ++ (p ∷ qs)) k ≡ receivesAll P (ps ++ qs) k
+  unfolding receivesAll
+  refused-lost p q e [] qs k = ap (receivesAll P qs) (bad-keeps k p q e)
+  refused-lost p q e (x ∷ ps) qs k = refused-lost p q e ps qs (receives P k x .after)
 
   -- an accepted packet's account tells the next number and the stop that the receiver then has, and counts the answers
   pub account-reports : (k k′ : Receiver P) (p : List ℕ) (a : Account) → receives P k p ≡ handled P (Received.Accepted a) k′ → Reported P k p a k′

@@ -1,6 +1,6 @@
 -- Nanoseconds of a second over the receiver (request 6): a packet that holds too many is refused whole and leaves a gap, demand 3's lists have none, and an altered slot that does stops with 27.
 -- Assumes nothing.
-use Prim.Native.Nat.{ℕ, zero, suc, _%_, _≤_, _<_}
+use Prim.Native.Nat.{ℕ, _%_, _≤_, _<_}
 use mathlib.Core.Path.{_≡_, refl, sym, ap, subst, _∙_}
 use mathlib.Core.Bool.{true}
 use mathlib.Core.List.{List, [], _∷_, _++_}
@@ -8,10 +8,8 @@ use native.Mathlib.Omega.{arith}
 use lib.ListN.{length, getD}
 use Rattle.facts.specs.Limits.{mostNanos, lastNumber, shelfSize}
 use Rattle.facts.specs.Pick.{pick}
-use Rattle.facts.proofs.Picks.{pick-ind}
-use Rattle.wire.specs.Records.{Rec, rec, Frames}
+use Rattle.wire.specs.Records.{Rec, rec}
 use Rattle.fields.specs.Fields.{refusal}
-use Rattle.fields.specs.declared.Refusal.{Refusal}
 use Rattle.body.specs.Read.{goodBody}
 use Rattle.body.specs.Nanoseconds.{stamped, stampOf, PastSecond}
 use Rattle.body.proofs.Laws.{framed-is}
@@ -20,19 +18,20 @@ use Rattle.packet.specs.Packet.{framing}
 use Rattle.packet.specs.Nanoseconds.{PastIn}
 use Rattle.packet.proofs.Nanoseconds.{past-packet, past-none}
 use Rattle.arbitration.specs.Slots.{Slot, slotFor, slotBody}
-use Rattle.arbitration.specs.Receive.{stuck, recordsOf, accepted, slotOf, try, stop, drain, shelved}
+use Rattle.arbitration.specs.Receive.{stuck, accepted, slotOf, try, stop, drain, shelved}
 use Rattle.arbitration.specs.Lists.{Every, WellFormed}
 use Rattle.arbitration.proofs.Window.{slot-lt}
 use Rattle.arbitration.proofs.SlotLaws.{body-back}
 use Rattle.arbitration.proofs.Range.{bounded-fits}
-use Rattle.arbitration.proofs.Turns.{slot-bad, try-bad, stop-stuck}
-use Rattle.arbitration.proofs.Packets.{every-accepted}
+use Rattle.arbitration.proofs.Turns.{slot-bad, try-bad, stop-stuck, drain-stuck}
+use Rattle.arbitration.proofs.Packets.{every-accepted, refused-adds-none}
 use Rattle.shelf.specs.Shelf.{slotAt, putSlot}
 use Rattle.shelf.specs.Store.{shelfStore}
 use Rattle.shelf.proofs.StoreLaws.{shelfLaws}
-use Rattle.receiver.specs.Receiver.{fit, receives, receivesAll, handledBy}
-use Rattle.receiver.specs.Lent.{bookEngine, real, Rx, Lent, Handled, handled, received, receivedAll}
+use Rattle.receiver.specs.Receiver.{fit, receives, handledBy}
+use Rattle.receiver.specs.Lent.{bookEngine, real, Rx, Lent, handled, received, receivedAll}
 use Rattle.receiver.specs.declared.Received.{Received}
+use Rattle.receiver.proofs.Accounts.{refused-lost}
 use Rattle.receiver.proofs.Real.{every-framed}
 
 -- ---- "Larger is refused with 4": a packet with such a record behind good ones is refused whole, where nothing is by 6
@@ -40,22 +39,13 @@ pub past-received : (k : Lent) (p : List ℕ) → fit real k ≡ true → PastIn
 unfolding receives handledBy pick
 past-received k p f x = rw (f, past-packet p x) refl
 
--- and every byte stays, by 6 as by 4
-pub past-keeps : (k : Lent) (p : List ℕ) → PastIn p → received k p .after ≡ k
-unfolding receives handledBy
-past-keeps k p x = pick-ind (λ (h : Handled). h .after ≡ k) (fit real k) (handledBy real (framing p) k) (handled (Received.Refused (refusal 6)) k) (λ _. rw (past-packet p x) refl) (λ _. refl)
-
--- ---- "Recordings that held such values now leave a gap": the receiver ends as if the packet had been lost
+-- ---- "Recordings that held such values now leave a gap": as any refused packet, it might as well have been lost
 pub past-lost : (ps qs : List (List ℕ)) (p : List ℕ) (k : Lent) → PastIn p → receivedAll (ps ++ (p ∷ qs)) k ≡ receivedAll (ps ++ qs) k
-unfolding receivesAll
-past-lost [] qs p k x = ap (receivedAll qs) (past-keeps k p x)
-past-lost (q ∷ ps) qs p k x = past-lost ps qs p (received k q .after) x
+past-lost ps qs p k x = refused-lost real p (refusal 4) (past-packet p x) ps qs k
 
 -- and none of its records is accepted, the good ones no more than the other
 pub past-gap : (ps qs : List (List ℕ)) (p : List ℕ) → PastIn p → accepted framing (ps ++ (p ∷ qs)) ≡ accepted framing (ps ++ qs)
-unfolding accepted
-past-gap [] qs p x = ap (λ (y : Frames Refusal). recordsOf y ++ accepted framing qs) (past-packet p x)
-past-gap (q ∷ ps) qs p x = ap (λ (cs : List Rec). recordsOf (framing q) ++ cs) (past-gap ps qs p x)
+past-gap ps qs p x = refused-adds-none framing p (refusal 4) (past-packet p x) ps qs
 
 -- wherever in a packet it stands: no accepted record is such
 pub never-accepted : (ps : List (List ℕ)) → Every (λ (c : Rec). PastSecond (c .body) → ⊥) (accepted framing ps)
@@ -81,9 +71,7 @@ module _ (r : Rx) where
 
   -- and nothing is worked behind it
   pub past-waits : 1 ≤ r .next → here .number ≡ r .next → PastSecond (slotBody here) → (turns : ℕ) → drain shelfStore bookEngine turns r ≡ r
-  unfolding drain
-  past-waits l e p zero = refl
-  past-waits l e p (suc f) = rw (past-stuck l e p, drain) refl
+  past-waits l e p turns = drain-stuck shelfStore bookEngine r 27 (past-stuck l e p) turns
 
 -- such a slot: one for next with such a body in it, as a record is shelved, on any shelf of the right size
 pub past-laid : (r : Rx) (b : List ℕ) → length (r .shelf) ≡ shelfSize → 1 ≤ r .next → r .next ≤ lastNumber → PastSecond b → stop shelfStore bookEngine (shelved shelfStore bookEngine (rec (r .next) b) r) ≡ 27
