@@ -77,7 +77,7 @@ typed t (Body.Delete m) b = deleteFields t m
 typed t (Body.Execution m) b = executionFields t m
 typed t (Body.Trade m) b = tradeFields t m
 typed t (Body.TradeCancel m) b = cancelFields t m
-typed t (Body.Refused r) b = eight t 0 0 0 0 0 0 0
+typed t (Body.Bad r) b = eight t 0 0 0 0 0 0 0
 
 -- the kind of a message
 abbrev pub kindIn : Body → Kind
@@ -92,7 +92,7 @@ kindIn (Body.Delete m) = Kind.Delete
 kindIn (Body.Execution m) = Kind.Execution
 kindIn (Body.Trade m) = Kind.Trade
 kindIn (Body.TradeCancel m) = Kind.TradeCancel
-kindIn (Body.Refused r) = Kind.Unknown
+kindIn (Body.Bad r) = Kind.Unknown
 
 -- "The type byte decides the message": its type is its kind's in the table
 abbrev pub fieldsOf : Body → List ℕ → List ℕ
