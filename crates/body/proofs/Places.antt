@@ -9,6 +9,7 @@ use native.Mathlib.Omega.{arith}
 use lib.ListN.{length, getD}
 use lib.Dec.{leb}
 use borrow.Author.Tests.{leb-true}
+use Rattle.facts.specs.Limits.{entrySize}
 use Rattle.facts.specs.Pick.{both}
 use Rattle.facts.proofs.Picks.{both-true}
 use Rattle.layout.specs.Shape.{Shape, width, total, Values}
@@ -64,5 +65,13 @@ pub body-within : (b : List ℕ) (f : Fault) → BadBody b f → f .at ≤ lengt
 body-within b f (inl h) = omega (arith, h .1)
 body-within b f (inr h) = omega (arith, field-within b (f .at) (h .1) .1)
 
+-- and no body of the table is long
+pub body-small : (b : List ℕ) (f : Fault) → BadBody b f → f .at ≤ entrySize
+body-small b f (inl h) = omega (arith, h .1)
+body-small b f (inr h) = omega (arith, field-within b (f .at) (h .1) .1, framed-is b (h .1 .whole) .most)
+
 pub judged-within : (b : List ℕ) (f : Fault) → Judged.Bad f ≡ judgeBody b → f .at ≤ length b
 judged-within b f e = body-within b f (subst (λ (r : Judged). JudgedAs r b) (sym e) (judge-sound b))
+
+pub judged-small : (b : List ℕ) (f : Fault) → Judged.Bad f ≡ judgeBody b → f .at ≤ entrySize
+judged-small b f e = body-small b f (subst (λ (r : Judged). JudgedAs r b) (sym e) (judge-sound b))

@@ -9,13 +9,15 @@ use native.Mathlib.Omega.{arith}
 use native.Mathlib.Decide.{decLt}
 use lib.ListN.{length, drop, length-drop}
 use lib.Seq.{drop-drop}
-use lib.Dec.{ltb}
-use borrow.Author.Tests.{ltb-true}
-use Rattle.facts.proofs.Picks.{pick-cases}
+use lib.Dec.{ltb, leb}
+use borrow.Author.Tests.{ltb-true, leb-true}
+use Rattle.facts.specs.Limits.{packetMost, entrySize}
+use Rattle.facts.specs.Pick.{both}
+use Rattle.facts.proofs.Picks.{pick-cases, both-true}
 use Rattle.wire.specs.Records.{Rec, bad, records}
 use Rattle.fields.specs.declared.Fault.{Fault}
 use Rattle.body.specs.Places.{BadBody}
-use Rattle.body.proofs.Places.{field-within}
+use Rattle.body.proofs.Places.{field-within, body-small}
 use Rattle.packet.specs.Record.{numberOk, headOf, bodyOf, recOf, shifted, readRecord}
 use Rattle.packet.specs.Packet.{Why, placed, later, Framing, before, behind, framesFrom, framing, readPacket}
 use Rattle.packet.specs.Front.{Reached, at-front, past-good}
@@ -129,3 +131,20 @@ place-within p f e = go (bad-place p f e)
         by-record a (no-room l) i = inl (omega (arith, at-is a i, b .inside))
         by-record a (bad-number w o) i = inl (omega (arith, at-is a i, b .inside))
         by-record _ (bad-body g w o h) i = by-body g w h i
+
+-- ---- an offset is a small number
+pub record-small : (t : List ℕ) (f : Fault) → Record.Bad f ≡ readRecord t → f .at ≤ 10 + entrySize
+record-small t f e = go f (subst (λ (r : Record). Held r t) (sym e) (record-held t))
+  where
+    go : (f : Fault) → BadRecord t f → f .at ≤ 10 + entrySize
+    go _ (no-room l) = omega arith
+    go _ (bad-number w o) = omega arith
+    go _ (bad-body g w o h) = omega (arith, body-small (bodyOf t) g h)
+
+pub packet-small : (p : List ℕ) (f : Fault) → readPacket p ≡ Packet.Bad f → f .at ≤ packetMost
+unfolding framing
+packet-small p f e = elim (pick-cases (bad-framing p f e)) [ inl h ↦ within (h .0) (place-within p f e) | inr h ↦ let q = h .1 in let z : _≡_ {A = ℕ} 0 1 = cc in absurd (omega arith) ]
+  where
+    within : both (leb 1 (length p)) (leb (length p) packetMost) ≡ true → (f .at < length p) ⊎ ((f .number ≡ 3) × EndPlace p (f .at)) → f .at ≤ packetMost
+    within t (inl l) = omega (arith, l, leb-true (length p) packetMost (both-true {a = leb 1 (length p)} t .1))
+    within t (inr x) = omega (arith, x .1 .place-is, leb-true (length p) packetMost (both-true {a = leb 1 (length p)} t .1))
