@@ -26,8 +26,8 @@ type-told (Body.Delete m) b s z = sym (s .0 .type-is)
 type-told (Body.Execution m) b s z = sym (s .0 .type-is)
 type-told (Body.Trade m) b s z = sym (s .0 .type-is)
 type-told (Body.TradeCancel m) b s z = sym (s .0 .type-is)
-type-told (Body.Bad r) b (inl e) z = absurd (omega (arith, ap (λ x. x .number) e))
-type-told (Body.Bad r) b (inr e) z = absurd (omega (arith, ap (λ x. x .number) e))
+type-told (Body.Bad r) b (inl e) z = absurd (omega (arith, e .0))
+type-told (Body.Bad r) b (inr e) z = absurd (omega (arith, e .0))
 
 -- the first of the eight is the type that they are told with
 typed-first : (t : ℕ) (m : Body) (b : List ℕ) → getD (typed t m b) 0 0 ≡ t
