@@ -795,15 +795,21 @@ def add_timestamps(vectors):
                         for number, kind in enumerate(stamped, 1)))
 
 
+def not_judged(kind):
+    """The fields of a message that have no range, each at its smallest and at its largest value."""
+    smallest, largest = {}, {}
+    for field, width, usual in LAYOUT[kind]:
+        if (kind, field) not in JUDGED:
+            letters = isinstance(usual, bytes)
+            smallest[field] = bytes(width) if letters else 0
+            largest[field] = bytes([255] * width) if letters else 256**width - 1
+    return smallest, largest
+
+
 def add_fields_not_judged(vectors):
     """Every field without a range, at its smallest and its largest value."""
     for kind in KINDS:
-        smallest, largest = {}, {}
-        for field, width, usual in LAYOUT[kind]:
-            if (kind, field) not in JUDGED:
-                letters = isinstance(usual, bytes)
-                smallest[field] = bytes(width) if letters else 0
-                largest[field] = bytes([255] * width) if letters else 256**width - 1
+        smallest, largest = not_judged(kind)
         vectors.good("type %d, all that is not judged smallest" % kind, (1, kind, smallest))
         vectors.good("type %d, all that is not judged largest" % kind, (1, kind, largest))
     for byte in range(256):
@@ -930,6 +936,166 @@ def add_several_faults(vectors):
                 good + number_0 + price_0 + empty + good)
 
 
+# A record with a fault beside two good ones of 15 and 19 bytes: which of the three it is and where
+# it starts, and what stands before and behind it.
+FRONT, REAR = record(7, compose(TIME)), record(9, compose(CLEAR))
+PLACES = [
+    ("first of three", 1, 0, b"", FRONT + REAR),
+    ("in the middle", 2, 15, FRONT, REAR),
+    ("last of three", 3, 15 + 19, FRONT + REAR, b""),
+]
+
+# One fault of each kind: its refusal, the offset in its record, the words, and the record. Behind
+# the first two no other record can stand.
+ONE_OF_EACH = [
+    ("5 header bytes", 2, 0, "unfinished header", FRONT[:5]),
+    ("body past the end", 2, 0, "body past the end", record(8, compose(ADD), 1500)),
+    ("number 0", 5, 0, "sequence number", record(0, compose(ADD))),
+    ("empty body", 3, 10, "empty body", record(8, b"")),
+    ("type 22", 3, 10, "unknown type", record(8, b"\x16" + compose(ADD)[1:])),
+    ("a Trade of 30 bytes", 3, 10, "Trade, wrong length", record(8, compose(TRADE)[:-1])),
+    ("10^9 nanoseconds", 4, 10 + 1, "System State, nanoseconds",
+     record(8, compose(STATE, nanoseconds=10**9))),
+    ("size 0", 4, 10 + 33, "Order Execution, size", record(8, compose(EXECUTION, size=0))),
+    ("market D", 4, 10 + 41, "Symbol Update, market", record(8, compose(UPDATE, market=68))),
+]
+
+
+def add_bad_fields(vectors):
+    """Each judged field of each message, bad by itself and with every choice of the others: of
+    several the one that lies first is told. Alone, and as each of three records."""
+    for kind, starts in STARTS.items():
+        for count in range(1, len(starts) + 1):
+            for fields in itertools.combinations(starts, count):
+                label = "type %d, bad %s" % (kind, " and ".join(fields))
+                part = record(8, compose(kind, **{field: WRONG[field] for field in fields}))
+                if count > 1:  # a single one stands above, with other values too
+                    vectors.bad(label, *bad_field(kind, fields[0]), part)
+                for where, place, start, before, behind in PLACES:
+                    vectors.bad("%s, %s" % (label, where),
+                                *bad_field(kind, fields[0], place, start), before + part + behind)
+        for field in starts:
+            changes = {**not_judged(kind)[1], field: WRONG[field]}
+            vectors.bad("type %d, bad %s, all that is not judged largest" % (kind, field),
+                        *bad_field(kind, field), record(8, compose(kind, **changes)))
+
+
+def add_bad_records(vectors):
+    """Each fault that is no field's, as each of three records. An unfinished header can only be the
+    last, and an empty body behind all others starts where the packet ends."""
+    faults = ONE_OF_EACH[2:5]
+    faults += [("number %d" % number, 5, 0, "sequence number", record(number, compose(TIME)))
+               for number in (10**12 + 1, 2**64 - 1)]
+    faults += [("type %d" % kind, 3, 10, "unknown type", record(8, bytes([kind]) + bytes(4)))
+               for kind in (0, 2, 255)]
+    for kind in KINDS:
+        for body in (compose(kind)[:-1], compose(kind) + b"\x00"):
+            faults.append(("type %d with %d bytes" % (kind, len(body)), 3, 10,
+                           PRINTED[kind][1] + ", wrong length", record(8, body)))
+    for where, place, start, before, behind in PLACES:
+        for label, refusal, at, words, part in faults:
+            vectors.bad("%s, %s" % (label, where), refusal, start + at,
+                        "record %d, %s" % (place, words), before + part + behind)
+        for kind in KINDS:
+            body = compose(kind)
+            claims = len(body) + len(behind) + 1
+            vectors.bad("type %d past the packet's end by 1, %s" % (kind, where),
+                        2, start, "record %d, body past the end" % place,
+                        before + record(8, body, claims) + behind)
+    for length in range(1, 10):
+        vectors.bad("%d header bytes behind two records" % length,
+                    2, 15 + 19, "record 3, unfinished header", FRONT + REAR + FRONT[:length])
+
+
+# What good records have so many bytes more than some whole System Times of 15 bytes.
+REST = {0: [], 1: [DELETE, CLEAR], 2: [STATUS, STATE], 3: [EXECUTION], 4: [CLEAR],
+        5: [STATE, CANCEL], 6: [EXECUTION, EXECUTION], 7: [UPDATE], 8: [CLEAR, CLEAR],
+        9: [DELETE, DELETE], 10: [MODIFY], 11: [TRADE], 12: [DELETE], 13: [STATE, EXECUTION],
+        14: [ADD]}
+
+
+def fill(length):
+    """Good records of so many bytes together, and how many they are."""
+    others = b"".join(record(1, compose(kind)) for kind in REST[length % 15])
+    times = (length - len(others)) // 15
+    records = others + FRONT * times
+    if len(records) != length:
+        sys.exit("no good records of %d bytes" % length)
+    return records, len(REST[length % 15]) + times
+
+
+def add_far_offsets(vectors):
+    """Offsets that one byte cannot tell, and the last ones that a packet has."""
+    for offset in (255, 256, 257, 511, 512, 1023, 1024):
+        for label, refusal, at, words, part in ONE_OF_EACH:
+            front, count = fill(offset - at)
+            vectors.bad("%s, told at %d" % (label, offset), refusal, offset,
+                        "record %d, %s" % (count + 1, words), front + part)
+
+    # Packets of 1,500 bytes with a fault in their last record.
+    ends = [("%d header bytes" % length, 2, 0, "unfinished header", FRONT[:length])
+            for length in range(1, 10)]
+    ends += ONE_OF_EACH[1:6]
+    ends.append(("body past the end by 1", 2, 0, "body past the end", record(8, compose(ADD), 35)))
+    for kind in KINDS:
+        ends.append(("type %d, a byte too many" % kind, 3, 10, PRINTED[kind][1] + ", wrong length",
+                     record(8, compose(kind) + b"\x00")))
+        for field, start in STARTS.get(kind, {}).items():
+            ends.append(("type %d, bad %s" % (kind, field), 4, 10 + start,
+                         "%s, %s" % (PRINTED[kind][1], CALLED[field]),
+                         record(8, compose(kind, **{field: WRONG[field]}))))
+    for label, refusal, at, words, part in ends:
+        front, count = fill(1500 - len(part))
+        vectors.bad("1,500 bytes: %s at the end" % label, refusal, 1500 - len(part) + at,
+                    "record %d, %s" % (count + 1, words), front + part)
+    for length in range(1, 10):
+        vectors.bad("%d header bytes behind 20 records" % length,
+                    2, 20 * 15, "record 21, unfinished header", FRONT * 20 + FRONT[:length])
+        vectors.bad("%d header bytes behind 99 records" % length,
+                    2, 99 * 15, "record 100, unfinished header", FRONT * 99 + FRONT[:length])
+    for label, refusal, at, words, part in ONE_OF_EACH[2:]:
+        vectors.bad("%s in front, and a record of number 0 far behind" % label, refusal, at,
+                    "record 1, %s" % words, part + FRONT * 80 + record(0, compose(TIME)))
+        vectors.bad("%s in the second of 90 records, and 9 bytes more" % label, refusal, 15 + at,
+                    "record 2, %s" % words, FRONT + part + FRONT * 88 + bytes(9))
+
+
+def add_faults_of_two_records(vectors):
+    """Each judged field of each message in front of every other fault, whose offset may be smaller
+    in its own record, and behind each that is no field's: the front record is told."""
+    for kind, starts in STARTS.items():
+        for field in starts:
+            part = record(8, compose(kind, **{field: WRONG[field]}))
+            label = "type %d, bad %s" % (kind, field)
+            for other, _, _, _, behind in ONE_OF_EACH:
+                vectors.bad("%s, then %s" % (label, other), *bad_field(kind, field, 2, 15),
+                            FRONT + part + behind)
+            for other, refusal, at, words, before in ONE_OF_EACH[2:6]:
+                vectors.bad("%s, then %s" % (other, label), refusal, 15 + at,
+                            "record 2, %s" % words, FRONT + before + part)
+
+
+def add_faults_at_once(vectors):
+    """Two, three and all four of the refusals 2, 5, 3 and 4 in one record, as each of three: the
+    one that is tried first is told."""
+    unknown, longer = "unknown type", "Add Order, wrong length"
+    for count in (2, 3, 4):
+        for several in itertools.combinations((2, 5, 3, 4), count):
+            for three in (unknown, longer) if 3 in several else ("",):
+                body = compose(ADD, price=0 if 4 in several else 1)
+                if three == unknown:
+                    body = b"\x16" + body[1:]
+                elif three == longer:
+                    body += b"\x00"
+                part = record(0 if 5 in several else 8, body, 2000 if 2 in several else None)
+                label = "%s at once %s" % (" and ".join(map(str, several)), three)
+                at, words = {2: (0, "body past the end"), 5: (0, "sequence number"),
+                             3: (10, three)}[several[0]]
+                for where, place, start, before, behind in PLACES:
+                    vectors.bad("%s, %s" % (label, where), several[0], start + at,
+                                "record %d, %s" % (place, words), before + part + behind)
+
+
 def random_records(dice, count):
     """Up to `count` good records that fit in a packet, numbered on or at random."""
     records, room = [], LARGEST_PACKET
@@ -1021,6 +1187,11 @@ def all_vectors():
     add_fields_not_judged(vectors)
     add_numbers(vectors)
     add_several_faults(vectors)
+    add_bad_fields(vectors)
+    add_bad_records(vectors)
+    add_far_offsets(vectors)
+    add_faults_of_two_records(vectors)
+    add_faults_at_once(vectors)
     add_random(vectors)
     for place, vector in enumerate(vectors.list, 1):
         lines = expected_lines(vector.packet)
