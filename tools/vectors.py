@@ -1265,6 +1265,25 @@ def tables_of(page):
             title = line.lstrip("#").strip()
 
 
+# For docs/MESSAGES.md, second records behind the System Time of document 01's example. The page
+# states by hand what they are refused with, and the reader reads them.
+SECOND_RECORDS = [
+    ("3 bytes, and no more", b"\x02\x00\x00"),
+    ("an Add whose header claims 35 bytes", record(2, compose(ADD), 35)),
+    ("an Add with number 0", record(0, compose(ADD))),
+    ("no body: the packet ends behind the header", record(2, b"")),
+    ("an Add with type 22", record(2, b"\x16" + compose(ADD)[1:])),
+    ("an Add of 33 bytes", record(2, compose(ADD)[:-1])),
+    ("an Add with 1,000,000,000 nanoseconds", record(2, compose(ADD, nanoseconds=10**9))),
+    ("an Add with side `X`", record(2, compose(ADD, side=ord("X")))),
+    ("an Add with price 0", record(2, compose(ADD, price=0))),
+    ("an Add with price 0 and size 0", record(2, compose(ADD, price=0, size=0))),
+    ("an Add with size 0", record(2, compose(ADD, size=0))),
+    ("a Modify with size 0", record(2, compose(MODIFY, size=0))),
+    ("a Symbol Update with market `D`", record(2, compose(UPDATE, market=ord("D")))),
+]
+
+
 def wanted_tables():
     """The tables that docs/MESSAGES.md must have, as title: (headings, rows in their order)."""
     short = {20: "Add", 21: "Modify"}
@@ -1272,6 +1291,9 @@ def wanted_tables():
     messages = {field: ", ".join(short.get(kind, PRINTED[kind][1]) for kind in kinds)
                 for field, (_, kinds) in RANGES.items()}
     sums = [kind for kind in PRINTED if kind not in SCOPE]
+    refusals = [[str(number), offset] for number, offset in REFUSALS_IN_ORDER.items()]
+    second = [[label, expected_lines(EXAMPLE_BYTES[0] + part)[0].split(":")[0].split(" ", 1)[1]]
+              for label, part in SECOND_RECORDS]
     wanted = {
         "Types and lengths": [
             (["Message", "Section of 003", "Type", "Length in bytes"],
@@ -1285,17 +1307,20 @@ def wanted_tables():
              [["sequence number", span(0, 7), "8"], ["body length", span(8, HEADER - 1), "2"],
               ["body", "%d on" % HEADER, "as the body length says"]])],
         "Refusals, in their order (\"Refused, and what is left\")": [
-            (["No."], [[str(number)] for number in list(REFUSALS_IN_ORDER)[:1]]),
-            (["No."], [[str(number)] for number in list(REFUSALS_IN_ORDER)[1:]])],
+            (["No.", "Offset"], refusals[:1]), (["No.", "Offset"], refusals[1:])],
+        "Where the fault is (document 02, No. 5)": [(["Second record", "Refused"], second)],
         "Which fields are judged (\"Field ranges\")": [
             (["Field", "Good values", "In which messages"], [
-                ["nanoseconds", RANGES["Timestamp"][0], "all but %s" % ", ".join(
-                    PRINTED[kind][1] for kind in PRINTED if kind not in RANGES["Timestamp"][1])],
-                ["side", "`B` (66) or `S` (83)", messages["Order Side"]],
-                ["price", price, messages["Price"]],
-                ["size", "1 to 4,294,967,295 (the most that 4 bytes hold)", "the same five"],
-                ["test indicator", "`Y` (89) or `N` (78)", messages["Test Security Indicator"]],
-                ["market", RANGES["Primary Market Code"][0], messages["Primary Market Code"]]])],
+                [CALLED[field], *cells] for field, *cells in (
+                    ("nanoseconds", RANGES["Timestamp"][0], "all but %s" % ", ".join(
+                        PRINTED[kind][1] for kind in PRINTED
+                        if kind not in RANGES["Timestamp"][1])),
+                    ("side", "`B` (66) or `S` (83)", messages["Order Side"]),
+                    ("price", price, messages["Price"]),
+                    ("size", "1 to 4,294,967,295 (the most that 4 bytes hold)", "the same five"),
+                    ("test", "`Y` (89) or `N` (78)", messages["Test Security Indicator"]),
+                    ("market", RANGES["Primary Market Code"][0],
+                     messages["Primary Market Code"]))])],
     }
     for kind, (section, name, _) in PRINTED.items():
         rows = []
