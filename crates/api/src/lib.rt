@@ -2,6 +2,7 @@
 // which answers yes or no, answers 0 or document 01's number of the refusal, and a refusal changes no lent byte. Where packets, records and
 // bodies are read, the answer has the offset of the first byte at fault above the number's 8 bits.
 ghost use mathlib.Core.Path.{_≡_};
+ghost use Prim.Native.Nat.{_<_};
 ghost use Rattle.receiver.specs.Lent.{lent, received, started};
 ghost use Rattle.views.specs.Views.{ladderView, spreadView, countsView};
 ghost use Rattle.packet.specs.Record.{readRecord};

@@ -36,7 +36,7 @@ enum-told c = search needs
 accept-requires : tie.Need-accept-requires
 accept-requires c κs =
     let g = good-framing (c .before .before .before .before .before .before .before .before .before .before .before .before .before .before .args .p .now) _ (sym (c .before .before .before .before .before .read-packet .ensures) ∙ c .before .before .before .enum-told .given .1) in
-        (next-most (c .before .before .before .before .before .before .before .before .before .before .before .before .before .before .args .state .next) (sym (c .before .before .before .before .before .before .before .next-ok .ensures) ∙ not-false (c .before .before .before .before .before .before .before .next-ok .result) (c .before .before .before .before .before .before .if2 .left)), record { cs = g .0; framing-is = g .1 })
+    (next-most (c .before .before .before .before .before .before .before .before .before .before .before .before .before .before .args .state .next) (sym (c .before .before .before .before .before .before .before .next-ok .ensures) ∙ not-false (c .before .before .before .before .before .before .before .next-ok .result) (c .before .before .before .before .before .before .if2 .left)), record { cs = g .0; framing-is = g .1 })
 
 returns-3 : tie.Need-returns-3
 returns-3 c = refused-packet real (lent (c .before .before .before .before .before .before .before .before .before .before .before .before .args .orders .now) (c .before .before .before .before .before .before .before .before .before .before .before .before .args .symbols .now) (c .before .before .before .before .before .before .before .before .before .before .before .before .args .shelf .now) (c .before .before .before .before .before .before .before .before .before .before .before .before .args .state)) (c .before .before .before .before .before .before .before .before .before .before .before .before .args .p .now) (sym (c .before .before .before .before .before .before .before .sizes-ok .ensures) ∙ not-false (c .before .before .before .before .before .before .before .sizes-ok .result) (c .before .before .before .before .before .before .if1 .left)) (sym (c .before .before .before .before .before .next-ok .ensures) ∙ not-false (c .before .before .before .before .before .next-ok .result) (c .before .before .before .before .if2 .left)) _ (refused-framing (c .before .before .before .before .before .before .before .before .before .before .before .before .args .p .now) _ (sym (c .before .before .before .read-packet .ensures) ∙ c .before .r .given .1))
