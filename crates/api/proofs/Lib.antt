@@ -3,3 +3,4 @@ pub mod Handing
 pub mod Types
 pub mod Chain
 pub mod Streams
+pub mod Codes

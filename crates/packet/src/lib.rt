@@ -103,10 +103,11 @@ pub fn read_packet(p: &[u8]) -> Packet
     while at < p.len() {
         match read_record(&p[at..]) {
             Record::Bad(f) => {
-                return Packet::Bad(Fault {
+                let fault = Fault {
                     number: f.number,
                     at: at + f.at,
-                });
+                };
+                return Packet::Bad(fault);
             }
             Record::Good(h) => {
                 let n = h.len;

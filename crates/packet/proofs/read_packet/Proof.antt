@@ -40,8 +40,8 @@ read-record-requires c κs = search needs
 enum-known-f : tie.Need-enum-known-f Inv-loop μ-loop
 enum-known-f c = search needs
 
-add-t17 : tie.Need-add-t17 Inv-loop μ-loop
-add-t17 c = let g = at-bad (c .before .before .before .before .before .before .before .before .before .before .before .args .p .now) (c .before .before .before .before .before .before .before .loop .at) (c .before .before .before .before .before .before .before .loop .records) (c .before .before .before .before .read-record .result) (c .before .before .before .before .before .before .loop-test .taken) (c .before .before .before .before .read-record .ensures) _ (c .before .before .f .given .1) in omega (arith, g .0)
+add-t18 : tie.Need-add-t18 Inv-loop μ-loop
+add-t18 c = let g = at-bad (c .before .before .before .before .before .before .before .before .before .before .before .args .p .now) (c .before .before .before .before .before .before .before .loop .at) (c .before .before .before .before .before .before .before .loop .records) (c .before .before .before .before .read-record .result) (c .before .before .before .before .before .before .loop-test .taken) (c .before .before .before .before .read-record .ensures) _ (c .before .before .f .given .1) in omega (arith, g .0)
 
 returns-3 : tie.Need-returns-3 Inv-loop μ-loop
 returns-3 c = let g = at-bad (c .before .before .before .before .before .before .before .before .before .before .before .args .p .now) (c .before .before .before .before .before .before .before .loop .at) (c .before .before .before .before .before .before .before .loop .records) (c .before .before .before .before .read-record .result) (c .before .before .before .before .before .before .loop-test .taken) (c .before .before .before .before .read-record .ensures) _ (c .before .before .f .given .1) in sym (packet-is (c .before .before .before .before .before .before .before .before .before .before .before .args .p .now) (omega arith) (c .before .before .before .before .before .before .before .before .if2 .left) ∙ c .before .before .before .before .before .before .before .loop .inv .2 ∙ g .1)
@@ -81,7 +81,7 @@ read-packet-spec =
     part-read-record-end
     read-record-requires
     enum-known-f
-    add-t17
+    add-t18
     returns-3
     enum-known-h
     add-at
