@@ -91,14 +91,14 @@ fn show_fault(p: &[u8], f: Fault) {
     end_line();
 }
 
-// Over the good records to the first bad one.
+// Over the good records to the first bad one, which is counted from 1.
 fn show_first_bad(p: &[u8]) {
     let mut at = 0;
-    let mut record: u64 = 1;
+    let mut count: usize = 1;
     while at < p.len() {
         match packet::read_record(&p[at..]) {
             Record::Bad(f) => {
-                also(record);
+                also(count as u64);
                 show_bad(&p[at..], f);
                 return;
             }
@@ -111,10 +111,7 @@ fn show_first_bad(p: &[u8]) {
                     return;
                 }
                 at = at + 10 + n;
-                if record == u64::MAX {
-                    return;
-                }
-                record = record + 1;
+                count = count + 1;
             }
         }
     }

@@ -1,7 +1,7 @@
--- The part of n bytes lies in the slice, by the test before it.
--- Assumes nothing.
 use mathlib.Core.Path.{sym}
 use lib.Seq.{length-take-le}
+-- The part of n bytes lies in the slice, by the test before it.
+-- Assumes nothing.
 use borrow.Author.Needs.{needs}
 use Rattle.receiving.proofs.give.Statement.{statement}
 use Rattle.receiving.proofs.give.Tie as tie
@@ -36,6 +36,33 @@ end-line-requires c κs = search needs
 enum-known-a-2 : tie.Need-enum-known-a-2
 enum-known-a-2 c = search needs
 
+slice-aggregate-write-all-2 : tie.Need-slice-aggregate-write-all-2
+slice-aggregate-write-all-2 c = search needs
+
+write-all-requires-2 : tie.Need-write-all-requires-2
+write-all-requires-2 c κs = search needs
+
+cast-also-2 : tie.Need-cast-also-2
+cast-also-2 c = search needs
+
+also-requires-2 : tie.Need-also-requires-2
+also-requires-2 c κs = search needs
+
+slice-aggregate-write-all-3 : tie.Need-slice-aggregate-write-all-3
+slice-aggregate-write-all-3 c = search needs
+
+write-all-requires-3 : tie.Need-write-all-requires-3
+write-all-requires-3 c κs = search needs
+
+also-requires-3 : tie.Need-also-requires-3
+also-requires-3 c κs = search needs
+
+end-line-requires-2 : tie.Need-end-line-requires-2
+end-line-requires-2 c κs = search needs
+
+enum-known-a-3 : tie.Need-enum-known-a-3
+enum-known-a-3 c = search needs
+
 show-account-requires : tie.Need-show-account-requires
 show-account-requires c κs = search needs
 
@@ -63,6 +90,18 @@ same-length-6 c = search needs
 returns-3 : tie.Need-returns-3
 returns-3 c = search needs
 
+same-length-7 : tie.Need-same-length-7
+same-length-7 c = search needs
+
+same-length-8 : tie.Need-same-length-8
+same-length-8 c = search needs
+
+same-length-9 : tie.Need-same-length-9
+same-length-9 c = search needs
+
+returns-4 : tie.Need-returns-4
+returns-4 c = search needs
+
 pub give-spec : {M : Type 1} → statement M
 give-spec =
     tie.close
@@ -77,6 +116,15 @@ give-spec =
     also-requires
     end-line-requires
     enum-known-a-2
+    slice-aggregate-write-all-2
+    write-all-requires-2
+    cast-also-2
+    also-requires-2
+    slice-aggregate-write-all-3
+    write-all-requires-3
+    also-requires-3
+    end-line-requires-2
+    enum-known-a-3
     show-account-requires
     same-length
     same-length-2
@@ -85,4 +133,8 @@ give-spec =
     same-length-4
     same-length-5
     same-length-6
-    returns-3)
+    returns-3
+    same-length-7
+    same-length-8
+    same-length-9
+    returns-4)
