@@ -4,7 +4,7 @@ mod common;
 use common::*;
 use second::examples::*;
 use second::morning::*;
-use second::packet::{little, read_packet, LAST_NANOSECOND, LAST_NUMBER, MODIFY_ORDER};
+use second::packet::*;
 use second::sheet::*;
 use std::collections::{BTreeMap, BTreeSet};
 
@@ -244,10 +244,10 @@ fn the_long_recording_shows_everything() {
     for packet in long_packets() {
         let tap_fault = tap_fault(&packet, &list);
         match desk.give(&packet) {
-            Err(number) => {
-                refused[number as usize] += 1;
+            Err(refusal) => {
+                refused[refusal.number as usize] += 1;
                 if let Some(numbers) = tap_fault {
-                    assert_eq!(number, 4);
+                    assert_eq!(refusal.number, 4);
                     tap_faults += 1;
                     if numbers.contains(&desk.state.next) {
                         gap = desk.state.next;
@@ -341,7 +341,7 @@ fn the_morning_of_the_tap_fault() {
         let Err(refusal) = read_packet(packet) else {
             continue;
         };
-        assert_eq!(refusal, 4);
+        assert_eq!(refusal, Refusal::at(4, TYPE + 1));
         assert_eq!(little(&packet[TYPE + 1..TYPE + 5]), 1_000_000_000);
         let mut mended = packet.to_vec();
         mended[TYPE + 1..TYPE + 5].copy_from_slice(&LAST_NANOSECOND.to_le_bytes());
