@@ -20,6 +20,7 @@ pub mod packet;
 #[cfg(linked)]
 #[allow(unsafe_code)] // C functions cannot be called otherwise; nothing else here does
 pub mod proved;
+pub mod reading;
 pub mod receiver;
 #[cfg(linked)]
 pub mod scenarios;
