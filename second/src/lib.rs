@@ -24,6 +24,7 @@ pub mod reading;
 pub mod receiver;
 #[cfg(linked)]
 pub mod scenarios;
+pub mod seen;
 pub mod sheet;
 pub mod stream;
 pub mod tables;
