@@ -6,6 +6,7 @@ use super::Outcome;
 use crate::morning::*;
 use crate::packet::*;
 use crate::reading::JUDGED_FIELDS;
+use crate::receiver::{filled_slot, slot_mut};
 use crate::stream::LEAST_HOLD;
 use crate::twins::Twins;
 
@@ -13,7 +14,7 @@ use crate::twins::Twins;
 type Told = (Vec<u8>, Refusal);
 
 /// Each judged field as the only bad one and as the second of two, each other fault a few times, in the first,
-/// a middle and the last record of packets; then all these packets as a recording in pieces.
+/// a middle and the last record of packets; then all these packets as a recording in pieces, and 6 inside one.
 pub(super) fn offsets(dice: &mut Dice, twins: &mut Twins) -> Outcome {
     twins.restart(2, 2)?;
     let mut records = bad_fields(dice);
@@ -33,7 +34,8 @@ pub(super) fn offsets(dice: &mut Dice, twins: &mut Twins) -> Outcome {
     for (packet, refusal) in &packets {
         refuses(twins, packet, *refusal)?;
     }
-    in_pieces(dice, twins, &packets)
+    in_pieces(dice, twins, &packets)?;
+    six_inside_a_piece(twins)
 }
 
 /// Records with each judged field bad, and with an earlier one of the same message bad too, by which 4 is told:
@@ -171,6 +173,20 @@ fn piece_by_piece(
     }
     twins.feed(end)?;
     tells(twins, told)
+}
+
+/// A caller's message on the shelf, behind the last number: the first packet of a piece drives next too far, and
+/// the second is refused with 6, which has no offset.
+fn six_inside_a_piece(twins: &mut Twins) -> Outcome {
+    let body = system_time(1);
+    twins.alter(|desk| {
+        desk.state.next = LAST_NUMBER;
+        let slot = slot_mut(&mut desk.shelf, LAST_NUMBER + 1);
+        slot.copy_from_slice(&filled_slot(LAST_NUMBER + 1, &body));
+    });
+    let drives = record(LAST_NUMBER, &body);
+    twins.feed(&recording(&[drives, record(1, &body)]))?;
+    tells(twins, (6, 0))
 }
 
 fn tells(twins: &Twins, told: (u8, u64)) -> Outcome {
