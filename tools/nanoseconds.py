@@ -7,11 +7,11 @@
 Document 02, No. 6: "A tap fault gave us 1,000,000,000 in a Timestamp. The largest good value is
 999,999,999, in every message that carries the field", and "Recordings that held such values now
 leave a gap". On line A each of the ten messages that carry the field has 1,000,000,000 in it,
-between good records: the packet is refused with 4, the next one waits behind the gap, and line B,
-which has 999,999,999 there, fills it. A System Time of 4,294,967,295 seconds, which are no
-nanoseconds, ends the morning. What both texts say is stated from the documents' words, in the form
-that README.md gives; no message is applied here. Every run gives the same bytes. They are
-examples/nanoseconds.rec, examples/nanoseconds.answers and examples/nanoseconds.sheet.
+between good records: the packet is refused "with 4 and its offset", the next one waits behind the
+gap, and line B, which has 999,999,999 there, fills it. A System Time of 4,294,967,295 seconds,
+which are no nanoseconds, ends the morning. What both texts say is stated from the documents' words,
+in the form that README.md gives; no message is applied here. Every run gives the same bytes. They
+are examples/nanoseconds.rec, examples/nanoseconds.answers and examples/nanoseconds.sheet.
 """
 
 import sys
@@ -34,6 +34,7 @@ TURNS = [(CLEAR, {}), (UPDATE, {"lot": 200}), (STATE, {}), (STATUS, {}),
          (EXECUTION, {"price": PRICE, "size": 40}), (TRADE, {}), (CANCEL, {})]
 OF_AN_ORDER = (MODIFY, DELETE, EXECUTION)
 BEHIND = FIRST + A_TURN * len(TURNS)
+TIMESTAMP = 44 + 10 + 1  # where it starts: behind an Add of 44 bytes, a header and a type byte
 
 
 def first_order(turn):
@@ -60,7 +61,7 @@ def packets():
                     for number, kind, changes in EXAMPLE[:2]), told((2, 0, 0, 0, 0), FIRST, 2, 0))
     for turn in range(len(TURNS)):
         number = FIRST + A_TURN * turn
-        yield line(turn, WHOLE), "refused 4"
+        yield line(turn, WHOLE), "refused 4 at %d" % TIMESTAMP
         yield add(number + 3, first_order(turn) + 2), told(ONE_TAKEN, number, 0, number + 3)
         yield line(turn, LAST), told((3, 0, 0, 0, 0), number + 4, 4, 0)
     yield (record(BEHIND, compose(TIME, seconds=2**32 - 1)), told(ONE_TAKEN, BEHIND + 1, 1, 0))

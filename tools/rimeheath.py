@@ -61,8 +61,9 @@ usage: ./rimeheath answers [--progress] [RECORDING]
 
 Prints the receiver's answer to each packet: records taken, old, too far,
 repeated, differing; next, applied, highest on the shelf, stop; or 'refused' and
-the number. Then the second, the rows, the entries, and each symbol's levels and
-spread. A packet that the recording cuts off is left out.
+the number and, but for 1, 'at' and the offset of the first byte at fault, from
+0 in the packet. Then the second, the rows, the entries, and each symbol's
+levels and spread. A packet that the recording cuts off is left out.
 """
 
 READ = """\
@@ -70,8 +71,9 @@ usage: ./rimeheath read [--progress] [RECORDING]
 
 Prints what each packet holds: 'records' and how many, and for each record a
 line with its sequence number, its type byte and its fields in the order of
-their places; or 'refused' and the number. A packet that the recording cuts off
-is left out.
+their places; or 'refused' and the number and, but for 1, 'at' and the offset of
+the first byte at fault, from 0 in the packet, then which record that is, from
+1, and what is wrong there. A packet that the recording cuts off is left out.
 """
 
 # What each command runs and says of itself, and whether its program prints something of every recording.

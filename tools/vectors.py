@@ -6,15 +6,22 @@
     python3 tools/vectors.py messages FILE  compare the tables of docs/MESSAGES.md with the script's
     python3 tools/vectors.py counts      how many packets are good or refused (to standard error)
 
-The script rests on document 01, on Nos. 2 and 6 of document 02 and on section 4 of document 003
+The script rests on document 01, on Nos. 2, 5 and 6 of document 02 and on section 4 of document 003
 alone. It shares nothing with the library, so that a slip in one shows against the other. Every run
 gives the same bytes.
 
 The text, packet by packet:
 
-    refused R        R is 1, 2, 3, 4 or 5 of document 01's refusal table; nothing else is printed
+    refused 1        the packet has no bytes or too many, and nothing else is printed; or
+    refused R at O: record K, WORDS
+                     R is 2, 3, 4 or 5 of document 01's refusal table, O the offset in the packet
+                     of the first byte at fault, K the record from 1; nothing else is printed
     records K        else: the packet's number of records, then a line for each record:
     N T F F F ..     sequence number, type byte, and the fields in the order of their offsets
+
+The words are, of 2, `unfinished header` where fewer than 10 bytes are left, else `body past the
+end`; of 5 `sequence number`; of 3 `empty body`, `unknown type`, or the message and `wrong length`;
+of 4 the message and the field. Messages and judged fields have the names of docs/MESSAGES.md.
 
 All is decimal, with one space between, and each line ends with one line feed. A field of more
 than one letter is printed byte by byte; the Attributable ID of an Add is one number. Reserved
@@ -23,9 +30,11 @@ bytes are not printed, nor are the nanoseconds and the test byte of a Symbol Upd
 The script has four parts. The tables are copied from the documents: those of 003, section 4, and
 document 01's table of five messages. The reader cuts fields out by offsets. The composer puts
 bodies together field behind field. The list of packets states by hand what most packets must
-give. Each run compares the four with each other and fails with a message if they disagree.
+give, a fault's offset as the sum of what was put in front of it. Each run compares the four with
+each other and fails with a message if they disagree.
 """
 
+import itertools
 import sys
 
 # ---------------------------------------------------------------------------------------------
@@ -92,8 +101,17 @@ RANGES = {
     "Primary Market Code": ("one of A B C H I J K L M N P Q U V W X Y Z", [1]),
 }
 
-# "Order: 6, 1, then records from the front, each by 2, 5, 3, 4." No packet causes 6.
-REFUSALS_IN_ORDER = [1, 2, 5, 3, 4]
+# "Order: 6, 1, then records from the front, each by 2, 5, 3, 4." No packet causes 6. Document 02,
+# No. 5: the offset is "for 2 the record's start, for 5 the number's start, for 3 the body's start
+# or, for an empty body, the place where it would start, for 4 the first byte of the earliest bad
+# field by offset". A number is the first part of its record, and the body stands behind its header.
+REFUSALS_IN_ORDER = {
+    1: "none",
+    2: "the record's start",
+    5: "the record's start, where the number starts",
+    3: "the record's start plus 10, where the body starts, or would start if it is empty",
+    4: "the record's start plus 10 and the first offset of the earliest bad field",
+}
 
 
 def places(kind):
@@ -123,6 +141,7 @@ LARGEST_NUMBER = 10**12
 LARGEST_PRICE = 10**15
 LARGEST_NANOSECOND = 999_999_999
 MARKETS = b"ABCHIJKLMNPQUVWXYZ"
+IN_WORDS = {"test": "test indicator"}  # judged fields with another name in the text
 
 NUMBER = "one number"
 BYTES = "byte by byte"
@@ -203,11 +222,14 @@ MESSAGES = {
 
 
 class Refused(Exception):
-    """A packet is refused; `number` is document 01's number."""
+    """Document 01's number and, but for 1, the offset of the first byte at fault in what was read,
+    and what it is in words."""
 
-    def __init__(self, number):
+    def __init__(self, number, offset=None, words=None):
         super().__init__(number)
         self.number = number
+        self.offset = offset
+        self.words = words
 
 
 def little(part):
@@ -234,21 +256,42 @@ def in_range(field, value):
 
 
 def read_body(body):
-    """The type and the fields (a dictionary) of a good body; else Refused 3 or 4."""
-    if len(body) == 0 or body[0] not in MESSAGES:
-        raise Refused(3)
+    """The type and the fields (a dictionary) of a good body; else Refused 3 or 4, in the body."""
+    if len(body) == 0:
+        raise Refused(3, 0, "empty body")
     kind = body[0]
-    _, length, fields = MESSAGES[kind]
+    if kind not in MESSAGES:
+        raise Refused(3, 0, "unknown type")
+    name, length, fields = MESSAGES[kind]
     if len(body) != length:
-        raise Refused(3)
-    values = {}
+        raise Refused(3, 0, name + ", wrong length")
+    values, faults = {}, []
     for field, first, last, printed in fields:
         part = body[first:last + 1]
         values[field] = part if printed == BYTES else little(part)
-    for field, value in values.items():
-        if not in_range(field, value):
-            raise Refused(4)
+        if not in_range(field, values[field]):
+            faults.append((first, "%s, %s" % (name, IN_WORDS.get(field, field))))
+    if faults:
+        raise Refused(4, *min(faults))
     return kind, values
+
+
+def read_record(rest):
+    """The record in front of these bytes, as (sequence number, type, fields), and how many bytes it
+    has; else Refused, in the record."""
+    if len(rest) < HEADER:
+        raise Refused(2, 0, "unfinished header")
+    number = little(rest[:8])
+    length = little(rest[8:HEADER])
+    if length > len(rest) - HEADER:
+        raise Refused(2, 0, "body past the end")
+    if number == 0 or number > LARGEST_NUMBER:
+        raise Refused(5, 0, "sequence number")
+    try:
+        kind, values = read_body(rest[HEADER:HEADER + length])
+    except Refused as fault:
+        raise Refused(fault.number, HEADER + fault.offset, fault.words) from None
+    return (number, kind, values), HEADER + length
 
 
 def read_packet(packet):
@@ -258,18 +301,13 @@ def read_packet(packet):
     records = []
     at = 0
     while at < len(packet):
-        left = len(packet) - at
-        if left < HEADER:
-            raise Refused(2)
-        number = little(packet[at:at + 8])
-        length = little(packet[at + 8:at + HEADER])
-        if length > left - HEADER:
-            raise Refused(2)
-        if number == 0 or number > LARGEST_NUMBER:
-            raise Refused(5)
-        kind, values = read_body(packet[at + HEADER:at + HEADER + length])
-        records.append((number, kind, values))
-        at += HEADER + length
+        try:
+            one, length = read_record(packet[at:])
+        except Refused as fault:
+            words = "record %d, %s" % (len(records) + 1, fault.words)
+            raise Refused(fault.number, at + fault.offset, words) from None
+        records.append(one)
+        at += length
     return records
 
 
@@ -277,8 +315,10 @@ def expected_lines(packet):
     """The lines to be printed for one packet, without their line feeds."""
     try:
         records = read_packet(packet)
-    except Refused as refused:
-        return ["refused %d" % refused.number]
+    except Refused as fault:
+        if fault.offset is None:
+            return ["refused %d" % fault.number]
+        return ["refused %d at %d: %s" % (fault.number, fault.offset, fault.words)]
     lines = ["records %d" % len(records)]
     for number, kind, values in records:
         words = [str(number), str(kind)]
@@ -324,9 +364,26 @@ LAYOUT = {
 KINDS = list(LAYOUT)
 UNPRINTED = {(UPDATE, "nanoseconds"), (UPDATE, "reserved20"), (UPDATE, "test"),
              (UPDATE, "reserved22")}
-JUDGED = {(UPDATE, "test"), (UPDATE, "market"), (ADD, "side")} | {
-    (kind, field) for kind in (ADD, MODIFY, EXECUTION, TRADE, CANCEL)
-    for field in ("price", "size")} | {(kind, "nanoseconds") for kind in KINDS if kind != TIME}
+
+# Where each judged field starts in its body: document 01's table, and 003's for those added.
+STARTS = {
+    UPDATE: {"nanoseconds": 1, "test": 21, "market": 41},
+    STATE: {"nanoseconds": 1},
+    STATUS: {"nanoseconds": 1},
+    CLEAR: {"nanoseconds": 1},
+    ADD: {"nanoseconds": 1, "side": 17, "price": 18, "size": 26},
+    MODIFY: {"nanoseconds": 1, "price": 17, "size": 25},
+    DELETE: {"nanoseconds": 1},
+    EXECUTION: {"nanoseconds": 1, "price": 25, "size": 33},
+    TRADE: {"nanoseconds": 1, "price": 18, "size": 26},
+    CANCEL: {"nanoseconds": 1, "price": 18, "size": 26},
+}
+JUDGED = {(kind, field) for kind, starts in STARTS.items() for field in starts}
+# The judged fields as docs/MESSAGES.md calls them, and a bad value of each.
+CALLED = {"nanoseconds": "nanoseconds", "side": "side", "price": "price", "size": "size",
+          "test": "test indicator", "market": "market"}
+WRONG = {"nanoseconds": 10**9, "side": ord("X"), "price": 0, "size": 0, "test": ord("X"),
+         "market": ord("D")}
 
 
 def whole(kind, changes):
@@ -458,20 +515,38 @@ class Vectors:
         self.list.append(Vector(label, packet, lines))
         return packet
 
-    def bad(self, label, number, packet):
-        """A packet that must be refused with this number."""
-        self.list.append(Vector(label, packet, ["refused %d" % number]))
+    def bad(self, label, number, offset, words, packet):
+        """A packet that must be refused with 2, 3, 4 or 5, at this offset and in these words."""
+        stated = "refused %d at %d: %s" % (number, offset, words)
+        self.list.append(Vector(label, packet, [stated]))
 
-    def judge(self, label, in_order, number, kind, changes):
-        """One record with a judged field: good if `in_order`, else refused with 4."""
+    def bad_length(self, label, packet):
+        """A packet of no bytes or too many, which is refused as a whole: with 1 alone."""
+        self.list.append(Vector(label, packet, ["refused 1"]))
+
+    def judge(self, label, in_order, kind, field, value):
+        """Record 1 alone, with a judged field: good if `in_order`, else refused with 4."""
+        changes = {field: value}
         if in_order:
-            self.good(label, (number, kind, changes))
+            self.good(label, (1, kind, changes))
         else:
-            self.bad(label, 4, record(number, compose(kind, **changes)))
+            self.bad(label, *bad_field(kind, field), record(1, compose(kind, **changes)))
 
     def unstated(self, label, packet):
         """A packet of which only the reader says what it gives."""
         self.list.append(Vector(label, packet, None))
+
+
+def bad_field(kind, field, place=1, start=0):
+    """Number, offset and words of a bad field in the record that starts at this byte: its header of
+    10 bytes and the body's first bytes stand in front of the field."""
+    return (4, start + 10 + STARTS[kind][field],
+            "record %d, %s, %s" % (place, PRINTED[kind][1], CALLED[field]))
+
+
+def wrong_length(kind, place=1, start=0):
+    """The same of a body whose length is not its type's."""
+    return 3, start + 10, "record %d, %s, wrong length" % (place, PRINTED[kind][1])
 
 
 EXAMPLE = [
@@ -520,37 +595,44 @@ def add_exercises(vectors):
                  (3, ADD, {"price": 10020000}),
                  (4, ADD, {"order": 501, "side": ord("S"), "price": 10000000}))
     vectors.good("P10: the same Add twice", (3, ADD), (4, ADD))
-    vectors.bad("P11: a 9-byte packet", 2, EXAMPLE_BYTES[0][:9])
-    vectors.bad("P12: a good record, then one with price 0", 4,
+    vectors.bad("P11: a 9-byte packet", 2, 0, "record 1, unfinished header", EXAMPLE_BYTES[0][:9])
+    vectors.bad("P12: a good record, then one with price 0",
+                4, 15 + 10 + 18, "record 2, Add Order, price",
                 EXAMPLE_BYTES[0] + record(2, compose(ADD, price=0)))
-    vectors.bad("P12: a good record, then an unknown type", 3,
+    vectors.bad("P12: a good record, then an unknown type", 3, 15 + 10, "record 2, unknown type",
                 EXAMPLE_BYTES[0] + record(2, b"\x32\x98\x85\x00\x00"))
 
 
 def add_lengths_of_packets(vectors):
     """Packets of every length that is special, and bodies that run past the end."""
-    time = record(1, compose(TIME))
-    vectors.bad("0 bytes", 1, b"")
+    time = record(1, compose(TIME))  # 15 bytes
+    vectors.bad_length("0 bytes", b"")
     for length in range(1, 10):
-        vectors.bad("%d bytes, the front of a good record" % length, 2, time[:length])
-        vectors.bad("a good record and %d stray zero bytes" % length, 2, time + bytes(length))
-        vectors.bad("a good record and %d bytes of the next" % length, 2, time + time[:length])
-    vectors.bad("10 bytes: good number, empty body", 3, record(1, b""))
-    vectors.bad("10 bytes: body of 1 past the end by 1", 2, record(1, b"", 1))
-    vectors.bad("10 bytes: body of 5 past the end by 5", 2, record(1, b"", 5))
-    vectors.bad("10 bytes: body past the end by 65,535", 2, record(1, b"", 65535))
+        vectors.bad("%d bytes, the front of a good record" % length,
+                    2, 0, "record 1, unfinished header", time[:length])
+        vectors.bad("a good record and %d stray zero bytes" % length,
+                    2, 15, "record 2, unfinished header", time + bytes(length))
+        vectors.bad("a good record and %d bytes of the next" % length,
+                    2, 15, "record 2, unfinished header", time + time[:length])
+    vectors.bad("10 bytes: good number, empty body", 3, 10, "record 1, empty body", record(1, b""))
+    for claimed in (1, 5, 65535):
+        vectors.bad("10 bytes: body of %d past the end" % claimed,
+                    2, 0, "record 1, body past the end", record(1, b"", claimed))
 
     for kind in KINDS:
         body = compose(kind)
-        vectors.bad("type %d: body past the end by 1" % kind, 2, record(1, body)[:-1])
-        vectors.bad("type %d behind a good record: the header claims 1 byte more" % kind, 2,
-                    time + record(2, body, len(body) + 1))
-    vectors.bad("a second record past the end by 65,535", 2, time + record(2, b"", 65535))
-    vectors.bad("a body of 5 that claims 256 + 5", 2, record(1, compose(TIME), 256 + 5))
+        vectors.bad("type %d: body past the end by 1" % kind,
+                    2, 0, "record 1, body past the end", record(1, body)[:-1])
+        vectors.bad("type %d behind a good record: the header claims 1 byte more" % kind,
+                    2, 15, "record 2, body past the end", time + record(2, body, len(body) + 1))
+    vectors.bad("a second record past the end by 65,535", 2, 15, "record 2, body past the end",
+                time + record(2, b"", 65535))
+    vectors.bad("a body of 5 that claims 256 + 5", 2, 0, "record 1, body past the end",
+                record(1, compose(TIME), 256 + 5))
     # In 16 bits, 25 and most of these lengths would add up to a place inside the packet.
     for claimed in (65535, 65536 - 25, 65536 - 25 + 5, 65536 - 10, 32768, 32767):
-        vectors.bad("a second record that claims %d bytes" % claimed, 2,
-                    time + record(2, compose(TIME), claimed))
+        vectors.bad("a second record that claims %d bytes" % claimed,
+                    2, 15, "record 2, body past the end", time + record(2, compose(TIME), claimed))
 
     # A record of System Time has 15 bytes, Delete 27, Clear 19, Add 44, Trading Status 22, and
     # one of each kind together 373. No good packet has more than 100 records.
@@ -564,10 +646,11 @@ def add_lengths_of_packets(vectors):
     ]
     if any(len(packet) != LARGEST_PACKET for packet in longest):
         sys.exit("a packet of 1,500 bytes has another length")
-    vectors.bad("1,500 bytes: the last body past the end by 1", 2, longest[2])
-    vectors.bad("1,501 bytes: 97 System Times, a Delete and a Clear", 1,
-                time * 97 + record(98, compose(DELETE)) + record(99, compose(CLEAR)))
-    vectors.bad("65,535 bytes: 4,369 System Times", 1, time * 4369)
+    vectors.bad("1,500 bytes: the last body past the end by 1",
+                2, 99 * 15, "record 100, body past the end", longest[2])
+    vectors.bad_length("1,501 bytes: 97 System Times, a Delete and a Clear",
+                       time * 97 + record(98, compose(DELETE)) + record(99, compose(CLEAR)))
+    vectors.bad_length("65,535 bytes: 4,369 System Times", time * 4369)
     vectors.good("a good packet behind one of 65,535 bytes", (1, TIME))
 
 
@@ -591,22 +674,22 @@ def add_long_packets(vectors):
     ]
     for label, fault in faults:
         behind = (good * 100)[:1501 - len(fault)]
-        vectors.bad("1,501 bytes: %s in front" % label, 1, fault + behind)
+        vectors.bad_length("1,501 bytes: %s in front" % label, fault + behind)
         front = good * 99 + fault
-        vectors.bad("1,502 bytes or more: %s behind good records" % label, 1,
-                    front + bytes(max(1502 - len(front), 0)))
+        vectors.bad_length("1,502 bytes or more: %s behind good records" % label,
+                           front + bytes(max(1502 - len(front), 0)))
     for length in (1501, 1502, 1510, 1511, 2048, 3000):
-        vectors.bad("%d zero bytes" % length, 1, bytes(length))
-        vectors.bad("%d bytes 255" % length, 1, b"\xff" * length)
-        vectors.bad("%d bytes: good records and what is left of one" % length, 1,
-                    (fill * 80)[:length])
-    vectors.bad("1,501 bytes: a good packet of 1,500 and a byte", 1, good * 100 + b"\x01")
-    vectors.bad("1,510 bytes: a good packet of 1,500 and an empty body", 1,
-                good * 100 + record(101, b""))
+        vectors.bad_length("%d zero bytes" % length, bytes(length))
+        vectors.bad_length("%d bytes 255" % length, b"\xff" * length)
+        vectors.bad_length("%d bytes: good records and what is left of one" % length,
+                           (fill * 80)[:length])
+    vectors.bad_length("1,501 bytes: a good packet of 1,500 and a byte", good * 100 + b"\x01")
+    vectors.bad_length("1,510 bytes: a good packet of 1,500 and an empty body",
+                       good * 100 + record(101, b""))
     # In 11 bits these lengths would be 0 and 15, and in 15 bits the last would be 15.
     for length in (2048, 2048 + 15, 32768 + 15):
-        vectors.bad("%d bytes: a good record and zero bytes" % length, 1,
-                    good + bytes(length - len(good)))
+        vectors.bad_length("%d bytes: a good record and zero bytes" % length,
+                           good + bytes(length - len(good)))
     vectors.good("a good packet behind too long ones", (1, TIME))
 
 
@@ -618,30 +701,34 @@ def add_types_and_lengths(vectors):
             vectors.good("type %d with its own length" % kind, (1, kind))
             continue
         for other in KINDS:
-            vectors.bad("type %d in a body of type %d" % (kind, other), 3,
+            vectors.bad("type %d in a body of type %d" % (kind, other),
+                        3, 10, "record 1, unknown type",
                         record(1, bytes([kind]) + compose(other)[1:]))
-        vectors.bad("type %d and no more" % kind, 3, record(1, bytes([kind])))
-    vectors.bad("an empty body before a good record", 3,
+        vectors.bad("type %d and no more" % kind, 3, 10, "record 1, unknown type",
+                    record(1, bytes([kind])))
+    vectors.bad("an empty body before a good record", 3, 10, "record 1, empty body",
                 record(1, b"") + record(2, compose(TIME)))
     for kind in KINDS:
         body = compose(kind)
         for length in range(1, 65):  # length 0 has no type byte and stands above
             if length != len(body):
-                vectors.bad("type %d with wrong length %d" % (kind, length), 3,
+                vectors.bad("type %d with wrong length %d" % (kind, length), *wrong_length(kind),
                             record(1, (body + bytes(64))[:length]))
         # A body's own length comes back in 8 bits wherever 256 bytes are too many. 1,490 is the
         # longest body that a packet of 1,500 bytes holds, and 74 the length of a shelf's slot.
         wrapped = [len(body) + more for more in (256, 512, 1024)]
         for length in [65, 66, 74, 96, 127, 128, 255, 256, *wrapped, 1490]:
-            vectors.bad("type %d with wrong length %d" % (kind, length), 3,
+            vectors.bad("type %d with wrong length %d" % (kind, length), *wrong_length(kind),
                         record(1, (body + bytes(1490))[:length]))
     for kind in (0, 2, 22, 255):
         for length in (64, 65, 256, 256 + 34, 1490):
-            vectors.bad("type %d with length %d" % (kind, length), 3,
+            vectors.bad("type %d with length %d" % (kind, length), 3, 10, "record 1, unknown type",
                         record(1, bytes([kind]) + bytes(length - 1)))
-    vectors.bad("a body of 65 bytes behind a good record", 3,
+    vectors.bad("a body of 65 bytes behind a good record",
+                3, 15 + 10, "record 2, Add Order, wrong length",
                 record(1, compose(TIME)) + record(2, compose(ADD) + bytes(31)))
-    vectors.bad("a body of 65 bytes before a good record", 3,
+    vectors.bad("a body of 65 bytes before a good record",
+                3, 10, "record 1, Add Order, wrong length",
                 record(1, compose(ADD) + bytes(31)) + record(2, compose(TIME)))
 
 
@@ -652,10 +739,9 @@ def add_judged_fields(vectors):
     sizes = {0: False, 1: True, 2**24: True, 2**32 - 1: True}
     for kind in (ADD, MODIFY, EXECUTION, TRADE, CANCEL):
         for price, in_order in prices.items():
-            vectors.judge("type %d, price %d" % (kind, price), in_order, 1, kind,
-                          {"price": price})
+            vectors.judge("type %d, price %d" % (kind, price), in_order, kind, "price", price)
         for size, in_order in sizes.items():
-            vectors.judge("type %d, size %d" % (kind, size), in_order, 1, kind, {"size": size})
+            vectors.judge("type %d, size %d" % (kind, size), in_order, kind, "size", size)
     good_letters = {
         "side": "B S".split(),
         "test": "Y N".split(),
@@ -664,7 +750,7 @@ def add_judged_fields(vectors):
     for kind, field in ((ADD, "side"), (UPDATE, "test"), (UPDATE, "market")):
         for byte in range(256):
             vectors.judge("type %d, %s byte %d" % (kind, field, byte),
-                          chr(byte) in good_letters[field], 1, kind, {field: byte})
+                          chr(byte) in good_letters[field], kind, field, byte)
 
 
 def add_timestamps(vectors):
@@ -677,43 +763,53 @@ def add_timestamps(vectors):
     late = (10**9, 60 * 2**24, 2**30, 2**31, 255 * 2**24, 2**32 - 1)
     for kind in stamped:
         for value in good + late:
-            vectors.judge("type %d, %d nanoseconds" % (kind, value), value in good, 1, kind,
-                          {"nanoseconds": value})
+            vectors.judge("type %d, %d nanoseconds" % (kind, value), value in good, kind,
+                          "nanoseconds", value)
         body = compose(kind, nanoseconds=10**9)
-        vectors.bad("type %d with 10^9 nanoseconds between good records" % kind, 4,
+        vectors.bad("type %d with 10^9 nanoseconds between good records" % kind,
+                    *bad_field(kind, "nanoseconds", 2, 15),
                     record(1, compose(TIME)) + record(2, body) + record(3, compose(CLEAR)))
-        vectors.bad("3 with 4: type %d, 10^9 nanoseconds and a byte too many" % kind, 3,
-                    record(1, body + b"\x00"))
-        vectors.bad("5 with 4: type %d, number 0 and 10^9 nanoseconds" % kind, 5, record(0, body))
-        vectors.bad("2 with 4: type %d, 10^9 nanoseconds, body past the end" % kind, 2,
-                    record(2, body)[:-1])
+        vectors.bad("3 with 4: type %d, 10^9 nanoseconds and a byte too many" % kind,
+                    *wrong_length(kind), record(1, body + b"\x00"))
+        vectors.bad("5 with 4: type %d, number 0 and 10^9 nanoseconds" % kind,
+                    5, 0, "record 1, sequence number", record(0, body))
+        vectors.bad("2 with 4: type %d, 10^9 nanoseconds, body past the end" % kind,
+                    2, 0, "record 1, body past the end", record(2, body)[:-1])
     for seconds in (0, 999_999_999, 10**9, 2**31, 2**32 - 1):
         vectors.good("%d seconds in a System Time" % seconds, (1, TIME, {"seconds": seconds}))
-    wrong = {"price": 0, "size": 0, "side": ord("X"), "test": ord("X"), "market": ord("D")}
     for kind, field in sorted(JUDGED):
-        if field not in wrong:
+        if field == "nanoseconds":
             continue
         for value in (999_999_999, 10**9, 2**32 - 1):
-            fields = {"nanoseconds": value, field: wrong[field]}
-            vectors.bad("type %d, %d nanoseconds and a bad %s" % (kind, value, field), 4,
-                        record(1, compose(kind, **fields)))
+            fields = {"nanoseconds": value, field: WRONG[field]}
+            told = "nanoseconds" if value > 999_999_999 else field
+            vectors.bad("type %d, %d nanoseconds and a bad %s" % (kind, value, field),
+                        *bad_field(kind, told), record(1, compose(kind, **fields)))
     vectors.good("the last nanosecond of a second in every message that has nanoseconds", *[
         (number, kind, {"nanoseconds": 999_999_999}) for number, kind in enumerate(stamped, 1)])
-    for place in (1, len(stamped)):
-        vectors.bad("record %d of all ten has 10^9 nanoseconds" % place, 4, b"".join(
-            record(number, compose(kind, nanoseconds=10**9 if number == place else 0))
-            for number, kind in enumerate(stamped, 1)))
+    # Before the tenth record stand 52 + 25 + 22 + 19 + 44 + 40 + 27 + 48 + 41 bytes.
+    for place, start in ((1, 0), (10, 318)):
+        vectors.bad("record %d of all ten has 10^9 nanoseconds" % place,
+                    *bad_field(stamped[place - 1], "nanoseconds", place, start), b"".join(
+                        record(number, compose(kind, nanoseconds=10**9 if number == place else 0))
+                        for number, kind in enumerate(stamped, 1)))
+
+
+def not_judged(kind):
+    """The fields of a message that have no range, each at its smallest and at its largest value."""
+    smallest, largest = {}, {}
+    for field, width, usual in LAYOUT[kind]:
+        if (kind, field) not in JUDGED:
+            letters = isinstance(usual, bytes)
+            smallest[field] = bytes(width) if letters else 0
+            largest[field] = bytes([255] * width) if letters else 256**width - 1
+    return smallest, largest
 
 
 def add_fields_not_judged(vectors):
     """Every field without a range, at its smallest and its largest value."""
     for kind in KINDS:
-        smallest, largest = {}, {}
-        for field, width, usual in LAYOUT[kind]:
-            if (kind, field) not in JUDGED:
-                letters = isinstance(usual, bytes)
-                smallest[field] = bytes(width) if letters else 0
-                largest[field] = bytes([255] * width) if letters else 256**width - 1
+        smallest, largest = not_judged(kind)
         vectors.good("type %d, all that is not judged smallest" % kind, (1, kind, smallest))
         vectors.good("type %d, all that is not judged largest" % kind, (1, kind, largest))
     for byte in range(256):
@@ -740,85 +836,264 @@ def add_numbers(vectors):
     for number in (1, 2, 255, 256, 2**16, 2**31, 2**32 - 1, 2**32, 2**39, 10**12 - 1, 10**12):
         vectors.good("number %d" % number, (number, TIME))
     for number in (0, 10**12 + 1, 2**40, 2**40 + 1, 2**56, 2**63, 2**64 - 1):
-        vectors.bad("number %d" % number, 5, record(number, compose(TIME)))
+        vectors.bad("number %d" % number, 5, 0, "record 1, sequence number",
+                    record(number, compose(TIME)))
     vectors.good("numbers fall and repeat", (9, TIME), (3, CLEAR), (3, CLEAR), (10**12, TIME))
 
 
 def add_several_faults(vectors):
     """More than one fault in a record or in a packet: the stated order decides."""
     add = compose(ADD)
+    past, header = "record 1, body past the end", "record 1, unfinished header"
     for number in (0, 10**12 + 1):
-        vectors.bad("2 with 5: bad number %d, body past the end" % number, 2,
+        vectors.bad("2 with 5: bad number %d, body past the end" % number, 2, 0, past,
                     record(number, add)[:-1])
-        vectors.bad("5 with 3: bad number %d, empty body" % number, 5, record(number, b""))
-        vectors.bad("5 with 3: bad number %d, unknown type" % number, 5,
-                    record(number, b"\x02" + add[1:]))
-        vectors.bad("5 with 3: bad number %d, wrong length" % number, 5,
-                    record(number, add + b"\x00"))
-        vectors.bad("5 with 4: bad number %d, price 0" % number, 5,
-                    record(number, compose(ADD, price=0)))
-        vectors.bad("2 with 5 and 3: bad number %d, unknown type past the end" % number, 2,
+        vectors.bad("2 with 5 and 3: bad number %d, unknown type past the end" % number, 2, 0, past,
                     record(number, b"\x02" + add[1:])[:-1])
-        vectors.bad("5 with 3 and 4: bad number %d, wrong length, price 0" % number, 5,
-                    record(number, compose(ADD, price=0)[:-1]))
+        for label, body in (
+                ("5 with 3: bad number %d, empty body", b""),
+                ("5 with 3: bad number %d, unknown type", b"\x02" + add[1:]),
+                ("5 with 3: bad number %d, wrong length", add + b"\x00"),
+                ("5 with 4: bad number %d, price 0", compose(ADD, price=0)),
+                ("5 with 3 and 4: bad number %d, wrong length, price 0",
+                 compose(ADD, price=0)[:-1])):
+            vectors.bad(label % number, 5, 0, "record 1, sequence number", record(number, body))
     for length in (8, 9):
-        vectors.bad("2 with 5: number 0 and %d header bytes" % length, 2, bytes(length))
-    vectors.bad("2 with 5: the largest number and 9 header bytes", 2, b"\xff" * 9)
-    vectors.bad("2 with 5: all bytes 255", 2, b"\xff" * 40)
-    vectors.bad("2 with 3: unknown type, body past the end", 2, record(1, b"\x02", 5))
-    vectors.bad("2 with 3: a known type, a wrong length, past the end", 2, record(1, add, 35))
-    vectors.bad("2 with 3: a whole Add whose header claims 42 bytes", 2, record(1, add, 42))
-    vectors.bad("2 with 4: side X, body past the end", 2,
+        vectors.bad("2 with 5: number 0 and %d header bytes" % length, 2, 0, header, bytes(length))
+    vectors.bad("2 with 5: the largest number and 9 header bytes", 2, 0, header, b"\xff" * 9)
+    vectors.bad("2 with 5: all bytes 255", 2, 0, past, b"\xff" * 40)
+    vectors.bad("2 with 3: unknown type, body past the end", 2, 0, past, record(1, b"\x02", 5))
+    vectors.bad("2 with 3: a known type, a wrong length, past the end", 2, 0, past,
+                record(1, add, 35))
+    vectors.bad("2 with 3: a whole Add whose header claims 42 bytes", 2, 0, past,
+                record(1, add, 42))
+    vectors.bad("2 with 4: side X, body past the end", 2, 0, past,
                 record(1, compose(ADD, side=ord("X")))[:-1])
-    vectors.bad("2 with 4: price 0, body past the end", 2, record(1, compose(ADD, price=0))[:-1])
-    vectors.bad("2 with 5 and 4: number 0, price 0, body past the end", 2,
+    vectors.bad("2 with 4: price 0, body past the end", 2, 0, past,
+                record(1, compose(ADD, price=0))[:-1])
+    vectors.bad("2 with 5 and 4: number 0, price 0, body past the end", 2, 0, past,
                 record(0, compose(ADD, price=0))[:-1])
-    vectors.bad("3 with 4: price 0 and a byte too many", 3,
+    vectors.bad("3 with 4: price 0 and a byte too many", *wrong_length(ADD),
                 record(1, compose(ADD, price=0) + b"\x00"))
-    vectors.bad("3 with 4: price 0 and a byte too few", 3, record(1, compose(ADD, price=0)[:-1]))
-    vectors.bad("3 with 4: side X and half a body", 3,
+    vectors.bad("3 with 4: price 0 and a byte too few", *wrong_length(ADD),
+                record(1, compose(ADD, price=0)[:-1]))
+    vectors.bad("3 with 4: side X and half a body", *wrong_length(ADD),
                 record(1, compose(ADD, side=ord("X"))[:20]))
-    vectors.bad("3 with 4: an unknown type and price 0", 3,
+    vectors.bad("3 with 4: an unknown type and price 0", 3, 10, "record 1, unknown type",
                 record(1, b"\x16" + compose(ADD, price=0)[1:]))
-    vectors.bad("4 with 4: side X, price 0, size 0", 4,
+    vectors.bad("4 with 4: side X, price 0, size 0", 4, 10 + 17, "record 1, Add Order, side",
                 record(1, compose(ADD, side=ord("X"), price=0, size=0)))
-    vectors.bad("4 with 4: bad test and bad market", 4,
+    vectors.bad("4 with 4: bad test and bad market",
+                4, 10 + 21, "record 1, Symbol Update, test indicator",
                 record(1, compose(UPDATE, test=0, market=0)))
-    vectors.bad("4 with 4: price 0 and size 0 in a Modify with flags 255", 4,
+    vectors.bad("4 with 4: price 0 and size 0 in a Modify with flags 255",
+                4, 10 + 17, "record 1, Modify Order, price",
                 record(1, compose(MODIFY, price=0, size=0, flags=255)))
-    vectors.bad("4: price 0 in an Execution with flags 255", 4,
+    vectors.bad("4: price 0 in an Execution with flags 255",
+                4, 10 + 25, "record 1, Order Execution, price",
                 record(1, compose(EXECUTION, price=0, flags=255)))
 
-    good = record(1, compose(TIME))
-    # A fault, its refusal, and the bytes of a record that has it and nothing behind it.
+    good = record(1, compose(TIME))  # 15 bytes
+    clear = record(2, compose(CLEAR))  # 19 bytes
+    # A fault, its refusal, the offset in its record and the words, and the bytes of a record that
+    # has it and nothing behind it.
     faults = [
-        ("three stray bytes", 2, b"\x01\x00\x00"),
-        ("body past the end", 2, good[:-1]),
-        ("number 0", 5, record(0, compose(TIME))),
-        ("number 10^12 + 1", 5, record(10**12 + 1, compose(TIME))),
-        ("empty body", 3, record(2, b"")),
-        ("unknown type", 3, record(2, b"\x00" + compose(TIME)[1:])),
-        ("wrong length", 3, record(2, compose(TIME) + b"\x00")),
-        ("price 0", 4, record(2, compose(MODIFY, price=0))),
-        ("10^9 nanoseconds", 4, record(2, compose(CLEAR, nanoseconds=10**9))),
+        ("three stray bytes", 2, 0, "unfinished header", b"\x01\x00\x00"),
+        ("body past the end", 2, 0, "body past the end", good[:-1]),
+        ("number 0", 5, 0, "sequence number", record(0, compose(TIME))),
+        ("number 10^12 + 1", 5, 0, "sequence number", record(10**12 + 1, compose(TIME))),
+        ("empty body", 3, 10, "empty body", record(2, b"")),
+        ("unknown type", 3, 10, "unknown type", record(2, b"\x00" + compose(TIME)[1:])),
+        ("wrong length", 3, 10, "System Time, wrong length", record(2, compose(TIME) + b"\x00")),
+        ("price 0", 4, 10 + 17, "Modify Order, price", record(2, compose(MODIFY, price=0))),
+        ("10^9 nanoseconds", 4, 10 + 1, "Symbol Clear, nanoseconds",
+         record(2, compose(CLEAR, nanoseconds=10**9))),
     ]
-    for label, refusal, part in faults:
-        vectors.bad("good, then " + label, refusal, good + part)
-        vectors.bad("good, good, then " + label, refusal, good + record(2, compose(CLEAR)) + part)
+    for label, refusal, at, words, part in faults:
+        first, second, third = ("record %d, %s" % (place, words) for place in (1, 2, 3))
+        vectors.bad("good, then " + label, refusal, 15 + at, second, good + part)
+        vectors.bad("good, good, then " + label, refusal, 15 + 19 + at, third, good + clear + part)
         if refusal == 2:
             continue  # nothing can stand behind these
-        vectors.bad(label + ", then good", refusal, part + good)
-        vectors.bad("good, then " + label + ", then good", refusal, good + part + good)
-        for other, _, behind in faults:
-            vectors.bad(label + ", then " + other, refusal, part + behind)
-    vectors.bad("a record past the end takes a record of number 0 with it", 2,
+        vectors.bad(label + ", then good", refusal, at, first, part + good)
+        vectors.bad("good, then " + label + ", then good", refusal, 15 + at, second,
+                    good + part + good)
+        for other, _, _, _, behind in faults:
+            vectors.bad(label + ", then " + other, refusal, at, first, part + behind)
+    number_0, empty, unknown, price_0 = (faults[place][4] for place in (2, 4, 5, 7))
+    number_over = faults[3][4]
+    vectors.bad("a record past the end takes a record of number 0 with it", 2, 0, past,
                 record(1, add, 200) + record(0, add))
-    vectors.bad("a body of wrong length takes a good record with it", 3,
+    vectors.bad("a body of wrong length takes a good record with it", *wrong_length(TIME),
                 record(1, compose(TIME) + good))
-    vectors.bad("an Add whose header claims the 17 bytes of a Delete", 3, record(1, add, 17))
-    vectors.bad("4, then 3, then 5, then 2", 4, faults[7][2] + faults[5][2] + faults[2][2] + b"1")
-    vectors.bad("good, 3, 5, 4, 2", 3, good + faults[4][2] + faults[3][2] + faults[7][2] + b"1")
-    vectors.bad("good, 5, 4, 3, good", 5, good + faults[2][2] + faults[7][2] + faults[4][2] + good)
+    vectors.bad("an Add whose header claims the 17 bytes of a Delete", *wrong_length(ADD),
+                record(1, add, 17))
+    vectors.bad("4, then 3, then 5, then 2", 4, 10 + 17, "record 1, Modify Order, price",
+                price_0 + unknown + number_0 + b"1")
+    vectors.bad("good, 3, 5, 4, 2", 3, 15 + 10, "record 2, empty body",
+                good + empty + number_over + price_0 + b"1")
+    vectors.bad("good, 5, 4, 3, good", 5, 15, "record 2, sequence number",
+                good + number_0 + price_0 + empty + good)
+
+
+# A record with a fault beside two good ones of 15 and 19 bytes: which of the three it is and where
+# it starts, and what stands before and behind it.
+FRONT, REAR = record(7, compose(TIME)), record(9, compose(CLEAR))
+PLACES = [
+    ("first of three", 1, 0, b"", FRONT + REAR),
+    ("in the middle", 2, 15, FRONT, REAR),
+    ("last of three", 3, 15 + 19, FRONT + REAR, b""),
+]
+
+# One fault of each kind: its refusal, the offset in its record, the words, and the record. Behind
+# the first two no other record can stand.
+ONE_OF_EACH = [
+    ("5 header bytes", 2, 0, "unfinished header", FRONT[:5]),
+    ("body past the end", 2, 0, "body past the end", record(8, compose(ADD), 1500)),
+    ("number 0", 5, 0, "sequence number", record(0, compose(ADD))),
+    ("empty body", 3, 10, "empty body", record(8, b"")),
+    ("type 22", 3, 10, "unknown type", record(8, b"\x16" + compose(ADD)[1:])),
+    ("a Trade of 30 bytes", 3, 10, "Trade, wrong length", record(8, compose(TRADE)[:-1])),
+    ("10^9 nanoseconds", 4, 10 + 1, "System State, nanoseconds",
+     record(8, compose(STATE, nanoseconds=10**9))),
+    ("size 0", 4, 10 + 33, "Order Execution, size", record(8, compose(EXECUTION, size=0))),
+    ("market D", 4, 10 + 41, "Symbol Update, market", record(8, compose(UPDATE, market=68))),
+]
+
+
+def add_bad_fields(vectors):
+    """Each judged field of each message, bad by itself and with every choice of the others: of
+    several the one that lies first is told. Alone, and as each of three records."""
+    for kind, starts in STARTS.items():
+        for count in range(1, len(starts) + 1):
+            for fields in itertools.combinations(starts, count):
+                label = "type %d, bad %s" % (kind, " and ".join(fields))
+                part = record(8, compose(kind, **{field: WRONG[field] for field in fields}))
+                if count > 1:  # a single one stands above, with other values too
+                    vectors.bad(label, *bad_field(kind, fields[0]), part)
+                for where, place, start, before, behind in PLACES:
+                    vectors.bad("%s, %s" % (label, where),
+                                *bad_field(kind, fields[0], place, start), before + part + behind)
+        for field in starts:
+            changes = {**not_judged(kind)[1], field: WRONG[field]}
+            vectors.bad("type %d, bad %s, all that is not judged largest" % (kind, field),
+                        *bad_field(kind, field), record(8, compose(kind, **changes)))
+
+
+def add_bad_records(vectors):
+    """Each fault that is no field's, as each of three records. An unfinished header can only be the
+    last, and an empty body behind all others starts where the packet ends."""
+    faults = ONE_OF_EACH[2:5]
+    faults += [("number %d" % number, 5, 0, "sequence number", record(number, compose(TIME)))
+               for number in (10**12 + 1, 2**64 - 1)]
+    faults += [("type %d" % kind, 3, 10, "unknown type", record(8, bytes([kind]) + bytes(4)))
+               for kind in (0, 2, 255)]
+    for kind in KINDS:
+        for body in (compose(kind)[:-1], compose(kind) + b"\x00"):
+            faults.append(("type %d with %d bytes" % (kind, len(body)), 3, 10,
+                           PRINTED[kind][1] + ", wrong length", record(8, body)))
+    for where, place, start, before, behind in PLACES:
+        for label, refusal, at, words, part in faults:
+            vectors.bad("%s, %s" % (label, where), refusal, start + at,
+                        "record %d, %s" % (place, words), before + part + behind)
+        for kind in KINDS:
+            body = compose(kind)
+            claims = len(body) + len(behind) + 1
+            vectors.bad("type %d past the packet's end by 1, %s" % (kind, where),
+                        2, start, "record %d, body past the end" % place,
+                        before + record(8, body, claims) + behind)
+    for length in range(1, 10):
+        vectors.bad("%d header bytes behind two records" % length,
+                    2, 15 + 19, "record 3, unfinished header", FRONT + REAR + FRONT[:length])
+
+
+# What good records have so many bytes more than some whole System Times of 15 bytes.
+REST = {0: [], 1: [DELETE, CLEAR], 2: [STATUS, STATE], 3: [EXECUTION], 4: [CLEAR],
+        5: [STATE, CANCEL], 6: [EXECUTION, EXECUTION], 7: [UPDATE], 8: [CLEAR, CLEAR],
+        9: [DELETE, DELETE], 10: [MODIFY], 11: [TRADE], 12: [DELETE], 13: [STATE, EXECUTION],
+        14: [ADD]}
+
+
+def fill(length):
+    """Good records of so many bytes together, and how many they are."""
+    others = b"".join(record(1, compose(kind)) for kind in REST[length % 15])
+    times = (length - len(others)) // 15
+    records = others + FRONT * times
+    if len(records) != length:
+        sys.exit("no good records of %d bytes" % length)
+    return records, len(REST[length % 15]) + times
+
+
+def add_far_offsets(vectors):
+    """Offsets that one byte cannot tell, and the last ones that a packet has."""
+    for offset in (255, 256, 257, 511, 512, 1023, 1024):
+        for label, refusal, at, words, part in ONE_OF_EACH:
+            front, count = fill(offset - at)
+            vectors.bad("%s, told at %d" % (label, offset), refusal, offset,
+                        "record %d, %s" % (count + 1, words), front + part)
+
+    # Packets of 1,500 bytes with a fault in their last record.
+    ends = [("%d header bytes" % length, 2, 0, "unfinished header", FRONT[:length])
+            for length in range(1, 10)]
+    ends += ONE_OF_EACH[1:6]
+    ends.append(("body past the end by 1", 2, 0, "body past the end", record(8, compose(ADD), 35)))
+    for kind in KINDS:
+        ends.append(("type %d, a byte too many" % kind, 3, 10, PRINTED[kind][1] + ", wrong length",
+                     record(8, compose(kind) + b"\x00")))
+        for field, start in STARTS.get(kind, {}).items():
+            ends.append(("type %d, bad %s" % (kind, field), 4, 10 + start,
+                         "%s, %s" % (PRINTED[kind][1], CALLED[field]),
+                         record(8, compose(kind, **{field: WRONG[field]}))))
+    for label, refusal, at, words, part in ends:
+        front, count = fill(1500 - len(part))
+        vectors.bad("1,500 bytes: %s at the end" % label, refusal, 1500 - len(part) + at,
+                    "record %d, %s" % (count + 1, words), front + part)
+    for length in range(1, 10):
+        vectors.bad("%d header bytes behind 20 records" % length,
+                    2, 20 * 15, "record 21, unfinished header", FRONT * 20 + FRONT[:length])
+        vectors.bad("%d header bytes behind 99 records" % length,
+                    2, 99 * 15, "record 100, unfinished header", FRONT * 99 + FRONT[:length])
+    for label, refusal, at, words, part in ONE_OF_EACH[2:]:
+        vectors.bad("%s in front, and a record of number 0 far behind" % label, refusal, at,
+                    "record 1, %s" % words, part + FRONT * 80 + record(0, compose(TIME)))
+        vectors.bad("%s in the second of 90 records, and 9 bytes more" % label, refusal, 15 + at,
+                    "record 2, %s" % words, FRONT + part + FRONT * 88 + bytes(9))
+
+
+def add_faults_of_two_records(vectors):
+    """Each judged field of each message in front of every other fault, whose offset may be smaller
+    in its own record, and behind each that is no field's: the front record is told."""
+    for kind, starts in STARTS.items():
+        for field in starts:
+            part = record(8, compose(kind, **{field: WRONG[field]}))
+            label = "type %d, bad %s" % (kind, field)
+            for other, _, _, _, behind in ONE_OF_EACH:
+                vectors.bad("%s, then %s" % (label, other), *bad_field(kind, field, 2, 15),
+                            FRONT + part + behind)
+            for other, refusal, at, words, before in ONE_OF_EACH[2:6]:
+                vectors.bad("%s, then %s" % (other, label), refusal, 15 + at,
+                            "record 2, %s" % words, FRONT + before + part)
+
+
+def add_faults_at_once(vectors):
+    """Two, three and all four of the refusals 2, 5, 3 and 4 in one record, as each of three: the
+    one that is tried first is told."""
+    unknown, longer = "unknown type", "Add Order, wrong length"
+    for count in (2, 3, 4):
+        for several in itertools.combinations((2, 5, 3, 4), count):
+            for three in (unknown, longer) if 3 in several else ("",):
+                body = compose(ADD, price=0 if 4 in several else 1)
+                if three == unknown:
+                    body = b"\x16" + body[1:]
+                elif three == longer:
+                    body += b"\x00"
+                part = record(0 if 5 in several else 8, body, 2000 if 2 in several else None)
+                label = "%s at once %s" % (" and ".join(map(str, several)), three)
+                at, words = {2: (0, "body past the end"), 5: (0, "sequence number"),
+                             3: (10, three)}[several[0]]
+                for where, place, start, before, behind in PLACES:
+                    vectors.bad("%s, %s" % (label, where), several[0], start + at,
+                                "record %d, %s" % (place, words), before + part + behind)
 
 
 def random_records(dice, count):
@@ -885,11 +1160,11 @@ def compare_tables():
             sys.exit("%s: the reader has other offsets" % name)
         if [width for _, width, _ in LAYOUT[kind]] != [last - first + 1 for first, last in spans]:
             sys.exit("%s: the composer has other lengths" % name)
-        judged = {MESSAGES[kind][2][place - 1][0]
-                  for place, (field, _, _, _) in enumerate(places(kind))
-                  if field in RANGES and kind in RANGES[field][1]}
-        if judged != {field for one, field in JUDGED if one == kind}:
-            sys.exit("%s: other fields are judged" % name)
+        judged = [(MESSAGES[kind][2][place - 1][0], first)
+                  for place, (field, first, _, _) in enumerate(places(kind))
+                  if field in RANGES and kind in RANGES[field][1]]
+        if judged != list(STARTS.get(kind, {}).items()):
+            sys.exit("%s: other fields are judged, or start elsewhere" % name)
     for kind, (length, fields) in SCOPE.items():
         listed = ", ".join(
             "%s %s" % ({"reserved20": "reserved", "reserved22": "reserved",
@@ -912,6 +1187,11 @@ def all_vectors():
     add_fields_not_judged(vectors)
     add_numbers(vectors)
     add_several_faults(vectors)
+    add_bad_fields(vectors)
+    add_bad_records(vectors)
+    add_far_offsets(vectors)
+    add_faults_of_two_records(vectors)
+    add_faults_at_once(vectors)
     add_random(vectors)
     for place, vector in enumerate(vectors.list, 1):
         lines = expected_lines(vector.packet)
@@ -985,6 +1265,25 @@ def tables_of(page):
             title = line.lstrip("#").strip()
 
 
+# For docs/MESSAGES.md, second records behind the System Time of document 01's example. The page
+# states by hand what they are refused with, and the reader reads them.
+SECOND_RECORDS = [
+    ("3 bytes, and no more", b"\x02\x00\x00"),
+    ("an Add whose header claims 35 bytes", record(2, compose(ADD), 35)),
+    ("an Add with number 0", record(0, compose(ADD))),
+    ("no body: the packet ends behind the header", record(2, b"")),
+    ("an Add with type 22", record(2, b"\x16" + compose(ADD)[1:])),
+    ("an Add of 33 bytes", record(2, compose(ADD)[:-1])),
+    ("an Add with 1,000,000,000 nanoseconds", record(2, compose(ADD, nanoseconds=10**9))),
+    ("an Add with side `X`", record(2, compose(ADD, side=ord("X")))),
+    ("an Add with price 0", record(2, compose(ADD, price=0))),
+    ("an Add with price 0 and size 0", record(2, compose(ADD, price=0, size=0))),
+    ("an Add with size 0", record(2, compose(ADD, size=0))),
+    ("a Modify with size 0", record(2, compose(MODIFY, size=0))),
+    ("a Symbol Update with market `D`", record(2, compose(UPDATE, market=ord("D")))),
+]
+
+
 def wanted_tables():
     """The tables that docs/MESSAGES.md must have, as title: (headings, rows in their order)."""
     short = {20: "Add", 21: "Modify"}
@@ -992,6 +1291,9 @@ def wanted_tables():
     messages = {field: ", ".join(short.get(kind, PRINTED[kind][1]) for kind in kinds)
                 for field, (_, kinds) in RANGES.items()}
     sums = [kind for kind in PRINTED if kind not in SCOPE]
+    refusals = [[str(number), offset] for number, offset in REFUSALS_IN_ORDER.items()]
+    second = [[label, expected_lines(EXAMPLE_BYTES[0] + part)[0].split(":")[0].split(" ", 1)[1]]
+              for label, part in SECOND_RECORDS]
     wanted = {
         "Types and lengths": [
             (["Message", "Section of 003", "Type", "Length in bytes"],
@@ -1005,17 +1307,20 @@ def wanted_tables():
              [["sequence number", span(0, 7), "8"], ["body length", span(8, HEADER - 1), "2"],
               ["body", "%d on" % HEADER, "as the body length says"]])],
         "Refusals, in their order (\"Refused, and what is left\")": [
-            (["No."], [[str(number)] for number in REFUSALS_IN_ORDER[:1]]),
-            (["No."], [[str(number)] for number in REFUSALS_IN_ORDER[1:]])],
+            (["No.", "Offset"], refusals[:1]), (["No.", "Offset"], refusals[1:])],
+        "Where the fault is (document 02, No. 5)": [(["Second record", "Refused"], second)],
         "Which fields are judged (\"Field ranges\")": [
             (["Field", "Good values", "In which messages"], [
-                ["nanoseconds", RANGES["Timestamp"][0], "all but %s" % ", ".join(
-                    PRINTED[kind][1] for kind in PRINTED if kind not in RANGES["Timestamp"][1])],
-                ["side", "`B` (66) or `S` (83)", messages["Order Side"]],
-                ["price", price, messages["Price"]],
-                ["size", "1 to 4,294,967,295 (the most that 4 bytes hold)", "the same five"],
-                ["test indicator", "`Y` (89) or `N` (78)", messages["Test Security Indicator"]],
-                ["market", RANGES["Primary Market Code"][0], messages["Primary Market Code"]]])],
+                [CALLED[field], *cells] for field, *cells in (
+                    ("nanoseconds", RANGES["Timestamp"][0], "all but %s" % ", ".join(
+                        PRINTED[kind][1] for kind in PRINTED
+                        if kind not in RANGES["Timestamp"][1])),
+                    ("side", "`B` (66) or `S` (83)", messages["Order Side"]),
+                    ("price", price, messages["Price"]),
+                    ("size", "1 to 4,294,967,295 (the most that 4 bytes hold)", "the same five"),
+                    ("test", "`Y` (89) or `N` (78)", messages["Test Security Indicator"]),
+                    ("market", RANGES["Primary Market Code"][0],
+                     messages["Primary Market Code"]))])],
     }
     for kind, (section, name, _) in PRINTED.items():
         rows = []
@@ -1071,7 +1376,7 @@ def print_counts(vectors):
     outcomes = {}
     for vector in vectors:
         first = expected_lines(vector.packet)[0]
-        outcome = "good" if first.startswith("records") else first
+        outcome = "good" if first.startswith("records") else first.split(" at ")[0]
         outcomes[outcome] = outcomes.get(outcome, 0) + 1
     for outcome in sorted(outcomes):
         print("%s: %d" % (outcome, outcomes[outcome]), file=sys.stderr)
