@@ -213,6 +213,11 @@ fn the_morning_of_the_tap_fault_line_by_line() {
 }
 
 #[test]
+fn the_morning_of_every_bad_field_line_by_line() {
+    comes_to_what_is_stated("offsets");
+}
+
+#[test]
 fn seeded_recordings_line_by_line() {
     for seed in seeds(40) {
         let bytes = drawn_recording(seed);

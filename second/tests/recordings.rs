@@ -5,6 +5,7 @@ use common::*;
 use second::examples::*;
 use second::morning::*;
 use second::packet::*;
+use second::reading::{first_fault, Fault, JUDGED_FIELDS};
 use second::sheet::*;
 use std::collections::{BTreeMap, BTreeSet};
 
@@ -349,6 +350,35 @@ fn the_morning_of_the_tap_fault() {
         assert!(types.insert(packet[TYPE]));
     }
     assert_eq!(types.len(), 10);
+}
+
+/// The morning of every bad field comes to the sheet that tools/offsets.py states for it, and has what it is
+/// there for: each judged field, and each other fault of a record, in the second record of a packet.
+#[test]
+fn the_morning_of_every_bad_field() {
+    let stored = example_file("offsets.rec");
+    let wanted = String::from_utf8(example_file("offsets.sheet")).unwrap();
+    assert_eq!(sheet_text(&stored), wanted);
+
+    let (mut fields, mut others) = (BTreeSet::new(), Vec::new());
+    for packet in packets_of(&stored).0 {
+        match first_fault(packet) {
+            None => assert!(read_packet(packet).is_ok()),
+            Some((2, _, Fault::Field(place))) => assert!(fields.insert(place)),
+            Some((2, _, other)) => others.push(other),
+            Some((record, _, fault)) => panic!("record {record}: {fault:?}"),
+        }
+    }
+    assert!(fields.into_iter().eq(0..JUDGED_FIELDS.len()));
+    let wanted = [
+        Fault::UnfinishedHeader,
+        Fault::BodyPastTheEnd,
+        Fault::SequenceNumber,
+        Fault::EmptyBody,
+        Fault::UnknownType,
+        Fault::WrongLength(SYSTEM_TIME),
+    ];
+    assert_eq!(others, wanted);
 }
 
 /// Seeded recordings: every one gives a sheet, and together they show every rule and both words.
