@@ -143,7 +143,7 @@ pub struct SymbolUpdate {
 #[derive(Clone, Copy, Debug, PartialEq, Eq)]
 pub struct Refusal {
     pub number: u8,
-    /// None for all but 2 to 5: these give their number alone.
+    /// Of 2 to 5; any other number is given alone.
     pub offset: Option<usize>,
 }
 

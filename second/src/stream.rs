@@ -69,6 +69,7 @@ impl Stream {
         }
     }
 
+    /// A whole packet goes to the receiver.
     fn packet(&mut self, desk: &mut Desk, packet: &[u8]) {
         match desk.give(packet) {
             Err(refusal) => self.refused(refusal),

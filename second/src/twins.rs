@@ -361,7 +361,7 @@ impl Twins {
             wanted_state = [after.next, after.second, after.stop.into()];
             wanted_account = account_of(answer);
         }
-        same_refusal("receive", told, &answer)?;
+        same_refusal("receive: number and offset", told, &answer)?;
         same("receive: account", &account, &wanted_account)?;
         same("receive: state", &self.proved.state, &wanted_state)?;
         self.same_tables("receive")?;
@@ -406,7 +406,7 @@ impl Twins {
         let told = lent::packet(packet, &mut records);
         let wanted = read_packet(packet);
         let wanted_records = wanted.as_ref().map_or(MARK, |records| records.len() as u64);
-        same_refusal("packet", told, &wanted)?;
+        same_refusal("packet: number and offset", told, &wanted)?;
         same("packet: records", &records, &[wanted_records])?;
         let mut rest = packet;
         loop {
@@ -417,7 +417,7 @@ impl Twins {
                 Err(_) => [MARK; 2],
                 Ok(record) => [record.number, record.body.len() as u64],
             };
-            same_refusal("record", told, &wanted)?;
+            same_refusal("record: number and offset", told, &wanted)?;
             same("record: head", &head, &wanted_head)?;
             let (body, behind) = claimed_body(rest);
             self.body(body)?;
@@ -438,7 +438,7 @@ impl Twins {
         let told = lent::body(body, &mut fields);
         let wanted = read_body(body);
         let wanted_fields = wanted.as_ref().map_or([MARK; 8], fields_of);
-        same_refusal("body", told, &wanted)?;
+        same_refusal("body: number and offset", told, &wanted)?;
         same("body: fields", &fields, &wanted_fields)?;
         self.note_timestamp(body);
         Ok(())
@@ -702,13 +702,12 @@ fn told(answer: Result<(), u8>) -> u8 {
 
 /// The number and the offset that the boundary answers: both 0 where nothing is refused, and the offset 0
 /// where a number stands alone.
-fn same_refusal<T>(call: &str, told: u32, wanted: &Result<T, Refusal>) -> Result<(), Difference> {
+fn same_refusal<T>(what: &str, told: u32, wanted: &Result<T, Refusal>) -> Result<(), Difference> {
     let wanted = match wanted {
         Ok(_) => (0, 0),
         Err(refusal) => (refusal.number, refusal.offset.unwrap_or(0)),
     };
-    let what = format!("{call}: number and offset");
-    same(&what, &taken_apart(told), &wanted)
+    same(what, &taken_apart(told), &wanted)
 }
 
 fn same<T: PartialEq + Debug>(what: &str, proved: &T, second: &T) -> Result<(), Difference> {
