@@ -38,6 +38,14 @@ static bool refused(const char *call, uint8_t answer) {
     return true;
 }
 
+/* The calls that read say at which byte, too. */
+static bool refused_at(const char *call, uint32_t answer) {
+    uint8_t number = RIMEHEATH_NUMBER(answer);
+    if (number < RIMEHEATH_REFUSED_RECORD || number > RIMEHEATH_REFUSED_NUMBER) return refused(call, number);
+    printf("%s is refused with %u at byte %" PRIu32 ": %s\n", call, (unsigned)number, RIMEHEATH_OFFSET(answer), meaning(number));
+    return true;
+}
+
 /* ---- one packet ---- */
 
 static uint8_t packet[RIMEHEATH_PACKET_MOST];
@@ -116,7 +124,7 @@ static bool one_packet(void) {
 
     make_packet();
     if (refused("start", rimeheath_start(orders, ORDERS, symbols, SYMBOLS, shelf, sizeof shelf, state))) return false;
-    if (refused("receive", rimeheath_receive(orders, ORDERS, symbols, SYMBOLS, shelf, sizeof shelf, state, packet, used, account)))
+    if (refused_at("receive", rimeheath_receive(orders, ORDERS, symbols, SYMBOLS, shelf, sizeof shelf, state, packet, used, account)))
         return false;
     printf("taken %" PRIu64 ", applied %" PRIu64 ", next %" PRIu64 "\n", account[RIMEHEATH_ACCOUNT_TAKEN],
            account[RIMEHEATH_ACCOUNT_APPLIED], state[RIMEHEATH_STATE_NEXT]);
@@ -127,8 +135,12 @@ static bool one_packet(void) {
     if (spread[0] == 1) printf("spread %" PRId64 " millionths\n", (int64_t)spread[1]);
 
     /* Nine bytes are no packet. A refusal changes nothing, so the receiver could go on. */
-    refused("a front of the packet",
-            rimeheath_receive(orders, ORDERS, symbols, SYMBOLS, shelf, sizeof shelf, state, packet, 9, account));
+    refused_at("a front of the packet",
+               rimeheath_receive(orders, ORDERS, symbols, SYMBOLS, shelf, sizeof shelf, state, packet, 9, account));
+    /* Nor is one whose last order has no price: its body starts behind 10 bytes, and the price 18 bytes into it. */
+    memset(packet + used - 44 + 10 + 18, 0, 8);
+    refused_at("a packet with a price of 0",
+               rimeheath_receive(orders, ORDERS, symbols, SYMBOLS, shelf, sizeof shelf, state, packet, used, account));
     return true;
 }
 
@@ -146,6 +158,9 @@ static bool recording(FILE *file) {
         if (refused("feed", rimeheath_feed(orders, ORDERS, symbols, SYMBOLS, shelf, sizeof shelf, hold, sizeof hold, stream, chunk, n)))
             return false;
     if (ferror(file)) return false;
+    if (stream[RIMEHEATH_STREAM_BAD] > 0)
+        printf("the last bad packet is refused with %" PRIu64 ", offset %" PRIu64 "\n", stream[RIMEHEATH_STREAM_LAST_NUMBER],
+               stream[RIMEHEATH_STREAM_LAST_OFFSET]);
     printf("records taken %" PRIu64 ", repeated %" PRIu64 "\n", stream[RIMEHEATH_STREAM_TAKEN], stream[RIMEHEATH_STREAM_REPEATED]);
 
     /* The stream begins with the receiver's state, so it can stand for one. */

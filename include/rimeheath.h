@@ -19,6 +19,10 @@
  * ANSWERS. Every call but rimeheath_cut answers RIMEHEATH_DONE or a refusal, by its number. A refusal changes no byte of what is lent. Any
  * bytes, numbers and lengths may be given: no call asks that anything was checked before.
  *
+ * WHICH BYTE. The four calls that read a packet, a record or a body (rimeheath_receive, rimeheath_packet, rimeheath_record, rimeheath_body)
+ * answer 32 bits: the number in the low 8, and above it the offset of the first byte at fault in what they were given, packet, record or
+ * body. RIMEHEATH_NUMBER and RIMEHEATH_OFFSET take them apart. Refusals 2 to 5 have an offset; it is 0 for RIMEHEATH_DONE, 1 and 6.
+ *
  * POINTERS. What the types of C cannot say, the caller must see to:
  *   - a pointer points to as many elements as its length says, and an array has the size that is written here;
  *   - no pointer is null, even where its length is 0;
@@ -65,6 +69,13 @@ enum {
 };
 /* Where several apply, the first of this order is told: 6; 1; then record by record from the front 2, 5, 3, 4. Of a view: 6, then 30. */
 
+/* ---- number and offset of an answer of the four calls that read ----
+ * The offset is, for 2 and 5, where the record starts (with its number); for 3, where the body starts, which is the end of what was given
+ * where the body is empty and nothing follows it; for 4, the first byte of the earliest field of the body that is out of range. A bad body
+ * has one offset in the body, 10 more in its record, and in its packet as many more as lie before the record. */
+#define RIMEHEATH_NUMBER(answer) ((uint8_t)((answer) & 0xff))
+#define RIMEHEATH_OFFSET(answer) ((uint32_t)(answer) >> 8)
+
 /* ---- the receiver's state, three numbers; a start makes it ---- */
 enum {
     RIMEHEATH_STATE_NEXT,   /* the number of the message that is applied next */
@@ -101,7 +112,7 @@ enum {
     RIMEHEATH_ACCOUNT_SIZE
 };
 
-/* ---- a stream, eleven numbers: a recording that is read in chunks ----
+/* ---- a stream, thirteen numbers: a recording that is read in chunks ----
  * The first three are the receiver's state, so that a stream may be lent wherever a state is read. A count that would
  * pass 2^64 - 1 stays there. */
 enum {
@@ -116,6 +127,8 @@ enum {
     RIMEHEATH_STREAM_FAR,
     RIMEHEATH_STREAM_REPEATED,
     RIMEHEATH_STREAM_DIFFERING,
+    RIMEHEATH_STREAM_LAST_NUMBER, /* the refusal of the last packet that was refused, 0 before the first; the low 8 bits count */
+    RIMEHEATH_STREAM_LAST_OFFSET, /* its offset in that packet, 0 where the number stands alone */
     RIMEHEATH_STREAM_SIZE
 };
 
@@ -154,26 +167,27 @@ uint8_t rimeheath_start(uint64_t *orders, size_t orders_len, uint8_t *symbols, s
                         uint64_t state[3]);
 
 /* Gives a packet to a receiver: state, tables and shelf become what they are after it, and account what is said above. A packet whose
- * messages stop the receiver is accepted all the same: look at the stop. Refused by 6, 1, 2, 5, 3, 4. */
-uint8_t rimeheath_receive(uint64_t *orders, size_t orders_len, uint8_t *symbols, size_t symbols_len, uint8_t *shelf, size_t shelf_len,
-                          uint64_t state[3], const uint8_t *packet, size_t packet_len, uint64_t account[9]);
+ * messages stop the receiver is accepted all the same: look at the stop. Refused by 6, 1, 2, 5, 3, 4, and for the last four with the offset
+ * in the packet. */
+uint32_t rimeheath_receive(uint64_t *orders, size_t orders_len, uint8_t *symbols, size_t symbols_len, uint8_t *shelf, size_t shelf_len,
+                           uint64_t state[3], const uint8_t *packet, size_t packet_len, uint64_t account[9]);
 
 /* ---- a recording in chunks ---- */
 
-/* Opens a stream over a receiver: stream becomes its state and eight zeros. From here on the stream has the receiver's state, and the
+/* Opens a stream over a receiver: stream becomes its state and ten zeros. From here on the stream has the receiver's state, and the
  * three numbers that it was opened with are not written again. Always answers RIMEHEATH_DONE: a bad next number is refused when the stream
  * is fed. */
-uint8_t rimeheath_open(const uint64_t state[3], uint64_t stream[11]);
+uint8_t rimeheath_open(const uint64_t state[3], uint64_t stream[13]);
 
 /* Gives the next chunk of a recording, of any length, cut anywhere. Every packet that ends in it is given to the receiver; one that is
- * refused is counted as bad and passed over. stream, tables and shelf become what they are after it; in hold stand the bytes of the
+ * refused is counted as bad and passed over, and the stream keeps its number and offset until the next. stream, tables and shelf become what they are after it; in hold stand the bytes of the
  * unfinished packet and zeros behind them: lend the same hold to the next call. However a recording is cut, it comes to the same in the
  * end. Refused by 6 alone: also where stream says that more bytes are held than hold has. */
 uint8_t rimeheath_feed(uint64_t *orders, size_t orders_len, uint8_t *symbols, size_t symbols_len, uint8_t *shelf, size_t shelf_len,
-                       uint8_t *hold, size_t hold_len, uint64_t stream[11], const uint8_t *chunk, size_t chunk_len);
+                       uint8_t *hold, size_t hold_len, uint64_t stream[13], const uint8_t *chunk, size_t chunk_len);
 
 /* Whether a recording that ends here is cut: it ends inside a length or a packet. That last piece is dropped and is not counted as bad. */
-bool rimeheath_cut(const uint64_t stream[11]);
+bool rimeheath_cut(const uint64_t stream[13]);
 
 /* ---- views ---- */
 
@@ -203,16 +217,18 @@ uint8_t rimeheath_sheet(uint8_t *text, size_t text_len, const uint64_t *orders, 
 
 /* ---- reading ---- */
 
-/* Judges a packet: records[0] becomes the number of its records. Refused by 1, 2, 5, 3, 4. */
-uint8_t rimeheath_packet(const uint8_t *packet, size_t packet_len, uint64_t records[1]);
+/* Judges a packet: records[0] becomes the number of its records. Refused by 1, 2, 5, 3, 4, and for the last four with the offset in the
+ * packet. */
+uint32_t rimeheath_packet(const uint8_t *packet, size_t packet_len, uint64_t records[1]);
 
 /* Judges the first record of what is left of a packet: head becomes its number and the length of its body, which stands behind 10 bytes.
  * The next record starts behind that body. With nothing left the answer is 2, as with any part of a header, and never 1: a caller stops by
- * itself at the packet's end. Refused by 2, 5, 3, 4. */
-uint8_t rimeheath_record(const uint8_t *rest, size_t rest_len, uint64_t head[2]);
+ * itself at the packet's end. Refused by 2, 5, 3, 4, with the offset in what is left: 0, or 10 and the offset in the body. */
+uint32_t rimeheath_record(const uint8_t *rest, size_t rest_len, uint64_t head[2]);
 
 /* Judges a body and reads its numbers. fields[0] becomes the type; behind it stand the numbers of the message in the order of their places,
- * then zeros. Letters are their codes; of an attributable ID, four letters, the first is the lowest byte. Refused by 3, 4.
+ * then zeros. Letters are their codes; of an attributable ID, four letters, the first is the lowest byte. Refused by 3, 4, with
+ * the offset in the body.
  *    49 System Time              second
  *     1 Symbol Update            symbol, lot, market (left out: the others of RIMEHEATH_ENTRY_.., which are its offsets in the body)
  *    83 System State             nanoseconds, session, status (left out, and in the body: the version, 8 bytes at 5)
@@ -225,7 +241,7 @@ uint8_t rimeheath_record(const uint8_t *rest, size_t rest_len, uint64_t head[2])
  *    10 Trade                    nanoseconds, symbol, trade, correction, price, size, flags
  *    11 Trade Cancel             nanoseconds, symbol, trade, correction, price, size
  */
-uint8_t rimeheath_body(const uint8_t *body, size_t body_len, uint64_t fields[8]);
+uint32_t rimeheath_body(const uint8_t *body, size_t body_len, uint64_t fields[8]);
 
 #ifdef __cplusplus
 }

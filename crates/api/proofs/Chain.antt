@@ -5,12 +5,12 @@ use mathlib.Core.Path.{_≡_, refl, sym, ap, _∙_}
 use mathlib.Core.List.{List, [], _∷_}
 use native.Mathlib.Omega.{arith}
 use Rattle.book.specs.Plan.{clock}
-use Rattle.receiver.specs.Receiver.{receivedNumber}
 use Rattle.receiver.specs.Lent.{real, stateNumbers, Lent, lent, ordersOf, symbolsOf, shelfOf, stateOf, Handled, received}
 use Rattle.receiver.specs.declared.State.{State}
+use Rattle.receiver.specs.declared.Account.{Account}
 use Rattle.receiver.specs.declared.Received.{Received}
 use Rattle.receiver.proofs.Accounts.{refused-same}
-use Rattle.api.specs.Calls.{stateIn, receiveCall, stateReceived, accountReceived, receiveAnswer}
+use Rattle.api.specs.Calls.{stateIn, receiveCall, stateReceived, accountReceived, receivedCode, receiveAnswer}
 
 -- a state that a machine holds: its second in 32 bits, its stop in 8
 pub record Held (q : State) : Type 0 where
@@ -41,11 +41,12 @@ module _ (k : Lent) (h : Held (stateOf k)) (p m : List ℕ) where
     where
       go : (a : Received) → received k p .answer ≡ a → stateReceived a (stateOf after) numbers ≡ stateNumbers (stateOf after)
       go (Received.Accepted t) e = refl
-      go (Received.Refused r) e = ap (λ (x : Lent). stateNumbers (stateOf x)) (sym (refused-same real k p r e))
+      go (Received.Refused r) e = ap (λ (x : Lent). stateNumbers (stateOf x)) (sym (refused-same real k p (λ (t : Account) q. let n : Received.Refused r ≡ Received.Accepted t = sym e ∙ q in let z : _≡_ {A = ℕ} 0 1 = cc in absurd (omega arith))))
+      go (Received.Bad f) e = ap (λ (x : Lent). stateNumbers (stateOf x)) (sym (refused-same real k p (λ (t : Account) q. let n : Received.Bad f ≡ Received.Accepted t = sym e ∙ q in let z : _≡_ {A = ℕ} 0 1 = cc in absurd (omega arith))))
 
   pub next-call : receiveAnswer (received (lent (ordersOf k) (symbolsOf k) (shelfOf k) (stateIn numbers)) p) numbers m
-      ≡ receiveCall (receivedNumber (received k p .answer)) (stateNumbers (stateOf after)) (accountReceived (received k p .answer) m) (ordersOf after) (symbolsOf after) (shelfOf after)
+      ≡ receiveCall (receivedCode (received k p .answer)) (stateNumbers (stateOf after)) (accountReceived (received k p .answer) m) (ordersOf after) (symbolsOf after) (shelfOf after)
   unfolding receiveAnswer
   next-call =
       ap (λ (x : Handled). receiveAnswer x numbers m) same-call
-      ∙ ap (λ (l : List ℕ). receiveCall (receivedNumber (received k p .answer)) l (accountReceived (received k p .answer) m) (ordersOf after) (symbolsOf after) (shelfOf after)) state-left
+      ∙ ap (λ (l : List ℕ). receiveCall (receivedCode (received k p .answer)) l (accountReceived (received k p .answer) m) (ordersOf after) (symbolsOf after) (shelfOf after)) state-left

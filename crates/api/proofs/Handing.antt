@@ -1,20 +1,21 @@
 -- What a library call answered decides what the boundary hands on: each law is a congruence in that answer.
 -- Assumes nothing.
 use Prim.Native.Nat.{ℕ}
-use mathlib.Core.Path.{_≡_, sym, ap, _∙_, subst}
+use mathlib.Core.Path.{_≡_, sym, ap, _∙_}
 use mathlib.Core.List.{List, [], _∷_}
 use lib.ListN.{getD}
 use lib.IntN.{ℤ}
 use mir.Syntax.{w64}
 use mir.Val.{SFits, toZ, ofZ}
 use mir.ValLaws.{toZ-ofZ}
-use borrow.Author.Tests.{eq-eqb, ne-eqb}
-use Rattle.facts.specs.Pick.{pick}
-use Rattle.kinds.specs.Table.{typeOf}
-use Rattle.fields.specs.Fields.{bodyNumber}
+use Rattle.kinds.specs.Table.{typeOf, kindOf}
+use Rattle.kinds.specs.declared.Kind.{Kind}
+use Rattle.fields.specs.Fields.{decoded, bodyNumber}
+use Rattle.fields.specs.declared.Fault.{Fault}
 use Rattle.fields.specs.declared.Body.{Body}
-use Rattle.body.specs.Read.{readBody}
-use Rattle.body.proofs.Laws.{Sound, read-sound}
+use Rattle.body.specs.Read.{judgeBody, judgedNumber, message, readBody}
+use Rattle.body.specs.declared.Judged.{Judged}
+use Rattle.body.proofs.Laws.{read-sound, judge-number}
 use Rattle.packet.specs.declared.Packet.{Packet}
 use Rattle.packet.specs.declared.Record.{Record}
 use Rattle.views.specs.declared.LadderAnswer.{LadderAnswer}
@@ -28,7 +29,7 @@ use Rattle.receiver.specs.declared.Started.{Started}
 use Rattle.receiver.specs.Lent.{stateNumbers, Begun, begun, lent, Handled, handled}
 use Rattle.answer_sheet.specs.declared.SheetAnswer.{SheetAnswer}
 use Rattle.answer_sheet.specs.Sheet.{Sheet, sheetAnd}
-use Rattle.api.specs.Calls.{accountNumbers, startAnswer, receiveCall, receiveAnswer, ladderAnswer, call, bitsOf, spreadAnswer, countsAnswer, packetAnswer, recordAnswer, sheetAnswer}
+use Rattle.api.specs.Calls.{withOffset, accountNumbers, startAnswer, receiveCall, receiveAnswer, ladderAnswer, call, bitsOf, spreadAnswer, countsAnswer, packetAnswer, recordAnswer, sheetAnswer}
 use Rattle.api.specs.Messages.{typed, kindIn, fieldsOf, bodyAnswer}
 use Rattle.api.proofs.Types.{type-told}
 
@@ -48,8 +49,17 @@ counts-handed x k v q e l = handed (λ y. countsAnswer y l) (λ y. y) x k v q e
 pub packet-handed : (x k v : Packet) → x ≡ k → x ≡ v → (l : List ℕ) → packetAnswer k l ≡ packetAnswer v l
 packet-handed x k v q e l = handed (λ y. packetAnswer y l) (λ y. y) x k v q e
 
+-- the number is what the call that makes it told of a fault
+pub packet-bad : (x v : Packet) (f : Fault) → x ≡ Packet.Bad f → x ≡ v → (l : List ℕ) (n : ℕ) → n ≡ withOffset f → call n l ≡ packetAnswer v l
+unfolding packetAnswer
+packet-bad x v f q e l n g = ap (λ (y : ℕ). call y l) g ∙ packet-handed x (Packet.Bad f) v q e l
+
 pub record-handed : (x k v : Record) → x ≡ k → x ≡ v → (l : List ℕ) → recordAnswer k l ≡ recordAnswer v l
 record-handed x k v q e l = handed (λ y. recordAnswer y l) (λ y. y) x k v q e
+
+pub record-bad : (x v : Record) (f : Fault) → x ≡ Record.Bad f → x ≡ v → (l : List ℕ) (n : ℕ) → n ≡ withOffset f → call n l ≡ recordAnswer v l
+unfolding recordAnswer
+record-bad x v f q e l n g = ap (λ (y : ℕ). call y l) g ∙ record-handed x (Record.Bad f) v q e l
 
 pub sheet-handed : (x k : SheetAnswer) → x ≡ k → (o : List ℕ) (v : Sheet) → sheetAnd x o ≡ v → (l : List ℕ) → sheetAnswer (sheetAnd k o) l ≡ sheetAnswer v l
 sheet-handed x k q o v e l = handed (λ y. sheetAnswer y l) (λ y. sheetAnd y o) x k v q e
@@ -58,6 +68,10 @@ sheet-handed x k q o v e l = handed (λ y. sheetAnswer y l) (λ y. sheetAnd y o)
 module _ (x : Received) (o s h : List ℕ) (t : State) (u : Handled) (e : handled x (lent o s h t) ≡ u) (l a : List ℕ) where
   pub receive-handed : (k : Received) → x ≡ k → receiveAnswer (handled k (lent o s h t)) l a ≡ receiveAnswer u l a
   receive-handed k q = handed (λ y. receiveAnswer y l a) (λ y. handled y (lent o s h t)) x k u q e
+
+  pub receive-bad : (f : Fault) → x ≡ Received.Bad f → (n : ℕ) → n ≡ withOffset f → receiveCall n l a o s h ≡ receiveAnswer u l a
+  unfolding receiveAnswer
+  receive-bad f q n g = ap (λ (y : ℕ). receiveCall y l a o s h) g ∙ receive-handed (Received.Bad f) q
 
   -- the account is what the call that copies it told
   pub receive-accepted : (c : Account) → x ≡ Received.Accepted c → (n : List ℕ) → n ≡ accountNumbers c → receiveCall 0 (stateNumbers t) n o s h ≡ receiveAnswer u l a
@@ -79,18 +93,17 @@ module _ (x v : SpreadAnswer) (e : x ≡ v) (l : List ℕ) where
 pub case-fields : (t : ℕ) (m k : Body) → m ≡ k → (b w : List ℕ) → w ≡ typed t k b → w ≡ typed t m b
 case-fields t m k q b w f = f ∙ ap (λ (y : Body). typed t y b) (sym q)
 
-module _ (m v : Body) (e : m ≡ v) (b l : List ℕ) (n : ℕ) (f : n ≡ bodyNumber m) where
-  pub body-refused : (n ≡ 0 → ⊥) → call n l ≡ bodyAnswer v b l
-  unfolding bodyAnswer pick
-  body-refused h =
-      let g : bodyAnswer m b l ≡ call (bodyNumber m) l = rw (ne-eqb (bodyNumber m) 0 (λ z. h (f ∙ z))) in
-      ap (λ (y : ℕ). call y l) f ∙ sym g ∙ ap (λ (y : Body). bodyAnswer y b l) e
+module _ (b l : List ℕ) (r : Judged) (e : r ≡ judgeBody b) where
+  pub body-refused : (f : Fault) → r ≡ Judged.Bad f → (n : ℕ) → n ≡ withOffset f → call n l ≡ bodyAnswer (judgeBody b) (readBody b) b l
+  unfolding bodyAnswer
+  body-refused f q n g = ap (λ (y : ℕ). call y l) g ∙ ap (λ (y : Judged). bodyAnswer y (readBody b) b l) (sym q ∙ e)
 
-  -- told by the type t that the body starts with
-  pub body-told : v ≡ readBody b → n ≡ 0 → (t : ℕ) → t ≡ getD b 0 0 → (w : List ℕ) → w ≡ typed t m b → call 0 w ≡ bodyAnswer v b l
-  unfolding bodyAnswer pick
-  body-told r z t h w g =
-      let o : bodyNumber m ≡ 0 = sym f ∙ z in
-      let k : t ≡ typeOf (kindIn m) = h ∙ sym (type-told m b (subst (λ (y : Body). Sound y b) (sym (e ∙ r)) (read-sound b)) o) in
-      let a : bodyAnswer m b l ≡ call (bodyNumber m) (fieldsOf m b) = rw (eq-eqb (bodyNumber m) 0 o) in
-      ap (call 0) (g ∙ ap (λ (y : ℕ). typed y m b) k) ∙ ap (λ (y : ℕ). call y (fieldsOf m b)) (sym o) ∙ sym a ∙ ap (λ (y : Body). bodyAnswer y b l) e
+  -- told by the type t that the body starts with, m being what was decoded
+  pub body-told : r ≡ Judged.Good → (t : ℕ) → t ≡ getD b 0 0 → (k : Kind) → k ≡ kindOf t → (m : Body) → m ≡ decoded k b → (w : List ℕ) → w ≡ typed t m b → call 0 w ≡ bodyAnswer (judgeBody b) (readBody b) b l
+  unfolding bodyAnswer readBody message
+  body-told q t h k i m d w g =
+      let good : judgeBody b ≡ Judged.Good = sym e ∙ q in
+      let same : readBody b ≡ m = ap (λ (y : Judged). message y b) good ∙ (ap (λ (y : Kind). decoded y b) (sym (i ∙ ap kindOf h)) ∙ sym d) in
+      let none : bodyNumber (readBody b) ≡ 0 = sym (judge-number b) ∙ ap judgedNumber good in
+      let type-is : t ≡ typeOf (kindIn (readBody b)) = h ∙ sym (type-told (readBody b) b (read-sound b) none) in
+      ap (call 0) (g ∙ (λ j. typed (type-is j) (sym same j) b)) ∙ ap (λ (y : Judged). bodyAnswer y (readBody b) b l) (sym good)

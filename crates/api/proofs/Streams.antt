@@ -1,10 +1,12 @@
--- What `feed` answered decides what the boundary hands on; and calls from C, one after another, are `feed` after `feed`: the eleven numbers that a call leaves give the
+-- What `feed` answered decides what the boundary hands on; and calls from C, one after another, are `feed` after `feed`: the thirteen numbers that a call leaves give the
 -- next one the same stream back.
 -- Assumes nothing.
-use Prim.Native.Nat.{ℕ}
+use Prim.Native.Nat.{ℕ, _%_, _^_, _<_}
 use mathlib.Core.Path.{_≡_, sym, ap, _∙_}
 use mathlib.Core.Bool.{Bool}
 use mathlib.Core.List.{List, [], _∷_}
+use native.Mathlib.Omega.{arith}
+use Rattle.fields.specs.Fields.{badAt}
 use Rattle.receiver.specs.declared.State.{State}
 use Rattle.receiver.specs.Lent.{stateNumbers}
 use Rattle.recording.specs.declared.Stream.{Stream}
@@ -31,9 +33,16 @@ module _ (x : Fed) (o s h w : List ℕ) (v : Feeding) (e : feeding x o s h w ≡
   feed-took k q n f = ap (λ (y : List ℕ). feedCall 0 y o s h w) f ∙ feed-handed (Fed.Took k) q
 
 -- ---- one call after another
--- a stream's numbers give it back
-pub stream-back : (k : Stream) → Held (k .receiver) → streamFrom (streamNumbers k) ≡ k
-stream-back k h = λ i. record { receiver = state-back (k .receiver) h i; held = k .held; skip = k .skip; bad = k .bad; totals = k .totals }
+-- a stream that a machine holds: its receiver's state, and the last bad packet's number in 8 bits
+pub record HeldStream (k : Stream) : Type 0 where
+  pub state-fits : Held (k .receiver)
+  pub last-fits : k .last .number < 2 ^ 8
+
+-- its numbers give it back
+pub stream-back : (k : Stream) → HeldStream k → streamFrom (streamNumbers k) ≡ k
+stream-back k h =
+    let a : k .last .number % 256 ≡ k .last .number = omega (arith, h .last-fits) in
+    λ i. record { receiver = state-back (k .receiver) (h .state-fits) i; held = k .held; skip = k .skip; bad = k .bad; last = badAt (a i) (k .last .at); totals = k .totals }
 
 -- an open, lent the state that a start or a packet left, opens a stream over that receiver
 pub next-open : (q : State) → Held q → openAnswer (opened (stateIn (stateNumbers q))) ≡ call 0 (streamNumbers (opened q))
@@ -42,7 +51,7 @@ next-open q h = ap (λ (x : State). openAnswer (opened x)) (state-back q h)
 
 -- lent what a chunk left, the call for the next chunk c leaves what `fedOn` makes of it: so an open and any number of calls from C are `fedAll`, of which recording/FromStart
 -- speaks, where none is refused
-module _ (k : Stream) (held : Held (k .receiver)) (o s h w : List ℕ) where
+module _ (k : Stream) (held : HeldStream k) (o s h w : List ℕ) where
   abbrev left : Feeding
   left = feeding (Fed.Took k) o s h w
 
@@ -56,5 +65,5 @@ module _ (k : Stream) (held : Held (k .receiver)) (o s h w : List ℕ) where
   next-took c k′ o′ s′ h′ w′ e = next-feed c ∙ ap (λ (x : Feeding). feedAnswer x (streamNumbers k)) e
 
 -- and the recording is cut where that stream is
-pub next-cut : (k : Stream) → Held (k .receiver) → cut (streamFrom (streamNumbers k)) ≡ cut k
+pub next-cut : (k : Stream) → HeldStream k → cut (streamFrom (streamNumbers k)) ≡ cut k
 next-cut k h = ap cut (stream-back k h)

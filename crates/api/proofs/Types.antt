@@ -26,8 +26,8 @@ type-told (Body.Delete m) b s z = sym (s .0 .type-is)
 type-told (Body.Execution m) b s z = sym (s .0 .type-is)
 type-told (Body.Trade m) b s z = sym (s .0 .type-is)
 type-told (Body.TradeCancel m) b s z = sym (s .0 .type-is)
-type-told (Body.Refused r) b (inl e) z = absurd (omega (arith, ap (λ x. x .number) e))
-type-told (Body.Refused r) b (inr e) z = absurd (omega (arith, ap (λ x. x .number) e))
+type-told (Body.Bad r) b (inl e) z = absurd (omega (arith, e .0))
+type-told (Body.Bad r) b (inr e) z = absurd (omega (arith, e .0))
 
 -- the first of the eight is the type that they are told with
 typed-first : (t : ℕ) (m : Body) (b : List ℕ) → getD (typed t m b) 0 0 ≡ t
@@ -42,7 +42,7 @@ typed-first t (Body.Delete m) b = refl
 typed-first t (Body.Execution m) b = refl
 typed-first t (Body.Trade m) b = refl
 typed-first t (Body.TradeCancel m) b = refl
-typed-first t (Body.Refused r) b = refl
+typed-first t (Body.Bad r) b = refl
 
 -- "The type byte decides the message": what a caller is told is the byte itself
 pub type-first : (b : List ℕ) → bodyNumber (readBody b) ≡ 0 → getD (fieldsOf (readBody b) b) 0 0 ≡ getD b 0 0

@@ -1,6 +1,6 @@
 -- What each call of the C boundary answers: a number, and the lent memory after it. The meaning is that of the library's own definitions;
--- "Each refusal returns its number alone; tables, output and state keep every byte" (document 01).
-use Prim.Native.Nat.{ℕ, _%_, _-_}
+-- "tables, output and state keep every byte" (document 01), so that a refusal's offset comes in the number (request 5).
+use Prim.Native.Nat.{ℕ, _+_, _*_, _%_, _-_}
 use mathlib.Core.Bool.{Bool, true, false}
 use mathlib.Core.List.{List, [], _∷_}
 use lib.ListN.{getD}
@@ -12,7 +12,6 @@ use Rattle.receiver.specs.declared.Account.{Account}
 use Rattle.receiver.specs.declared.Received.{Received}
 use Rattle.receiver.specs.declared.Started.{Started}
 use Rattle.book.specs.Plan.{clock}
-use Rattle.receiver.specs.Receiver.{receivedNumber}
 use Rattle.receiver.specs.Lent.{stateNumbers, Begun, Handled, startNumber, ordersOf, symbolsOf, shelfOf, stateOf}
 use Rattle.views.specs.declared.Side.{Side}
 use Rattle.views.specs.declared.LadderAnswer.{LadderAnswer}
@@ -24,8 +23,11 @@ use Rattle.answer_sheet.specs.declared.SheetAnswer.{SheetAnswer}
 use Rattle.answer_sheet.specs.Sheet.{Sheet, sheetNumber}
 use Rattle.packet.specs.declared.Packet.{Packet}
 use Rattle.packet.specs.declared.Record.{Record}
-use Rattle.packet.specs.Packet.{packetNumber}
-use Rattle.packet.specs.Record.{recordNumber}
+use Rattle.fields.specs.declared.Fault.{Fault}
+
+-- number and offset in one: the number in the low 8 bits, the offset in those above
+abbrev pub withOffset : Fault → ℕ
+withOffset f = f .number + 256 * f .at
 
 -- a receiver's state in three lent numbers (`stateNumbers` of receiver): the second is the low 32 bits of its number, the stop the low 8
 abbrev pub stateIn : List ℕ → State
@@ -74,14 +76,22 @@ receiveCall n l a o s h = record { number = n; state = l; account = a; orders = 
 abbrev pub stateReceived : Received → State → List ℕ → List ℕ
 stateReceived (Received.Accepted a) q l = stateNumbers q
 stateReceived (Received.Refused r) q l = l
+stateReceived (Received.Bad f) q l = l
 
 abbrev pub accountReceived : Received → List ℕ → List ℕ
 accountReceived (Received.Accepted a) l = accountNumbers a
 accountReceived (Received.Refused r) l = l
+accountReceived (Received.Bad f) l = l
+
+-- 0, the number alone, or number and offset
+abbrev pub receivedCode : Received → ℕ
+receivedCode (Received.Accepted a) = 0
+receivedCode (Received.Refused r) = r .number
+receivedCode (Received.Bad f) = withOffset f
 
 unfoldable pub receiveAnswer : Handled → List ℕ → List ℕ → ReceiveCall
 receiveAnswer u l a =
-    receiveCall (receivedNumber (u .answer)) (stateReceived (u .answer) (stateOf (u .after)) l) (accountReceived (u .answer) a)
+    receiveCall (receivedCode (u .answer)) (stateReceived (u .answer) (stateOf (u .after)) l) (accountReceived (u .answer) a)
     (ordersOf (u .after)) (symbolsOf (u .after)) (shelfOf (u .after))
 
 -- ---- views
@@ -140,17 +150,27 @@ countsAnswer a l = call (countsNumber a) (countsNumbers a l)
 abbrev pub packetNumbers : Packet → List ℕ → List ℕ
 packetNumbers (Packet.Good n) l = n ∷ []
 packetNumbers (Packet.Refused r) l = l
+packetNumbers (Packet.Bad f) l = l
+
+abbrev pub packetCode : Packet → ℕ
+packetCode (Packet.Good n) = 0
+packetCode (Packet.Refused r) = r .number
+packetCode (Packet.Bad f) = withOffset f
 
 unfoldable pub packetAnswer : Packet → List ℕ → Call
-packetAnswer a l = call (packetNumber a) (packetNumbers a l)
+packetAnswer a l = call (packetCode a) (packetNumbers a l)
 
 -- a record's number, and the length of its body
 abbrev pub recordNumbers : Record → List ℕ → List ℕ
 recordNumbers (Record.Good h) l = h .number ∷ h .len ∷ []
-recordNumbers (Record.Refused r) l = l
+recordNumbers (Record.Bad f) l = l
+
+abbrev pub recordCode : Record → ℕ
+recordCode (Record.Good h) = 0
+recordCode (Record.Bad f) = withOffset f
 
 unfoldable pub recordAnswer : Record → List ℕ → Call
-recordAnswer a l = call (recordNumber a) (recordNumbers a l)
+recordAnswer a l = call (recordCode a) (recordNumbers a l)
 
 -- ---- the sheet
 abbrev pub wordOf : Bool → Recording

@@ -2,11 +2,9 @@
 -- table ("The types and lengths of all eleven messages stand in one table").
 use Prim.Native.Nat.{ℕ}
 use mathlib.Core.List.{List, [], _∷_}
-use lib.Dec.{eqb}
-use Rattle.facts.specs.Pick.{pick}
 use Rattle.kinds.specs.declared.Kind.{Kind}
 use Rattle.kinds.specs.Table.{typeOf}
-use Rattle.fields.specs.Fields.{symbolOf, stateOf, bodyNumber}
+use Rattle.fields.specs.Fields.{symbolOf, stateOf}
 use Rattle.fields.specs.declared.TradingStatus.{TradingStatus}
 use Rattle.fields.specs.declared.SymbolClear.{SymbolClear}
 use Rattle.fields.specs.declared.AddOrder.{AddOrder}
@@ -18,7 +16,8 @@ use Rattle.fields.specs.declared.TradeCancel.{TradeCancel}
 use Rattle.fields.specs.declared.Symbol.{Symbol}
 use Rattle.fields.specs.declared.SystemState.{SystemState}
 use Rattle.fields.specs.declared.Body.{Body}
-use Rattle.api.specs.Calls.{Call, call}
+use Rattle.body.specs.declared.Judged.{Judged}
+use Rattle.api.specs.Calls.{withOffset, Call, call}
 
 -- the first of the eight is the type, t in what follows
 abbrev pub eight : ℕ → ℕ → ℕ → ℕ → ℕ → ℕ → ℕ → ℕ → List ℕ
@@ -77,7 +76,7 @@ typed t (Body.Delete m) b = deleteFields t m
 typed t (Body.Execution m) b = executionFields t m
 typed t (Body.Trade m) b = tradeFields t m
 typed t (Body.TradeCancel m) b = cancelFields t m
-typed t (Body.Refused r) b = eight t 0 0 0 0 0 0 0
+typed t (Body.Bad r) b = eight t 0 0 0 0 0 0 0
 
 -- the kind of a message
 abbrev pub kindIn : Body → Kind
@@ -92,12 +91,13 @@ kindIn (Body.Delete m) = Kind.Delete
 kindIn (Body.Execution m) = Kind.Execution
 kindIn (Body.Trade m) = Kind.Trade
 kindIn (Body.TradeCancel m) = Kind.TradeCancel
-kindIn (Body.Refused r) = Kind.Unknown
+kindIn (Body.Bad r) = Kind.Unknown
 
 -- "The type byte decides the message": its type is its kind's in the table
 abbrev pub fieldsOf : Body → List ℕ → List ℕ
 fieldsOf m b = typed (typeOf (kindIn m)) m b
 
--- the numbers of a message that is not refused; a refusal leaves what is lent as it is
-unfoldable pub bodyAnswer : Body → List ℕ → List ℕ → Call
-bodyAnswer m b l = call (bodyNumber m) (pick (eqb (bodyNumber m) 0) (fieldsOf m b) l)
+-- how a body was judged, and what was read of it: a refusal leaves what is lent as it is
+unfoldable pub bodyAnswer : Judged → Body → List ℕ → List ℕ → Call
+bodyAnswer Judged.Good m b l = call 0 (fieldsOf m b)
+bodyAnswer (Judged.Bad f) m b l = call (withOffset f) l

@@ -1,23 +1,27 @@
 // The library for other languages: thin functions over numbers, slices and arrays of numbers (include/rimeheath.h). Each but rimeheath_cut,
-// which answers yes or no, answers 0 or document 01's number of the refusal, and a refusal changes no lent byte.
+// which answers yes or no, answers 0 or document 01's number of the refusal, and a refusal changes no lent byte. Where packets, records and
+// bodies are read, the answer has the offset of the first byte at fault above the number's 8 bits.
 ghost use mathlib.Core.Path.{_≡_};
+ghost use Prim.Native.Nat.{_<_};
 ghost use Rattle.receiver.specs.Lent.{lent, received, started};
 ghost use Rattle.views.specs.Views.{ladderView, spreadView, countsView};
 ghost use Rattle.packet.specs.Record.{readRecord};
 ghost use Rattle.packet.specs.Packet.{readPacket};
-ghost use Rattle.body.specs.Read.{readBody};
+ghost use Rattle.body.specs.Read.{judgeBody, readBody};
 ghost use Rattle.answer_sheet.specs.Sheet.{sheetView};
 ghost use Rattle.recording.specs.Stream.{opened, fed, cut as isCut};
-ghost use Rattle.api.specs.Calls.{stateIn, accountNumbers, sideAsked, startCall, startAnswer, receiveCall, receiveAnswer, fillCall, ladderAnswer, call, bitsOf, spreadAnswer, countsAnswer, packetAnswer, recordAnswer, wordOf, sheetAnswer};
+ghost use Rattle.api.specs.Calls.{withOffset, stateIn, accountNumbers, sideAsked, startCall, startAnswer, receiveCall, receiveAnswer, fillCall, ladderAnswer, call, bitsOf, spreadAnswer, countsAnswer, packetAnswer, recordAnswer, wordOf, sheetAnswer};
 ghost use Rattle.api.specs.Streams.{streamNumbers, streamFrom, openAnswer, feedCall, feedAnswer};
 ghost use Rattle.api.specs.Messages.{symbolFields, stateFields, statusFields, clearFields, addFields, modifyFields, deleteFields, executionFields, tradeFields, cancelFields, typed, bodyAnswer};
 use answer_sheet::Recording;
 use answer_sheet::SheetAnswer;
 use arbitration::Counts;
+use body::Judged;
 use book::Clock;
 use fields::AddOrder;
 use fields::Body;
 use fields::DeleteOrder;
+use fields::Fault;
 use fields::ModifyOrder;
 use fields::OrderExecution;
 use fields::Symbol;
@@ -90,6 +94,14 @@ fn account_numbers(a: Account) -> [u64; 9]
     ]
 }
 
+// Number and offset in one number; no offset in a packet, a record or a body is large.
+fn with_offset(f: Fault) -> u32
+    requires { ⌜ f .at < 65536 ⌝ }
+    ensures { λ r. ⌜ r ≡ withOffset f ⌝ }
+{
+    (f.number as u32) + 256 * (f.at as u32)
+}
+
 // Gives a packet to a receiver: state and account become what they are after it.
 #[no_mangle]
 pub extern "C" fn rimeheath_receive(
@@ -99,14 +111,15 @@ pub extern "C" fn rimeheath_receive(
     state: &mut [u64; 3],
     p: &[u8],
     account: &mut [u64; 9],
-) -> u8
+) -> u32
     ensures { λ r. ⌜ receiveCall r (now (state .exit)) (now (account .exit)) (now (orders .exit)) (now (symbols .exit)) (now (shelf .exit)) ≡ receiveAnswer (received (lent (now (orders .entry)) (now (symbols .entry)) (now (shelf .entry)) (stateIn (now (state .entry)))) (now (p .entry))) (now (state .entry)) (now (account .entry)) ⌝ }
 {
     let r = receiver::receive(orders, symbols, shelf, state_in(state), p);
     let s = r.state;
     let answer = r.answer;
     match answer {
-        Received::Refused(e) => e.number,
+        Received::Refused(e) => e.number as u32,
+        Received::Bad(f) => with_offset(f),
         Received::Accepted(a) => {
             let clock = s.clock;
             *state = [s.next, clock.second as u64, s.stop as u64];
@@ -116,8 +129,8 @@ pub extern "C" fn rimeheath_receive(
     }
 }
 
-// A stream of eleven lent numbers.
-fn stream_from(l: &[u64; 11]) -> Stream
+// A stream of thirteen lent numbers.
+fn stream_from(l: &[u64; 13]) -> Stream
     ensures { λ r. ⌜ r ≡ streamFrom (now (l .entry)) ⌝ }
 {
     let head = [l[0], l[1], l[2]];
@@ -129,22 +142,28 @@ fn stream_from(l: &[u64; 11]) -> Stream
         repeated: l[9],
         differing: l[10],
     };
+    let last = Fault {
+        number: (l[11] % 256) as u8,
+        at: l[12] as usize,
+    };
     Stream {
         receiver,
         held: l[3] as usize,
         skip: l[4] as usize,
         bad: l[5],
+        last,
         totals,
     }
 }
 
-// A stream as eleven numbers.
-fn stream_numbers(k: Stream) -> [u64; 11]
+// A stream as thirteen numbers.
+fn stream_numbers(k: Stream) -> [u64; 13]
     ensures { λ r. ⌜ r ≡ streamNumbers k ⌝ }
 {
     let s = k.receiver;
     let clock = s.clock;
     let t = k.totals;
+    let last = k.last;
     [
         s.next,
         clock.second as u64,
@@ -157,12 +176,14 @@ fn stream_numbers(k: Stream) -> [u64; 11]
         t.far,
         t.repeated,
         t.differing,
+        last.number as u64,
+        last.at as u64,
     ]
 }
 
 // Opens a stream over a receiver, before the first chunk of a recording.
 #[no_mangle]
-pub extern "C" fn rimeheath_open(state: &[u64; 3], stream: &mut [u64; 11]) -> u8
+pub extern "C" fn rimeheath_open(state: &[u64; 3], stream: &mut [u64; 13]) -> u8
     ensures { λ r. ⌜ call r (now (stream .exit)) ≡ openAnswer (opened (stateIn (now (state .entry)))) ⌝ }
 {
     let k = recording::open(state_in(state));
@@ -177,7 +198,7 @@ pub extern "C" fn rimeheath_feed(
     symbols: &mut [u8],
     shelf: &mut [u8],
     hold: &mut [u8],
-    stream: &mut [u64; 11],
+    stream: &mut [u64; 13],
     chunk: &[u8],
 ) -> u8
     ensures { λ r. ⌜ feedCall r (now (stream .exit)) (now (orders .exit)) (now (symbols .exit)) (now (shelf .exit)) (now (hold .exit)) ≡ feedAnswer (fed (streamFrom (now (stream .entry))) (now (orders .entry)) (now (symbols .entry)) (now (shelf .entry)) (now (hold .entry)) (now (chunk .entry))) (now (stream .entry)) ⌝ }
@@ -193,7 +214,7 @@ pub extern "C" fn rimeheath_feed(
 
 // Whether a recording that ends here ends inside a length or packet.
 #[no_mangle]
-pub extern "C" fn rimeheath_cut(stream: &[u64; 11]) -> bool
+pub extern "C" fn rimeheath_cut(stream: &[u64; 13]) -> bool
     ensures { λ r. ⌜ r ≡ isCut (streamFrom (now (stream .entry))) ⌝ }
 {
     recording::is_cut(stream_from(stream))
@@ -276,11 +297,12 @@ pub extern "C" fn rimeheath_counts(orders: &[u64], symbols: &[u8], counts: &mut 
 
 // Judges a packet: the number of its records.
 #[no_mangle]
-pub extern "C" fn rimeheath_packet(p: &[u8], records: &mut [u64; 1]) -> u8
+pub extern "C" fn rimeheath_packet(p: &[u8], records: &mut [u64; 1]) -> u32
     ensures { λ r. ⌜ call r (now (records .exit)) ≡ packetAnswer (readPacket (now (p .entry))) (now (records .entry)) ⌝ }
 {
     match packet::read_packet(p) {
-        Packet::Refused(r) => r.number,
+        Packet::Refused(r) => r.number as u32,
+        Packet::Bad(f) => with_offset(f),
         Packet::Good(n) => {
             *records = [n as u64];
             0
@@ -290,11 +312,11 @@ pub extern "C" fn rimeheath_packet(p: &[u8], records: &mut [u64; 1]) -> u8
 
 // Judges the first record of what is left of a packet: its number, and the length of its body.
 #[no_mangle]
-pub extern "C" fn rimeheath_record(rest: &[u8], head: &mut [u64; 2]) -> u8
+pub extern "C" fn rimeheath_record(rest: &[u8], head: &mut [u64; 2]) -> u32
     ensures { λ r. ⌜ call r (now (head .exit)) ≡ recordAnswer (readRecord (now (rest .entry))) (now (head .entry)) ⌝ }
 {
     match packet::read_record(rest) {
-        Record::Refused(r) => r.number,
+        Record::Bad(f) => with_offset(f),
         Record::Good(h) => {
             *head = [h.number, h.len as u64];
             0
@@ -442,22 +464,24 @@ fn fields_of(t: u64, m: Body, b: &[u8]) -> [u64; 8]
         Body::Execution(s) => execution_fields(t, s),
         Body::Trade(s) => trade_fields(t, s),
         Body::TradeCancel(s) => cancel_fields(t, s),
-        Body::Refused(_) => [t, 0, 0, 0, 0, 0, 0, 0],
+        Body::Bad(_) => [t, 0, 0, 0, 0, 0, 0, 0],
     }
 }
 
-// Judges a body and reads its numbers. A good body starts with its type.
+// Judges a body, and reads the numbers of a good one, which starts with its type.
 #[no_mangle]
-pub extern "C" fn rimeheath_body(b: &[u8], numbers: &mut [u64; 8]) -> u8
-    ensures { λ r. ⌜ call r (now (numbers .exit)) ≡ bodyAnswer (readBody (now (b .entry))) (now (b .entry)) (now (numbers .entry)) ⌝ }
+pub extern "C" fn rimeheath_body(b: &[u8], numbers: &mut [u64; 8]) -> u32
+    ensures { λ r. ⌜ call r (now (numbers .exit)) ≡ bodyAnswer (judgeBody (now (b .entry))) (readBody (now (b .entry))) (now (b .entry)) (now (numbers .entry)) ⌝ }
 {
-    let m = body::read_body(b);
-    let n = fields::number_of(m);
-    if n != 0 {
-        return n;
+    match body::judge_body(b) {
+        Judged::Bad(f) => with_offset(f),
+        Judged::Good => {
+            let t = wire::u8_at(b, 0);
+            let m = fields::decode(kinds::kind_of(t), b);
+            *numbers = fields_of(t as u64, m, b);
+            0
+        }
     }
-    *numbers = fields_of(wire::u8_at(b, 0) as u64, m, b);
-    0
 }
 
 fn word_of(cut: bool) -> Recording

@@ -1,4 +1,4 @@
--- What those above may know of a body that was read, by the case of the answer, without the text of readBody.
+-- What those above may know of a body that was judged or read, by the case of the answer, without the text of judgeBody and readBody.
 -- Assumes nothing.
 use mathlib.Core.Path.{_≡_, refl, sym, ap, _∙_}
 use mathlib.Core.List.{List, [], _∷_}
@@ -8,22 +8,25 @@ use Prim.Native.Nat.{ℕ, zero, suc, _+_, _≤_, _<_}
 use native.Mathlib.Omega.{arith}
 use lib.ListN.{length, getD}
 use lib.Dec.{eqb, leb, ltb}
-use borrow.Author.Tests.{eq-eqb, ne-eqb, eqb-true, leb-true, lt-ltb, ltb-true}
+use borrow.Author.Tests.{eq-eqb, ne-eqb, eqb-true, eqb-false, leb-true, lt-ltb, ltb-true}
 use Rattle.facts.specs.Limits.{mostPrice, mostNanos, entrySize}
 use Rattle.facts.specs.Pick.{pick, both, either}
 use Rattle.facts.proofs.Picks.{pick-ind, pick-cases, pick-map, both-true, either-true, either-none}
 use Rattle.layout.specs.Shape.{Shape, width, Values}
 use Rattle.layout.specs.Layout.{shapes, fieldsIn}
 use Rattle.layout.specs.Message.{readAs}
-use Rattle.kinds.specs.Table.{lengthOf, kindOf, typeOf, kindLength, refusalOf}
+use Rattle.kinds.specs.Table.{table, lookup, lengthOf, kindOf, typeOf, kindLength, refusalOf}
 use Rattle.kinds.specs.declared.Kind.{Kind}
 use Rattle.kinds.proofs.Laws.{Lengths, lengths, no-length, type-kind}
-use Rattle.fields.specs.Fields.{statusOf, clearOf, addOf, modifyOf, deleteOf, executionOf, tradeOf, cancelOf, refusal, decoded, bodyNumber}
+use Rattle.fields.specs.Fields.{statusOf, clearOf, addOf, modifyOf, deleteOf, executionOf, tradeOf, cancelOf, badAt, decoded, bodyNumber}
 use Rattle.fields.specs.Messages.{systemTime, symbolUpdate, systemState}
 use Rattle.fields.specs.declared.Body.{Body}
 use Rattle.body.specs.Ranges.{nanosOk, oneOf, sideOk, priceOk, sizeOk, testOk, marketOk}
 use Rattle.body.specs.Faults.{Tests, tests, faultFrom, faultOf}
-use Rattle.body.specs.Read.{framed, judged, readBody, goodBody}
+use Rattle.fields.specs.declared.Fault.{Fault}
+use Rattle.body.specs.Read.{framed, ranged, judgeBody, judgedNumber, message, readBody, goodBody}
+use Rattle.body.specs.Places.{FirstBad, BadField, BadBody}
+use Rattle.body.specs.declared.Judged.{Judged}
 
 -- every test of a run holds
 abbrev pub AllHold : (ss : List Shape) → Tests ss → Values ss → Type 0
@@ -35,6 +38,16 @@ pub no-fault : (ss : List Shape) (ts : Tests ss) (vs : Values ss) (at : ℕ) →
 unfolding faultFrom
 no-fault [] ts vs at l h = tt
 no-fault (s ∷ ss) ts vs at l h = elim (pick-cases h) [ inl e ↦ (e .0, no-fault ss (ts .1) (vs .1) (at + width s) (omega arith) (e .1)) | inr e ↦ absurd (omega (arith, e .1)) ]
+
+-- a fault is the first field that fails its test
+fault-first : (ss : List Shape) (ts : Tests ss) (vs : Values ss) (at : ℕ) → (faultFrom ss ts vs at ≡ 0 → ⊥) → FirstBad ss ts vs at (faultFrom ss ts vs at)
+unfolding faultFrom
+fault-first [] ts vs at g = g refl
+fault-first (s ∷ ss) ts vs at g =
+    pick-ind (λ (n : ℕ). (n ≡ 0 → ⊥) → FirstBad (s ∷ ss) ts vs at n) (ts .0 (vs .0)) (faultFrom ss (ts .1) (vs .1) (at + width s)) at
+    (λ e h. inr (e, fault-first ss (ts .1) (vs .1) (at + width s) h))
+    (λ e h. inl (e, refl))
+    g
 
 -- price and size of a message that has them
 pub record Deal (price size : ℕ) : Type 0 where
@@ -82,12 +95,17 @@ Sound (Body.Delete m) b = Framed Kind.Delete b × (m ≡ deleteOf b) × (m .nano
 Sound (Body.Execution m) b = Framed Kind.Execution b × (m ≡ executionOf b) × Deal (m .price) (m .size) × (m .nanos ≤ mostNanos)
 Sound (Body.Trade m) b = Framed Kind.Trade b × (m ≡ tradeOf b) × Deal (m .price) (m .size) × (m .nanos ≤ mostNanos)
 Sound (Body.TradeCancel m) b = Framed Kind.TradeCancel b × (m ≡ cancelOf b) × Deal (m .price) (m .size) × (m .nanos ≤ mostNanos)
-Sound (Body.Refused r) b = (r ≡ refusal 3) ⊎ (r ≡ refusal 4)
+Sound (Body.Bad f) b = BadBody b f
 
 -- every field of the kind holds its test
 held : (k : Kind) (b : List ℕ) → faultOf k b ≡ 0 → AllHold (shapes k) (tests k) (fieldsIn k b)
 unfolding faultOf
 held k b f = no-fault (shapes k) (tests k) (fieldsIn k b) 1 (omega arith) f
+
+-- and no body is of none
+no-kind : (b : List ℕ) → Framed Kind.Unknown b → ⊥
+unfolding kindLength lengthOf lookup table pick
+no-kind b w = let e : length b ≡ 0 = w .length-is in omega (arith, w .some)
 
 decoded-sound : (k : Kind) (b : List ℕ) → Framed k b → AllHold (shapes k) (tests k) (fieldsIn k b) → Sound (decoded k b) b
 unfolding decoded
@@ -102,14 +120,7 @@ decoded-sound Kind.Delete b w h = (w, refl, in-time (deleteOf b .nanos) (h .0))
 decoded-sound Kind.Execution b w h = (w, refl, deal (executionOf b .price) (executionOf b .size) (h .1 .1 .1 .1 .0) (h .1 .1 .1 .1 .1 .0), in-time (executionOf b .nanos) (h .0))
 decoded-sound Kind.Trade b w h = (w, refl, deal (tradeOf b .price) (tradeOf b .size) (h .1 .1 .1 .1 .0) (h .1 .1 .1 .1 .1 .0), in-time (tradeOf b .nanos) (h .0))
 decoded-sound Kind.TradeCancel b w h = (w, refl, deal (cancelOf b .price) (cancelOf b .size) (h .1 .1 .1 .1 .0) (h .1 .1 .1 .1 .1 .0), in-time (cancelOf b .nanos) (h .0))
-decoded-sound Kind.Unknown b w h = inl refl
-
-judged-sound : (k : Kind) (b : List ℕ) → Framed k b → Sound (judged k b) b
-unfolding judged
-judged-sound k b w =
-    pick-ind (λ r. Sound r b) (eqb (faultOf k b) 0) (decoded k b) (Body.Refused (refusal 4))
-    (λ e. decoded-sound k b w (held k b (eqb-true (faultOf k b) 0 e)))
-    (λ e. inr refl)
+decoded-sound Kind.Unknown b w h = absurd (no-kind b w)
 
 -- a framed body has a type of the table, and that type's length
 pub framed-is : (b : List ℕ) → framed b ≡ true → Framed (kindOf (getD b 0 0)) b
@@ -129,40 +140,76 @@ framed-is b h = go (lengths (getD b 0 0))
         record { type-is = r .of-type; length-is = len ∙ r .of-kind; some = omega arith; most = omega arith }
 
 -- a framed body is judged as one of its kind
+pub judge-framed : (k : Kind) (b : List ℕ) → Framed k b → judgeBody b ≡ ranged k b
+unfolding judgeBody framed pick both kindLength
+judge-framed k b w = rw (lt-ltb 0 (length b) (w .some), w .type-is, eq-eqb (length b) (lengthOf (typeOf k)) (w .length-is), type-kind k)
+
+-- what is read of it: decoded where no field is bad
+abbrev pub judged : Kind → List ℕ → Body
+judged k b = pick (eqb (faultOf k b) 0) (decoded k b) (Body.Bad (badAt 4 (faultOf k b)))
+
 pub read-framed : (k : Kind) (b : List ℕ) → Framed k b → readBody b ≡ judged k b
-unfolding readBody framed pick both kindLength
-read-framed k b w = rw (lt-ltb 0 (length b) (w .some), w .type-is, eq-eqb (length b) (lengthOf (typeOf k)) (w .length-is), type-kind k)
+unfolding readBody message ranged
+read-framed k b w =
+    ap (λ (x : Judged). message x b) (judge-framed k b w)
+    ∙ (pick-map (λ (x : Judged). message x b) (eqb (faultOf k b) 0) Judged.Good (Judged.Bad (badAt 4 (faultOf k b)))
+    ∙ ap (λ (x : Kind). pick (eqb (faultOf k b) 0) (decoded x b) (Body.Bad (badAt 4 (faultOf k b)))) (ap kindOf (w .type-is) ∙ type-kind k))
 
--- what is decoded has one number for all bodies of a kind
-decoded-number : (k : Kind) (b c : List ℕ) → bodyNumber (decoded k c) ≡ bodyNumber (decoded k b)
-unfolding decoded
-decoded-number Kind.SystemTime b c = refl
-decoded-number Kind.SymbolUpdate b c = refl
-decoded-number Kind.SystemState b c = refl
-decoded-number Kind.TradingStatus b c = refl
-decoded-number Kind.SymbolClear b c = refl
-decoded-number Kind.Add b c = refl
-decoded-number Kind.Modify b c = refl
-decoded-number Kind.Delete b c = refl
-decoded-number Kind.Execution b c = refl
-decoded-number Kind.Trade b c = refl
-decoded-number Kind.TradeCancel b c = refl
-decoded-number Kind.Unknown b c = refl
+-- so two bodies of a kind with the same fault are judged alike, by number and offset
+pub judge-by-fault : (k : Kind) (b c : List ℕ) → Framed k b → Framed k c → faultOf k c ≡ faultOf k b → judgeBody c ≡ judgeBody b
+unfolding ranged
+judge-by-fault k b c w v e = judge-framed k c v ∙ (ap (λ (n : ℕ). pick (eqb n 0) Judged.Good (Judged.Bad (badAt 4 n))) e ∙ sym (judge-framed k b w))
 
--- so two bodies of a kind with the same fault are good, or refused by the same number
-pub number-by-fault : (k : Kind) (b c : List ℕ) → Framed k b → Framed k c → faultOf k c ≡ faultOf k b → bodyNumber (readBody c) ≡ bodyNumber (readBody b)
-unfolding judged
-number-by-fault k b c w v e =
-    rw (read-framed k c v, read-framed k b w, e)
-    (pick-map bodyNumber (eqb (faultOf k b) 0) (decoded k c) (Body.Refused (refusal 4))
-    ∙ (ap (λ (n : ℕ). pick (eqb (faultOf k b) 0) n 4) (decoded-number k b c) ∙ sym (pick-map bodyNumber (eqb (faultOf k b) 0) (decoded k b) (Body.Refused (refusal 4)))))
+-- ---- what was judged
+-- a good body's fields are all in range; a bad one is bad where it is said to be
+abbrev pub JudgedAs : Judged → List ℕ → Type 0
+JudgedAs Judged.Good b = (framed b ≡ true) × AllHold (shapes (kindOf (getD b 0 0))) (tests (kindOf (getD b 0 0))) (fieldsIn (kindOf (getD b 0 0)) b)
+JudgedAs (Judged.Bad f) b = BadBody b f
 
+pub judge-sound : (b : List ℕ) → JudgedAs (judgeBody b) b
+unfolding judgeBody ranged faultOf
+judge-sound b =
+    let k : Kind = kindOf (getD b 0 0) in
+    pick-ind (λ r. JudgedAs r b) (framed b) (ranged k b) (Judged.Bad (badAt 3 0))
+    (λ e.
+    pick-ind (λ r. JudgedAs r b) (eqb (faultOf k b) 0) Judged.Good (Judged.Bad (badAt 4 (faultOf k b)))
+    (λ z. (e, held k b (eqb-true (faultOf k b) 0 z)))
+    (λ z. inr (refl, record { whole = e; first = fault-first (shapes k) (tests k) (fieldsIn k b) 1 (eqb-false (faultOf k b) 0 z) })))
+    (λ e. inl (refl, refl, e))
+
+-- ---- what was read
 pub read-sound : (b : List ℕ) → Sound (readBody b) b
-unfolding readBody
-read-sound b =
-    pick-ind (λ r. Sound r b) (framed b) (judged (kindOf (getD b 0 0)) b) (Body.Refused (refusal 3))
-    (λ e. judged-sound (kindOf (getD b 0 0)) b (framed-is b e))
-    (λ e. inl refl)
+unfolding readBody message
+read-sound b = go (judgeBody b) (judge-sound b)
+  where
+    go : (r : Judged) → JudgedAs r b → Sound (message r b) b
+    go Judged.Good h = decoded-sound (kindOf (getD b 0 0)) b (framed-is b (h .0)) (h .1)
+    go (Judged.Bad f) h = h
+
+-- what is decoded of a framed body is no refusal
+decoded-none : (k : Kind) (b : List ℕ) → Framed k b → bodyNumber (decoded k b) ≡ 0
+unfolding decoded
+decoded-none Kind.SystemTime b w = refl
+decoded-none Kind.SymbolUpdate b w = refl
+decoded-none Kind.SystemState b w = refl
+decoded-none Kind.TradingStatus b w = refl
+decoded-none Kind.SymbolClear b w = refl
+decoded-none Kind.Add b w = refl
+decoded-none Kind.Modify b w = refl
+decoded-none Kind.Delete b w = refl
+decoded-none Kind.Execution b w = refl
+decoded-none Kind.Trade b w = refl
+decoded-none Kind.TradeCancel b w = refl
+decoded-none Kind.Unknown b w = absurd (no-kind b w)
+
+-- so judging and reading tell one number
+pub judge-number : (b : List ℕ) → judgedNumber (judgeBody b) ≡ bodyNumber (readBody b)
+unfolding readBody message
+judge-number b = go (judgeBody b) (judge-sound b)
+  where
+    go : (r : Judged) → JudgedAs r b → judgedNumber r ≡ bodyNumber (message r b)
+    go Judged.Good h = sym (decoded-none (kindOf (getD b 0 0)) b (framed-is b (h .0)))
+    go (Judged.Bad f) h = refl
 
 -- a length that is above 0 and 0 is none
 no-such : (n : ℕ) → both (ltb 0 n) (eqb n 0) ≡ false
@@ -171,8 +218,8 @@ no-such zero = refl
 no-such (suc n) = rw (lt-ltb 0 (suc n) (omega arith), ne-eqb (suc n) 0 (λ e. omega arith)) refl
 
 -- "giving the message kind or refusal 3": where the type byte gives 3, the body is refused so, whatever its length
-pub type-refused : (b : List ℕ) → refusalOf (kindOf (getD b 0 0)) ≡ 3 → readBody b ≡ Body.Refused (refusal 3)
-unfolding readBody framed pick
+pub type-refused : (b : List ℕ) → refusalOf (kindOf (getD b 0 0)) ≡ 3 → readBody b ≡ Body.Bad (badAt 3 0)
+unfolding readBody judgeBody message framed pick
 type-refused b h = rw (no-length (getD b 0 0) h, no-such (length b))
 
 -- a good body has 1 byte or more and at most as many as an entry: those that its type has
@@ -182,18 +229,19 @@ pub record BodyFits (b : List ℕ) : Type 0 where
   pub of-type : length b ≡ lengthOf (getD b 0 0)
 
 -- a body that is not refused is framed
-number-framed : (b : List ℕ) → bodyNumber (readBody b) ≡ 0 → framed b ≡ true
-unfolding readBody
-number-framed b = pick-ind (λ r. bodyNumber r ≡ 0 → framed b ≡ true) (framed b) (judged (kindOf (getD b 0 0)) b) (Body.Refused (refusal 3)) (λ e h. e) (λ e h. absurd (omega arith))
+good-judged : (r : Judged) (b : List ℕ) → JudgedAs r b → judgedNumber r ≡ 0 → framed b ≡ true
+good-judged Judged.Good b h z = h .0
+good-judged (Judged.Bad f) b (inl h) z = absurd (omega (arith, h .0))
+good-judged (Judged.Bad f) b (inr h) z = absurd (omega (arith, h .0))
 
 pub good-framed : (b : List ℕ) → goodBody b ≡ true → framed b ≡ true
 unfolding goodBody
-good-framed b h = number-framed b (eqb-true (bodyNumber (readBody b)) 0 h)
+good-framed b h = good-judged (judgeBody b) b (judge-sound b) (eqb-true (judgedNumber (judgeBody b)) 0 h)
 
-number-fits : (b : List ℕ) → bodyNumber (readBody b) ≡ 0 → BodyFits b
+pub good-fits : (b : List ℕ) → goodBody b ≡ true → BodyFits b
 unfolding framed
-number-fits b h =
-    let e = number-framed b h in
+good-fits b h =
+    let e = good-framed b h in
     let w = framed-is b e in
     record {
       some = w .some;
@@ -201,39 +249,33 @@ number-fits b h =
       of-type = eqb-true (length b) (lengthOf (getD b 0 0)) (both-true {a = ltb 0 (length b)} {b = eqb (length b) (lengthOf (getD b 0 0))} e .1);
     }
 
-pub good-fits : (b : List ℕ) → goodBody b ≡ true → BodyFits b
+-- what is judged is good, or bad by 3 or 4
+pub data Judgement (b : List ℕ) : Type 0 where
+  good : judgeBody b ≡ Judged.Good → goodBody b ≡ true → bodyNumber (readBody b) ≡ 0 → Judgement b
+  bad : (f : Fault) → judgeBody b ≡ Judged.Bad f → goodBody b ≡ false → BadBody b f → Judgement b
+
+pub judgement : (b : List ℕ) → Judgement b
 unfolding goodBody
-good-fits b h = number-fits b (eqb-true (bodyNumber (readBody b)) 0 h)
-
--- the number of an answer is 0, 3 or 4
-told : (m : Body) (b : List ℕ) → Sound m b → (bodyNumber m ≡ 0) ⊎ ((bodyNumber m ≡ 3) ⊎ (bodyNumber m ≡ 4))
-told (Body.SystemTime n) b s = inl refl
-told Body.SymbolUpdate b s = inl refl
-told Body.SystemState b s = inl refl
-told (Body.TradingStatus m) b s = inl refl
-told (Body.SymbolClear m) b s = inl refl
-told (Body.Add m) b s = inl refl
-told (Body.Modify m) b s = inl refl
-told (Body.Delete m) b s = inl refl
-told (Body.Execution m) b s = inl refl
-told (Body.Trade m) b s = inl refl
-told (Body.TradeCancel m) b s = inl refl
-told (Body.Refused r) b (inl e) = inr (inl (ap (λ x. x .number) e))
-told (Body.Refused r) b (inr e) = inr (inr (ap (λ x. x .number) e))
-
-pub numbers : (b : List ℕ) → (bodyNumber (readBody b) ≡ 0) ⊎ ((bodyNumber (readBody b) ≡ 3) ⊎ (bodyNumber (readBody b) ≡ 4))
-numbers b = told (readBody b) b (read-sound b)
+judgement b = go (judgeBody b) refl (judge-sound b)
+  where
+    go : (r : Judged) → judgeBody b ≡ r → JudgedAs r b → Judgement b
+    go Judged.Good e h = good e (rw e refl) (sym (judge-number b) ∙ ap judgedNumber e)
+    go (Judged.Bad f) e (inl h) = bad f e (rw (e, h .0) refl) (inl h)
+    go (Judged.Bad f) e (inr h) = bad f e (rw (e, h .0) refl) (inr h)
 
 pub number-good : (b : List ℕ) → bodyNumber (readBody b) ≡ 0 → goodBody b ≡ true
 unfolding goodBody
-number-good b e = eq-eqb (bodyNumber (readBody b)) 0 e
+number-good b e = eq-eqb (judgedNumber (judgeBody b)) 0 (judge-number b ∙ e)
+
+pub bad-number : (b : List ℕ) → goodBody b ≡ false → bodyNumber (readBody b) ≡ 0 → ⊥
+unfolding goodBody
+bad-number b h e = eqb-false (judgedNumber (judgeBody b)) 0 h (judge-number b ∙ e)
 
 -- any bytes are a good body or refused by 3 or 4, and never both
 pub good-or-refused : (b : List ℕ) → ((goodBody b ≡ true) × (bodyNumber (readBody b) ≡ 0)) ⊎ ((goodBody b ≡ false) × ((bodyNumber (readBody b) ≡ 3) ⊎ (bodyNumber (readBody b) ≡ 4)))
-unfolding goodBody
-good-or-refused b = go (numbers b)
+good-or-refused b = go (judgement b)
   where
-    go : (bodyNumber (readBody b) ≡ 0) ⊎ ((bodyNumber (readBody b) ≡ 3) ⊎ (bodyNumber (readBody b) ≡ 4)) → ((goodBody b ≡ true) × (bodyNumber (readBody b) ≡ 0)) ⊎ ((goodBody b ≡ false) × ((bodyNumber (readBody b) ≡ 3) ⊎ (bodyNumber (readBody b) ≡ 4)))
-    go (inl e) = inl (number-good b e, e)
-    go (inr (inl e)) = inr (rw e refl, inl e)
-    go (inr (inr e)) = inr (rw e refl, inr e)
+    go : Judgement b → ((goodBody b ≡ true) × (bodyNumber (readBody b) ≡ 0)) ⊎ ((goodBody b ≡ false) × ((bodyNumber (readBody b) ≡ 3) ⊎ (bodyNumber (readBody b) ≡ 4)))
+    go (good e g z) = inl (g, z)
+    go (bad f e g (inl h)) = inr (g, inl (sym (judge-number b) ∙ (ap judgedNumber e ∙ h .0)))
+    go (bad f e g (inr h)) = inr (g, inr (sym (judge-number b) ∙ (ap judgedNumber e ∙ h .0)))

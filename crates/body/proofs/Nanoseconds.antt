@@ -16,13 +16,14 @@ use Rattle.layout.specs.Layout.{shapes}
 use Rattle.layout.proofs.Laws.{cut-behind}
 use Rattle.kinds.specs.Table.{kindOf}
 use Rattle.kinds.specs.declared.Kind.{Kind}
-use Rattle.fields.specs.Fields.{refusal, decoded}
+use Rattle.fields.specs.Fields.{badAt, decoded}
 use Rattle.fields.specs.declared.Body.{Body}
 use Rattle.body.specs.Ranges.{nanosOk}
 use Rattle.body.specs.Faults.{Tests, tests, faultFrom, faultOf}
-use Rattle.body.specs.Read.{framed, judged, readBody, goodBody}
+use Rattle.body.specs.Read.{framed, ranged, judgeBody, judgedNumber, message, readBody, goodBody}
+use Rattle.body.specs.declared.Judged.{Judged}
 use Rattle.body.specs.Nanoseconds.{carriesStamp, stamped, stampOf, PastSecond, Restamped}
-use Rattle.body.proofs.Laws.{Framed, framed-is, read-framed, number-by-fault, good-framed}
+use Rattle.body.proofs.Laws.{Framed, framed-is, judge-framed, judge-by-fault, good-framed}
 
 -- fields of which the first is a Timestamp, with the range of one
 data Stamp : (ss : List Shape) → Tests ss → Type 0 where
@@ -52,22 +53,26 @@ rest-decides : (ss : List Shape) (ts : Tests ss) → Stamp ss ts → (b c : List
 unfolding faultFrom nanosOk pick
 rest-decides _ _ (stamp ss ts) b c l m e = rw (le-leb (stampOf b) mostNanos l, le-leb (stampOf c) mostNanos m) (ap (λ (vs : Values ss). faultFrom ss ts vs 5) (cut-behind ss c b 5 e))
 
--- it lies before every other field, so it is the earliest fault wherever it is one: byte 1, which "and its offset" will show (request 5)
+-- it lies before every other field, so it is the earliest fault wherever it is one: byte 1
 pub earliest : (k : Kind) (b : List ℕ) → carriesStamp k ≡ true → mostNanos < stampOf b → faultOf k b ≡ 1
 unfolding faultOf
 earliest k b c l = first-fault (shapes k) (tests k) (stamp-of k c) b l
 
--- "Larger is refused with 4"
-pub past-refused : (b : List ℕ) → PastSecond b → readBody b ≡ Body.Refused (refusal 4)
-unfolding judged pick
-past-refused b p =
+-- "Larger is refused with 4 and its offset"
+pub past-judged : (b : List ℕ) → PastSecond b → judgeBody b ≡ Judged.Bad (badAt 4 1)
+unfolding ranged pick
+past-judged b p =
     let k : Kind = kindOf (getD b 0 0) in
-    read-framed k b (framed-is b (p .whole)) ∙ rw (earliest k b (p .carries) (p .larger)) refl
+    judge-framed k b (framed-is b (p .whole)) ∙ rw (earliest k b (p .carries) (p .larger)) refl
+
+pub past-refused : (b : List ℕ) → PastSecond b → readBody b ≡ Body.Bad (badAt 4 1)
+unfolding readBody message
+past-refused b p = ap (λ (r : Judged). message r b) (past-judged b p)
 
 -- and so it is no good body
 pub past-bad : (b : List ℕ) → PastSecond b → goodBody b ≡ false
 unfolding goodBody
-past-bad b p = rw (past-refused b p) refl
+past-bad b p = rw (past-judged b p) refl
 
 -- "The largest good value is 999,999,999, in every message that carries the field"
 pub largest : (b : List ℕ) → goodBody b ≡ true → stamped b ≡ true → stampOf b ≤ mostNanos
@@ -94,7 +99,7 @@ module _ (b c : List ℕ) (r : Restamped b c) where
       let w : Framed k b = framed-is b (good-framed b g) in
       let v : Framed k c = subst (λ (x : Kind). Framed x c) kind-kept (framed-is c (framed-kept ∙ good-framed b g)) in
       let same : faultOf k c ≡ faultOf k b = rest-decides (shapes k) (tests k) (stamp-of k s) b c (largest b g s) l (r .behind-kept) in
-      ap (λ (n : ℕ). eqb n 0) (number-by-fault k b c w v same) ∙ g
+      ap (λ (r : Judged). eqb (judgedNumber r) 0) (judge-by-fault k b c w v same) ∙ g
 
 -- and every value up to it is good: with another Timestamp a good message is good exactly where that is in range
 pub stamp-alone : (b c : List ℕ) → goodBody b ≡ true → stamped b ≡ true → Restamped b c → goodBody c ≡ nanosOk (stampOf c)
@@ -111,5 +116,5 @@ stamp-alone b c g s r = go (decLt mostNanos (stampOf c))
 
 -- a System Time has seconds in that place: whatever they are, it is good
 pub any-second : (b : List ℕ) → framed b ≡ true → kindOf (getD b 0 0) ≡ Kind.SystemTime → goodBody b ≡ true
-unfolding goodBody judged decoded faultOf faultFrom pick
-any-second b w e = rw (read-framed Kind.SystemTime b (subst (λ (x : Kind). Framed x b) e (framed-is b w))) refl
+unfolding goodBody ranged faultOf faultFrom pick
+any-second b w e = rw (judge-framed Kind.SystemTime b (subst (λ (x : Kind). Framed x b) e (framed-is b w))) refl

@@ -14,14 +14,14 @@ use Rattle.wire.specs.Le.{field}
 use Rattle.wire.proofs.Laws.{field-same}
 use Rattle.kinds.specs.declared.Kind.{Kind}
 use Rattle.layout.proofs.Laws.{tiles}
-use Rattle.fields.specs.Fields.{modifyOf, refusal, decoded, bodyNumber}
+use Rattle.fields.specs.Fields.{modifyOf, badAt, decoded, bodyNumber}
 use Rattle.fields.specs.declared.ModifyOrder.{ModifyOrder}
 use Rattle.fields.specs.declared.Body.{Body}
 use Rattle.body.specs.Ranges.{nanosOk, priceOk, sizeOk}
 use Rattle.body.specs.Faults.{faultFrom, faultOf}
-use Rattle.body.specs.Read.{judged, readBody, goodBody}
+use Rattle.body.specs.Read.{judgeBody, readBody, goodBody}
 use Rattle.body.specs.Undefined.{flagged, withFlags, OnlyBits}
-use Rattle.body.proofs.Laws.{Framed, Sound, read-framed, read-sound, number-by-fault, number-good}
+use Rattle.body.proofs.Laws.{Framed, Sound, read-framed, read-sound, judge-by-fault, number-good}
 
 -- a Modify reaches to its flags
 modify-long : (b : List ℕ) → Framed Kind.Modify b → 29 < length b
@@ -57,13 +57,13 @@ module _ (b : List ℕ) (x : ℕ) where
         flags = getD-set-same b 29 x 0 l i;
       }
 
-  -- "the field range for flags is struck out": whatever they are, a body of that type and length is good or refused by the same number
-  pub flags-unjudged : Framed Kind.Modify b → bodyNumber (readBody (flagged b x)) ≡ bodyNumber (readBody b)
-  flags-unjudged w = number-by-fault Kind.Modify b (flagged b x) w (flagged-framed w) fault-kept
+  -- "the field range for flags is struck out": whatever they are, a body of that type and length is good, or bad by the same number at the same place
+  pub flags-unjudged : Framed Kind.Modify b → judgeBody (flagged b x) ≡ judgeBody b
+  flags-unjudged w = judge-by-fault Kind.Modify b (flagged b x) w (flagged-framed w) fault-kept
 
   -- and a good one is the same message but for them
   pub any-flags : (m : ModifyOrder) → readBody b ≡ Body.Modify m → readBody (flagged b x) ≡ Body.Modify (withFlags m x)
-  unfolding judged decoded pick
+  unfolding decoded pick
   any-flags m h = go (eqb (faultOf Kind.Modify b) 0) refl
     where
       w : Sound (Body.Modify m) b
@@ -72,7 +72,7 @@ module _ (b : List ℕ) (x : ℕ) where
       go : (t : Bool) → eqb (faultOf Kind.Modify b) 0 ≡ t → readBody (flagged b x) ≡ Body.Modify (withFlags m x)
       go true e = read-framed Kind.Modify (flagged b x) (flagged-framed (w .0)) ∙ rw (fault-kept, e, fields-kept (modify-long b (w .0)), w .1) refl
       go false e =
-          let q : Body.Refused (refusal 4) ≡ Body.Modify m = sym (rw e at (read-framed Kind.Modify b (w .0))) ∙ h in
+          let q : Body.Bad (badAt 4 (faultOf Kind.Modify b)) ≡ Body.Modify m = sym (rw e at (read-framed Kind.Modify b (w .0))) ∙ h in
           cc
 
 -- the flags of a good Modify are its byte 29

@@ -1,5 +1,6 @@
 pub mod Ranges
 pub mod Faults
 pub mod Read
+pub mod Places
 pub mod Undefined
 pub mod Nanoseconds

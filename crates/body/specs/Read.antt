@@ -1,4 +1,4 @@
--- What reading a body finds (document 01, "a body is good when its length is that type's and its fields are in range").
+-- What judging and reading a body find (document 01, "a body is good when its length is that type's and its fields are in range"), and at which of its bytes (request 5).
 use Prim.Native.Nat.{ℕ}
 use mathlib.Core.List.{List}
 use mathlib.Core.Bool.{Bool}
@@ -7,22 +7,37 @@ use lib.Dec.{eqb, ltb}
 use Rattle.facts.specs.Pick.{pick, both}
 use Rattle.kinds.specs.Table.{lengthOf, kindOf}
 use Rattle.kinds.specs.declared.Kind.{Kind}
-use Rattle.fields.specs.Fields.{refusal, decoded, bodyNumber}
+use Rattle.fields.specs.Fields.{badAt, decoded}
 use Rattle.fields.specs.declared.Body.{Body}
 use Rattle.body.specs.Faults.{faultOf}
+use Rattle.body.specs.declared.Judged.{Judged}
 
 -- else 3: "no such type, an empty body, or not that type's length"
 unfoldable pub framed : List ℕ → Bool
 framed b = both (ltb 0 (length b)) (eqb (length b) (lengthOf (getD b 0 0)))
 
--- else 4: "a field out of range"
-unfoldable pub judged : Kind → List ℕ → Body
-judged k b = pick (eqb (faultOf k b) 0) (decoded k b) (Body.Refused (refusal 4))
+-- else 4, "a field out of range": at "the first byte of the earliest bad field by offset"
+unfoldable pub ranged : Kind → List ℕ → Judged
+ranged k b = pick (eqb (faultOf k b) 0) Judged.Good (Judged.Bad (badAt 4 (faultOf k b)))
+
+-- 3, at "the body's start or, for an empty body, the place where it would start"; then 4
+unfoldable pub judgeBody : List ℕ → Judged
+judgeBody b = pick (framed b) (ranged (kindOf (getD b 0 0)) b) (Judged.Bad (badAt 3 0))
+
+-- document 01's number of each, 0 for a good body
+abbrev pub judgedNumber : Judged → ℕ
+judgedNumber Judged.Good = 0
+judgedNumber (Judged.Bad f) = f .number
+
+-- what is judged good is decoded, and nothing else is
+unfoldable pub message : Judged → List ℕ → Body
+message Judged.Good b = decoded (kindOf (getD b 0 0)) b
+message (Judged.Bad f) b = Body.Bad f
 
 -- the message, or 3, then 4
 unfoldable pub readBody : List ℕ → Body
-readBody b = pick (framed b) (judged (kindOf (getD b 0 0)) b) (Body.Refused (refusal 3))
+readBody b = message (judgeBody b) b
 
 -- a good body is one that is not refused
 unfoldable pub goodBody : List ℕ → Bool
-goodBody b = eqb (bodyNumber (readBody b)) 0
+goodBody b = eqb (judgedNumber (judgeBody b)) 0

@@ -1,6 +1,6 @@
-// Reads one message body: the table frames it, the ranges judge it, and then it is decoded.
+// Judges one message body and reads it, in two calls: the table frames it and the ranges judge it; a good one is decoded.
 use fields::Body;
-use fields::Refusal;
+use fields::Fault;
 use kinds::Kind;
 ghost use mathlib.Core.Path.{_≡_};
 ghost use Prim.Native.Nat.{_+_};
@@ -9,7 +9,13 @@ ghost use Rattle.facts.specs.Pick.{pick, both};
 ghost use Rattle.wire.specs.Le.{field};
 ghost use Rattle.body.specs.Ranges.{nanosOk, sideOk, priceOk, sizeOk, testOk, marketOk};
 ghost use Rattle.body.specs.Faults.{faultOf};
-ghost use Rattle.body.specs.Read.{readBody};
+ghost use Rattle.body.specs.Read.{judgeBody, readBody};
+
+// A good body, or why and where it is bad.
+pub enum Judged {
+    Good,
+    Bad(Fault),
+}
 
 pub fn nanos_ok(n: u32) -> bool
     ensures { λ r. ⌜ r ≡ nanosOk n ⌝ }
@@ -124,21 +130,31 @@ fn fault(k: Kind, b: &[u8]) -> usize
     }
 }
 
-// The message that a body says, or 3, then 4.
-pub fn read_body(b: &[u8]) -> Body
-    ensures { λ r. ⌜ r ≡ readBody (now (b .entry)) ⌝ }
+// Judges a body, and decodes nothing: 3 at its start, then 4 at the earliest field out of range.
+pub fn judge_body(b: &[u8]) -> Judged
+    ensures { λ r. ⌜ r ≡ judgeBody (now (b .entry)) ⌝ }
 {
     if b.len() == 0 {
-        return Body::Refused(Refusal { number: 3 });
+        return Judged::Bad(Fault { number: 3, at: 0 });
     }
     let t = b[0];
     if b.len() != kinds::length_of(t) {
-        return Body::Refused(Refusal { number: 3 });
+        return Judged::Bad(Fault { number: 3, at: 0 });
     }
-    let k = kinds::kind_of(t);
-    if fault(k, b) == 0 {
-        fields::decode(k, b)
+    let at = fault(kinds::kind_of(t), b);
+    if at == 0 {
+        Judged::Good
     } else {
-        Body::Refused(Refusal { number: 4 })
+        Judged::Bad(Fault { number: 4, at })
+    }
+}
+
+// The message that a good body says, or why and where it is bad.
+pub fn read_body(b: &[u8]) -> Body
+    ensures { λ r. ⌜ r ≡ readBody (now (b .entry)) ⌝ }
+{
+    match judge_body(b) {
+        Judged::Bad(f) => Body::Bad(f),
+        Judged::Good => fields::decode(kinds::kind_of(wire::u8_at(b, 0)), b),
     }
 }

@@ -56,7 +56,7 @@ movedBy Body.SystemState order shares = moved 0 0 0
 movedBy (Body.TradingStatus m) order shares = moved 0 0 0
 movedBy (Body.Trade m) order shares = moved 0 0 0
 movedBy (Body.TradeCancel m) order shares = moved 0 0 0
-movedBy (Body.Refused r) order shares = moved 0 0 0
+movedBy (Body.Bad r) order shares = moved 0 0 0
 
 -- the order that a message names; 0 where it names none
 abbrev pub orderOf : Body → ℕ
@@ -71,7 +71,7 @@ orderOf Body.SystemState = 0
 orderOf (Body.TradingStatus m) = 0
 orderOf (Body.Trade m) = 0
 orderOf (Body.TradeCancel m) = 0
-orderOf (Body.Refused r) = 0
+orderOf (Body.Bad r) = 0
 
 -- ---- the shares of a symbol, before (x) and after (y) a message of symbol own
 abbrev pub Balanced : ℕ → ℕ → ℕ → ℕ → Moved → Type 0

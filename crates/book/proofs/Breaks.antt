@@ -15,7 +15,7 @@ use Rattle.fields.specs.declared.AddOrder.{AddOrder}
 use Rattle.fields.specs.declared.ModifyOrder.{ModifyOrder}
 use Rattle.fields.specs.declared.DeleteOrder.{DeleteOrder}
 use Rattle.fields.specs.declared.OrderExecution.{OrderExecution}
-use Rattle.fields.specs.declared.Refusal.{Refusal}
+use Rattle.fields.specs.declared.Fault.{Fault}
 use Rattle.body.specs.Read.{readBody}
 use Rattle.rows.specs.declared.Row.{Row}
 use Rattle.rows.specs.declared.Held.{Held}
@@ -44,7 +44,7 @@ pub data Breaks : Body → ℕ → Type 0 where
   above : (m : OrderExecution) → Breaks (Body.Execution m) 24
   no-row : (m : AddOrder) → Breaks (Body.Add m) 25
   no-entry : Breaks Body.SymbolUpdate 26
-  no-body : (r : Refusal) → Breaks (Body.Refused r) 27
+  no-body : (r : Fault) → Breaks (Body.Bad r) 27
 
 -- ---- each guard: it stopped the plan, or what stands behind it did
 never-stops : {B : Type 0} {w : Works} {n : ℕ} → Go w ≡ Stop n → B
@@ -107,7 +107,7 @@ module _ (n : ℕ) (b : List ℕ) (c : Clock) (f : Finds) (q : ℕ) where
   group-breaks update h = update-stop (Breaks Body.SymbolUpdate) q c _ no-entry h
   group-breaks (names x) h = names-breaks x h
   group-breaks (other x) h = never-stops (sym (other-idle n b c f x) ∙ h)
-  group-breaks (refused r) h = subst (Breaks (Body.Refused r)) (same-stop h) (no-body r)
+  group-breaks (refused r) h = subst (Breaks (Body.Bad r)) (same-stop h) (no-body r)
 
 -- "Each rule is tried in the order given, and the first broken one counts": a message that breaks one breaks one of its own
 pub breaks : (n : ℕ) (b : List ℕ) (k : Book) → (applied n b k .rule ≡ 0 → ⊥) → Breaks (readBody b) (applied n b k .rule)

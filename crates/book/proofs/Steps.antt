@@ -8,7 +8,6 @@ use mathlib.Core.Logic.{_⊎_, inl, inr, ⊎-elim}
 use Prim.Native.Nat.{ℕ, _≤_}
 use native.Mathlib.Omega.{arith}
 use lib.ListN.{length}
-use borrow.Author.Tests.{eqb-false}
 use Rattle.facts.specs.declared.Found.{Found}
 use Rattle.facts.specs.declared.Found.the-variants.{At, Nothing}
 use Rattle.facts.proofs.Picks.{upheld}
@@ -22,8 +21,9 @@ use Rattle.fields.specs.declared.DeleteOrder.{DeleteOrder}
 use Rattle.fields.specs.declared.OrderExecution.{OrderExecution}
 use Rattle.fields.specs.declared.Trade.{Trade}
 use Rattle.fields.specs.declared.TradeCancel.{TradeCancel}
-use Rattle.fields.specs.declared.Refusal.{Refusal}
+use Rattle.fields.specs.declared.Fault.{Fault}
 use Rattle.body.specs.Read.{readBody, goodBody}
+use Rattle.body.proofs.Laws.{bad-number}
 use Rattle.symbols.specs.declared.EntryWork.{EntryWork}
 use Rattle.symbols.specs.Entries.{entries, idOf}
 use Rattle.symbols.specs.Find.{knownSymbol}
@@ -95,7 +95,7 @@ pub data Group : Body → Type 0 where
   update : Group Body.SymbolUpdate
   names : {m : Body} {s : ℕ} → Names m s → Group m
   other : {m : Body} → Other m → Group m
-  refused : (r : Refusal) → Group (Body.Refused r)
+  refused : (r : Fault) → Group (Body.Bad r)
 
 pub group-of : (m : Body) → Group m
 group-of (Body.SystemTime s) = time s
@@ -109,7 +109,7 @@ group-of Body.SystemState = other state
 group-of (Body.TradingStatus m) = other (status m)
 group-of (Body.Trade m) = other (trade m)
 group-of (Body.TradeCancel m) = other (cancel m)
-group-of (Body.Refused r) = refused r
+group-of (Body.Bad r) = refused r
 
 names-good : {m : Body} {s : ℕ} → Names m s → bodyNumber m ≡ 0
 names-good (clear m) = refl
@@ -280,8 +280,8 @@ module _ (n : ℕ) (b : List ℕ) (k : Book) where
 
   -- "no good body stops with 27"
   pub bad-body : goodBody b ≡ false → applied n b k .rule ≡ 27
-  unfolding goodBody carried
-  bad-body h = ap (λ o. o .rule) (sym (carried-by (Stop 27) n b k (sym (planned-by (readBody b) n b k refl) ∙ group-bad n b (k .clock) (scans k) (group-of (readBody b)) (eqb-false (bodyNumber (readBody b)) 0 h))))
+  unfolding carried
+  bad-body h = ap (λ o. o .rule) (sym (carried-by (Stop 27) n b k (sym (planned-by (readBody b) n b k refl) ∙ group-bad n b (k .clock) (scans k) (group-of (readBody b)) (bad-number b h))))
 
   pub rule-good : applied n b k .rule ≡ 0 → goodBody b ≡ true
   rule-good e = upheld (goodBody b) (λ g. omega (arith, bad-body g))

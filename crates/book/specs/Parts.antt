@@ -24,4 +24,4 @@ partOf (Body.TradingStatus m) = no-part
 partOf (Body.Trade m) = no-part
 partOf (Body.TradeCancel m) = no-part
 -- "no good body stops with 27"
-partOf (Body.Refused r) = no-part
+partOf (Body.Bad r) = no-part

@@ -130,4 +130,4 @@ planBy (Body.TradingStatus m) n b c f = idle c
 planBy (Body.Trade m) n b c f = idle c
 planBy (Body.TradeCancel m) n b c f = idle c
 -- "no good body stops with 27"
-planBy (Body.Refused r) n b c f = Stop 27
+planBy (Body.Bad r) n b c f = Stop 27

@@ -252,7 +252,7 @@ pub fn plan_of(orders: &[u64], symbols: &[u8], clock: Clock, number: u64, body: 
         Body::Execution(m) => on_execution(orders, symbols, clock, m),
         Body::Trade(_) => at_rest(clock),
         Body::TradeCancel(_) => at_rest(clock),
-        Body::Refused(_) => Plan::Stop(27),
+        Body::Bad(_) => Plan::Stop(27),
     }
 }
 

@@ -23,5 +23,5 @@ unfolding modifyOrder pick both le toLe field
     fields.decoded
     ranges.nanosOk ranges.priceOk ranges.sizeOk
     faults.faultFrom faults.faultOf
-    read.framed read.judged read.readBody
+    read.framed read.ranged read.judgeBody read.message read.readBody
 bits-met = record { modify = fields.modifyOf (modified bit0Clear); flags = 32; first = refl; second = refl; bit-0 = refl; differ = λ e. omega arith }

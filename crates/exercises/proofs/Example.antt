@@ -48,7 +48,7 @@ unfolding exercises.begins exercises.goesOn
     fields.decoded
     ranges.nanosOk ranges.oneOf ranges.sideOk ranges.priceOk ranges.sizeOk ranges.testOk ranges.marketOk
     faults.faultFrom faults.faultOf
-    read.framed read.judged read.readBody read.goodBody
+    read.framed read.ranged read.judgeBody read.message read.readBody read.goodBody
     head.numberOk head.bodyOf head.bodyJudged head.readRecord
     packet.before packet.behind packet.framesFrom packet.framing
     rows.rowOf rows.numbersOf rows.rows rows.putRow rows.zeroRow rows.free rows.live rows.goodRows

@@ -3,3 +3,4 @@ pub mod Example
 pub mod Witness
 pub mod Bits
 pub mod Nanoseconds
+pub mod Places

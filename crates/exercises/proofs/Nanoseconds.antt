@@ -34,7 +34,7 @@ unfolding messages.addOrder pick both either le toLe field
     fields.decoded
     ranges.nanosOk ranges.oneOf ranges.sideOk ranges.priceOk ranges.sizeOk
     faults.faultFrom faults.faultOf
-    read.framed read.judged read.readBody read.goodBody
+    read.framed read.ranged read.judgeBody read.message read.readBody read.goodBody
 last-good = refl
 
 pub past-met : PastSecond (buyAt 1000000000)
@@ -50,7 +50,7 @@ unfolding messages.numbered messages.systemTime messages.addOrder pick both le t
     kinds.table kinds.lookup kinds.lengthOf kinds.kindOf
     fields.decoded
     faults.faultFrom faults.faultOf
-    read.framed read.judged read.readBody
+    read.framed read.ranged read.judgeBody
     head.numberOk head.bodyOf head.bodyJudged head.readRecord
 past-in-met =
     record {

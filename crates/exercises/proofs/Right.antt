@@ -45,7 +45,7 @@ all-there = refl
 -- the one test, of the whole table
 pub all-right : exercises.tableAnswers table ≡ exercises.tableResults table
 unfolding table
-    exercises.begins exercises.goesOn exercises.ofAccount exercises.differ exercises.changes exercises.rankIn exercises.rankOf exercises.together exercises.aheadIn exercises.aheadOf
+    exercises.begins exercises.goesOn exercises.ofAccount exercises.placeOf exercises.differ exercises.changes exercises.rankIn exercises.rankOf exercises.together exercises.aheadIn exercises.aheadOf
     exercises.signed exercises.ofSpread exercises.answerTo exercises.answers exercises.known exercises.tableAnswers exercises.tableResults
     messages.numbered messages.systemTime messages.symbolUpdate messages.addOrder messages.modifyOrder messages.execution messages.example messages.ofExample messages.wholeExample
     pick both either first cut pieces join putPiece sumBy onlyIf countBy le toLe field padded
@@ -53,7 +53,7 @@ unfolding table
     fields.decoded
     ranges.nanosOk ranges.oneOf ranges.sideOk ranges.priceOk ranges.sizeOk ranges.testOk ranges.marketOk
     faults.faultFrom faults.faultOf
-    read.framed read.judged read.readBody read.goodBody
+    read.framed read.ranged read.judgeBody read.message read.readBody read.goodBody
     head.numberOk head.bodyOf head.bodyJudged head.readRecord
     packet.before packet.behind packet.framesFrom packet.framing
     rows.rowOf rows.numbersOf rows.rows rows.putRow rows.zeroRow rows.free rows.live rows.goodRows

@@ -54,7 +54,7 @@ unfolding messages.systemTime messages.symbolUpdate messages.addOrder messages.e
     fields.decoded
     ranges.nanosOk ranges.oneOf ranges.sideOk ranges.priceOk ranges.sizeOk ranges.testOk ranges.marketOk
     faults.faultFrom faults.faultOf
-    read.framed read.judged read.readBody read.goodBody
+    read.framed read.ranged read.judgeBody read.message read.readBody read.goodBody
 all-good zero h = refl
 all-good (suc zero) h = refl
 all-good (suc (suc zero)) h = refl
@@ -70,7 +70,7 @@ unfolding messages.numbered messages.systemTime messages.symbolUpdate messages.a
     fields.decoded
     ranges.nanosOk ranges.oneOf ranges.sideOk ranges.priceOk ranges.sizeOk ranges.testOk ranges.marketOk
     faults.faultFrom faults.faultOf
-    read.framed read.judged read.readBody read.goodBody
+    read.framed read.ranged read.judgeBody read.message read.readBody read.goodBody
     head.numberOk head.bodyOf head.bodyJudged head.readRecord
     packet.before packet.behind packet.framesFrom packet.framing
     theory.accepted
@@ -107,7 +107,7 @@ unfolding all-taken messages.numbered messages.systemTime messages.symbolUpdate 
     fields.decoded
     ranges.nanosOk ranges.oneOf ranges.sideOk ranges.priceOk ranges.sizeOk ranges.testOk ranges.marketOk
     faults.faultFrom faults.faultOf
-    read.framed read.judged read.readBody read.goodBody
+    read.framed read.ranged read.judgeBody read.message read.readBody read.goodBody
     head.numberOk head.bodyOf head.bodyJudged head.readRecord
     packet.before packet.behind packet.framesFrom packet.framing
     keys.sideOf rows.rowOf rows.numbersOf rows.rows rows.putRow rows.zeroRow rows.free rows.live

@@ -28,8 +28,8 @@ use Rattle.receiver.specs.Lent.{stateNumbers, Lent, ordersOf, symbolsOf, shelfO
 pub data Ask : Type 0 where
   -- of its answer: how many records got 10, 11 and 12, how many messages were applied, the next number, the stop
   taken old tooFar applied next stop : Ask
-  -- its refusal, 0 for none
-  refused : Ask
+  -- its refusal, 0 for none, and the offset of the first byte at fault (request 5), where the refusal has one
+  refused badByte : Ask
   -- how many of order table, symbol table, shelf and state it changed
   changed : Ask
   -- the rank of an order that is live then
@@ -97,6 +97,12 @@ goesOn w p = now (w .last .after) (received (w .last .after) p)
 unfoldable pub ofAccount : (Account → ℕ) → Received → Told
 ofAccount f (Received.Accepted a) = number (f a)
 ofAccount f (Received.Refused r) = refusal-by (r .number)
+ofAccount f (Received.Bad b) = refusal-by (b .number)
+
+unfoldable pub placeOf : Received → Told
+placeOf (Received.Accepted a) = nothing
+placeOf (Received.Refused r) = nothing
+placeOf (Received.Bad b) = number (b .at)
 
 unfoldable pub differ : List ℕ → List ℕ → ℕ
 differ s t = pick (sameBytes s t) 0 1
@@ -145,6 +151,7 @@ answerTo applied w = ofAccount (λ a. a .applied) (w .last .answer)
 answerTo next w = ofAccount (λ a. a .next) (w .last .answer)
 answerTo stop w = ofAccount (λ a. a .stop) (w .last .answer)
 answerTo refused w = number (receivedNumber (w .last .answer))
+answerTo badByte w = placeOf (w .last .answer)
 answerTo changed w = number (changes (w .was) (w .last .after))
 answerTo (rank order) w = rankOf order (rows (ordersOf (w .last .after)))
 answerTo (ahead a b) w = aheadOf a b (rows (ordersOf (w .last .after)))

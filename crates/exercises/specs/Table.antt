@@ -4,7 +4,7 @@
 use mathlib.Core.List.{List, [], _∷_, _++_}
 use lib.ListN.{replicate}
 use Rattle.exercises.specs.Messages.{numbered, systemTime, symbolUpdate, addOrder, modifyOrder, bit0Set, bit0Clear, execution, buy, sell, abc, ofExample, wholeExample}
-use Rattle.exercises.specs.Exercises.{Exercise, exercise, start, gets, _is_, _isMinus_, gone, result, nothing, taken, old, tooFar, applied, next, stop, refused, changed, rank, ahead, spread, price}
+use Rattle.exercises.specs.Exercises.{Exercise, exercise, start, gets, _is_, _isMinus_, gone, result, nothing, taken, old, tooFar, applied, next, stop, refused, badByte, changed, rank, ahead, spread, price}
 
 unfoldable pub table : List Exercise
 table =
@@ -78,15 +78,15 @@ table =
     ∷ start 1 1
     ∷ gets (ofExample (1 ∷ 2 ∷ 3 ∷ 4 ∷ [])) ∷ applied is 3 ∷ stop is 25
     ∷ [])
-    -- "a 9-byte packet: 2"
+    -- "a 9-byte packet: 2", at "the record's start" (request 5)
     ∷ exercise 11
     (start 4 1
-    ∷ gets (replicate 9 1) ∷ refused is 2 ∷ changed is 0
+    ∷ gets (replicate 9 1) ∷ refused is 2 ∷ badByte is 0 ∷ changed is 0
     ∷ [])
-    -- "a good record followed by a bad one: nothing is taken"; the bad one here has a price of 0, and the good one alone is taken afterwards
+    -- "a good record followed by a bad one: nothing is taken"; the bad one here has a price of 0, at byte 18 of a body that starts at 25, and the good one alone is taken afterwards
     ∷ exercise 12
     (start 4 1
-    ∷ gets (ofExample (1 ∷ []) ++ numbered 2 (addOrder 7 500 buy 0 100)) ∷ refused is 4 ∷ changed is 0
+    ∷ gets (ofExample (1 ∷ []) ++ numbered 2 (addOrder 7 500 buy 0 100)) ∷ refused is 4 ∷ badByte is 43 ∷ changed is 0
     ∷ gets (ofExample (1 ∷ [])) ∷ refused is 0 ∷ taken is 1
     ∷ [])
     ∷ []

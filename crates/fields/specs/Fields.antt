@@ -15,6 +15,7 @@ use Rattle.fields.specs.declared.TradeCancel.{TradeCancel}
 use Rattle.fields.specs.declared.Symbol.{Symbol}
 use Rattle.fields.specs.declared.SystemState.{SystemState}
 use Rattle.fields.specs.declared.Refusal.{Refusal}
+use Rattle.fields.specs.declared.Fault.{Fault}
 use Rattle.fields.specs.declared.Body.{Body}
 
 -- Security Trading Status (4.4).
@@ -60,6 +61,10 @@ stateOf b = readAs systemState b
 abbrev pub refusal : ℕ → Refusal
 refusal n = record { number = n }
 
+-- "Refusals 2 to 5 in reading shall also give the offset in the packet of the first byte at fault" (request 5); here in what was read
+abbrev pub badAt : ℕ → ℕ → Fault
+badAt n at = record { number = n; at = at }
+
 -- the message of a body of a kind, whether its fields are in range or not; System Time (4.1) is its seconds
 unfoldable pub decoded : Kind → List ℕ → Body
 decoded Kind.SystemTime b = Body.SystemTime (readAs systemTime b)
@@ -73,7 +78,7 @@ decoded Kind.Delete b = Body.Delete (deleteOf b)
 decoded Kind.Execution b = Body.Execution (executionOf b)
 decoded Kind.Trade b = Body.Trade (tradeOf b)
 decoded Kind.TradeCancel b = Body.TradeCancel (cancelOf b)
-decoded Kind.Unknown b = Body.Refused (refusal 3)
+decoded Kind.Unknown b = Body.Bad (badAt 3 0)
 
 -- document 01's number of each answer, 0 for a message
 abbrev pub bodyNumber : Body → ℕ
@@ -88,4 +93,4 @@ bodyNumber (Body.Delete m) = 0
 bodyNumber (Body.Execution m) = 0
 bodyNumber (Body.Trade m) = 0
 bodyNumber (Body.TradeCancel m) = 0
-bodyNumber (Body.Refused r) = r .number
+bodyNumber (Body.Bad f) = f .number

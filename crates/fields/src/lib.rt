@@ -1,7 +1,7 @@
 // The eleven messages as values: what stands where in a body (docs/MESSAGES.md). Decoding judges nothing; any bytes have fields.
 use kinds::Kind;
 ghost use mathlib.Core.Path.{_≡_};
-ghost use Rattle.fields.specs.Fields.{statusOf, clearOf, addOf, modifyOf, deleteOf, executionOf, tradeOf, cancelOf, symbolOf, stateOf, decoded, bodyNumber};
+ghost use Rattle.fields.specs.Fields.{statusOf, clearOf, addOf, modifyOf, deleteOf, executionOf, tradeOf, cancelOf, symbolOf, stateOf, decoded};
 
 // Security Trading Status (4.4).
 pub struct TradingStatus {
@@ -101,6 +101,12 @@ pub struct Refusal {
     pub number: u8,
 }
 
+// Why bytes that were read are refused, by 2 to 5: the number, and the offset of the first byte at fault in what was read.
+pub struct Fault {
+    pub number: u8,
+    pub at: usize,
+}
+
 // What a body says, or why it is refused. An enum holds no array, so the fields of a Symbol Update and of a System State stand
 // beside it: symbol_of and state_of.
 pub enum Body {
@@ -115,7 +121,7 @@ pub enum Body {
     Execution(OrderExecution),
     Trade(Trade),
     TradeCancel(TradeCancel),
-    Refused(Refusal),
+    Bad(Fault),
 }
 
 pub fn status_of(b: &[u8]) -> TradingStatus
@@ -261,26 +267,6 @@ pub fn decode(k: Kind, b: &[u8]) -> Body
         Kind::Execution => Body::Execution(execution_of(b)),
         Kind::Trade => Body::Trade(trade_of(b)),
         Kind::TradeCancel => Body::TradeCancel(cancel_of(b)),
-        Kind::Unknown => Body::Refused(Refusal { number: 3 }),
-    }
-}
-
-// The number of a refusal, 0 for a message.
-pub fn number_of(m: Body) -> u8
-    ensures { λ r. ⌜ r ≡ bodyNumber m ⌝ }
-{
-    match m {
-        Body::SystemTime(_) => 0,
-        Body::SymbolUpdate => 0,
-        Body::SystemState => 0,
-        Body::TradingStatus(_) => 0,
-        Body::SymbolClear(_) => 0,
-        Body::Add(_) => 0,
-        Body::Modify(_) => 0,
-        Body::Delete(_) => 0,
-        Body::Execution(_) => 0,
-        Body::Trade(_) => 0,
-        Body::TradeCancel(_) => 0,
-        Body::Refused(r) => r.number,
+        Kind::Unknown => Body::Bad(Fault { number: 3, at: 0 }),
     }
 }

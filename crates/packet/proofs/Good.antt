@@ -1,6 +1,6 @@
--- What those above know of a packet: its records one after the other, each good and within the packet, or one refusal of 1 to 5.
+-- What those above know of a packet: its records one after the other, each good and within the packet, or why it is refused: 1 alone, or one of 2 to 5 at a place within it.
 -- Assumes nothing.
-use mathlib.Core.Path.{_≡_, refl, ap, sym, _∙_}
+use mathlib.Core.Path.{_≡_, refl, ap, sym, subst, _∙_}
 use mathlib.Core.List.{List, [], _∷_}
 use mathlib.Core.Bool.{true}
 use mathlib.Core.Logic.{_⊎_, inl, inr}
@@ -16,47 +16,53 @@ use Rattle.facts.proofs.Picks.{pick-ind, pick-cases, both-true}
 use Rattle.wire.specs.Records.{Rec, bad, records}
 use Rattle.fields.specs.Fields.{refusal}
 use Rattle.fields.specs.declared.Refusal.{Refusal}
+use Rattle.fields.specs.declared.Fault.{Fault}
 use Rattle.packet.specs.Record.{headOf, recOf, readRecord, recordNumber}
-use Rattle.packet.specs.Packet.{Framing, before, behind, framesFrom, framing, told, readPacket, packetNumber}
+use Rattle.packet.specs.Packet.{Why, alone, placed, later, Framing, before, behind, framesFrom, framing, told, readPacket, packetNumber}
 use Rattle.packet.specs.declared.Head.{Head}
 use Rattle.packet.specs.declared.Record.{Record}
 use Rattle.packet.specs.declared.Packet.{Packet}
-use Rattle.packet.proofs.Laws.{GoodRec, Held, record-held, frames-step, frames-end}
+use Rattle.packet.proofs.Laws.{GoodRec, Held, record-held, record-within, frames-step, frames-end}
 
 -- every record of a list is good
 abbrev pub AllGood : List Rec → Type 0
 AllGood [] = Unit
 AllGood (c ∷ cs) = GoodRec c × AllGood cs
 
--- what is known of any framing
-abbrev pub Fine : Framing → Type 0
-Fine (bad r) = (1 ≤ r .number) × (r .number ≤ 5)
-Fine (records cs) = AllGood cs
+-- what is known of any framing of n bytes
+abbrev pub Fine : ℕ → Framing → Type 0
+Fine n (bad (alone r)) = r ≡ refusal 1
+Fine n (bad (placed f)) = (2 ≤ f .number) × (f .number ≤ 5) × (f .at ≤ n)
+Fine n (records cs) = AllGood cs
 
-before-fine : (c : Rec) (x : Framing) → GoodRec c → Fine x → Fine (before c x)
+before-fine : (m n : ℕ) (c : Rec) (x : Framing) → GoodRec c → Fine n x → Fine (m + n) (before m c x)
 unfolding before
-before-fine c (bad r) g f = f
-before-fine c (records cs) g f = (g, f)
+before-fine m n c (bad (alone r)) g f = f
+before-fine m n c (bad (placed w)) g f = (f .0, f .1, omega (arith, f .2))
+before-fine m n c (records cs) g f = (g, f)
 
-behind-fine : (rest : List ℕ → Framing) (t : List ℕ) (r : Record) → Held r t → ((s : List ℕ) → Fine (rest s)) → Fine (behind rest t r)
+behind-fine : (rest : List ℕ → Framing) (t : List ℕ) (r : Record) → Held r t → ((s : List ℕ) → Fine (length s) (rest s)) → Fine (length t) (behind rest t r)
 unfolding behind
-behind-fine rest t (Record.Good h) g f = before-fine (recOf t) (rest (drop (10 + h .len) t)) (g .2) (f (drop (10 + h .len) t))
-behind-fine rest t (Record.Refused r) g f = (omega arith, g .1)
+behind-fine rest t (Record.Good h) g f =
+    let s : List ℕ = drop (10 + h .len) t in
+    let all : 10 + h .len + length s ≡ length t = omega (arith, length-drop (10 + h .len) t, g .1) in
+    subst (λ (n : ℕ). Fine n (before (10 + h .len) (recOf t) (rest s))) all (before-fine (10 + h .len) (length s) (recOf t) (rest s) (g .2) (f s))
+behind-fine rest t (Record.Bad w) g f = let r = record-within t w g in (r .1, r .2, r .0)
 
-frames-fine : (f : ℕ) (t : List ℕ) → Fine (framesFrom f t)
+frames-fine : (f : ℕ) (t : List ℕ) → Fine (length t) (framesFrom f t)
 unfolding framesFrom
 frames-fine zero t = tt
 frames-fine (suc f) t =
-    pick-ind Fine (ltb 0 (length t)) (behind (framesFrom f) t (readRecord t)) (records [])
+    pick-ind (Fine (length t)) (ltb 0 (length t)) (behind (framesFrom f) t (readRecord t)) (records [])
     (λ _. behind-fine (framesFrom f) t (readRecord t) (record-held t) (frames-fine f))
     (λ _. tt)
 
-pub framing-fine : (p : List ℕ) → Fine (framing p)
+pub framing-fine : (p : List ℕ) → Fine (length p) (framing p)
 unfolding framing
 framing-fine p =
-    pick-ind Fine (both (leb 1 (length p)) (leb (length p) packetMost)) (framesFrom (length p) p) (bad (refusal 1))
+    pick-ind (Fine (length p)) (both (leb 1 (length p)) (leb (length p) packetMost)) (framesFrom (length p) p) (bad (alone (refusal 1)))
     (λ _. frames-fine (length p) p)
-    (λ _. (omega arith, omega arith))
+    (λ _. refl)
 
 -- the record at a place of a good packet, and what is left behind it
 pub record Step (p : List ℕ) (at : ℕ) (cs : List Rec) : Type 0 where
@@ -75,7 +81,7 @@ step p at cs lt e =
     t : List ℕ
     t = drop at p
 
-    by-rest : (h : Head) → h ≡ headOf (drop at p) → 10 + h .len ≤ length (drop at p) → GoodRec (recOf (drop at p)) → (x : Framing) → framesFrom (length p) (drop (10 + h .len) (drop at p)) ≡ x → before (recOf (drop at p)) x ≡ records cs → Step p at cs
+    by-rest : (h : Head) → h ≡ headOf (drop at p) → 10 + h .len ≤ length (drop at p) → GoodRec (recOf (drop at p)) → (x : Framing) → framesFrom (length p) (drop (10 + h .len) (drop at p)) ≡ x → before (10 + h .len) (recOf (drop at p)) x ≡ records cs → Step p at cs
     by-rest h i w g (bad r) x q = let z : _≡_ {A = ℕ} 0 1 = cc in absurd (omega arith)
     by-rest h i w g (records os) x q =
         let l : h .len ≡ headOf (drop at p) .len = ap (λ k. k .len) i in
@@ -90,16 +96,17 @@ step p at cs lt e =
 
     by-record : (r : Record) → Held r (drop at p) → behind (framesFrom (length p)) (drop at p) r ≡ records cs → Step p at cs
     by-record (Record.Good h) g q = by-rest h (g .0) (g .1) (g .2) (framesFrom (length p) (drop (10 + h .len) (drop at p))) refl q
-    by-record (Record.Refused r) g q = let z : _≡_ {A = ℕ} 0 1 = cc in absurd (omega arith)
+    by-record (Record.Bad f) g q = let z : _≡_ {A = ℕ} 0 1 = cc in absurd (omega arith)
 
 -- behind the last record there is none
 pub step-end : (p : List ℕ) (at : ℕ) (cs : List Rec) → length p ≤ at → framesFrom (length p) (drop at p) ≡ records cs → cs ≡ []
 step-end p at cs h e = let q : records [] ≡ records cs = sym (frames-end (length p) p at h) ∙ e in cc
 
--- any bytes are a good packet of one or more good records, or refused by one of 1 to 5, and never both
+-- any bytes are a good packet of one or more good records, or refused: by 1, or by one of 2 to 5 at a place; and never both
 pub data Outcome (p : List ℕ) : Type 0 where
   good : (cs : List Rec) → framing p ≡ records cs → readPacket p ≡ Packet.Good (length cs) → 1 ≤ length cs → AllGood cs → Outcome p
-  refused : (r : Refusal) → framing p ≡ bad r → readPacket p ≡ Packet.Refused r → 1 ≤ r .number → r .number ≤ 5 → Outcome p
+  refused : framing p ≡ bad (alone (refusal 1)) → readPacket p ≡ Packet.Refused (refusal 1) → Outcome p
+  bad-at : (f : Fault) → framing p ≡ bad (placed f) → readPacket p ≡ Packet.Bad f → 2 ≤ f .number → f .number ≤ 5 → f .at ≤ length p → Outcome p
 
 -- a good packet's size
 pub framing-size : (p : List ℕ) (cs : List Rec) → framing p ≡ records cs → (1 ≤ length p) × (length p ≤ packetMost) × (framesFrom (length p) p ≡ records cs)
@@ -119,8 +126,9 @@ pub outcome : (p : List ℕ) → Outcome p
 unfolding readPacket told
 outcome p = go (framing p) refl (framing-fine p)
   where
-    go : (x : Framing) → framing p ≡ x → Fine x → Outcome p
-    go (bad r) e f = refused r e (ap told e) (f .0) (f .1)
+    go : (x : Framing) → framing p ≡ x → Fine (length p) x → Outcome p
+    go (bad (alone r)) e f = let q = e ∙ ap (λ w. bad (alone w)) f in refused q (ap told q)
+    go (bad (placed w)) e f = bad-at w e (ap told e) (f .0) (f .1) (f .2)
     go (records cs) e f = good cs e (ap told e) (some-records p cs e) f
 
 -- the numbers of a record's and of a packet's answer: 0, or one of 2 to 5; 0, or one of 1 to 5
@@ -129,28 +137,40 @@ record-numbers t = go (readRecord t) (record-held t)
   where
     go : (r : Record) → Held r t → (recordNumber r ≡ 0) ⊎ ((2 ≤ recordNumber r) × (recordNumber r ≤ 5))
     go (Record.Good h) g = inl refl
-    go (Record.Refused r) g = inr g
+    go (Record.Bad f) g = let w = record-within t f g in inr (w .1, w .2)
 
 pub packet-numbers : (p : List ℕ) → (packetNumber (readPacket p) ≡ 0) ⊎ ((1 ≤ packetNumber (readPacket p)) × (packetNumber (readPacket p) ≤ 5))
 packet-numbers p = go (outcome p)
   where
     go : Outcome p → (packetNumber (readPacket p) ≡ 0) ⊎ ((1 ≤ packetNumber (readPacket p)) × (packetNumber (readPacket p) ≤ 5))
     go (good cs f e n g) = inl (ap packetNumber e)
-    go (refused r f e a b) = inr (rw e (a, b))
+    go (refused f e) = inr (rw e (omega arith, omega arith))
+    go (bad-at w f e a b c) = inr (rw e (omega (arith, a), b))
 
 -- what the answer to a packet says of its framing
-pub bad-framing : (p : List ℕ) (r : Refusal) → readPacket p ≡ Packet.Refused r → framing p ≡ bad r
+pub refused-framing : (p : List ℕ) (r : Refusal) → readPacket p ≡ Packet.Refused r → framing p ≡ bad (alone r)
 unfolding readPacket told
-bad-framing p r e = go (framing p) refl
+refused-framing p r e = go (framing p) refl
   where
-    go : (x : Framing) → framing p ≡ x → framing p ≡ bad r
-    go (bad q) f = let g : Packet.Refused q ≡ Packet.Refused r = sym (ap told f) ∙ e in f ∙ cc
+    go : (x : Framing) → framing p ≡ x → framing p ≡ bad (alone r)
+    go (bad (alone q)) f = let g : Packet.Refused q ≡ Packet.Refused r = sym (ap told f) ∙ e in f ∙ cc
+    go (bad (placed q)) f = let g : Packet.Bad q ≡ Packet.Refused r = sym (ap told f) ∙ e in let z : _≡_ {A = ℕ} 0 1 = cc in absurd (omega arith)
     go (records cs) f = let g : Packet.Good (length cs) ≡ Packet.Refused r = sym (ap told f) ∙ e in let z : _≡_ {A = ℕ} 0 1 = cc in absurd (omega arith)
+
+pub bad-framing : (p : List ℕ) (w : Fault) → readPacket p ≡ Packet.Bad w → framing p ≡ bad (placed w)
+unfolding readPacket told
+bad-framing p w e = go (framing p) refl
+  where
+    go : (x : Framing) → framing p ≡ x → framing p ≡ bad (placed w)
+    go (bad (alone q)) f = let g : Packet.Refused q ≡ Packet.Bad w = sym (ap told f) ∙ e in let z : _≡_ {A = ℕ} 0 1 = cc in absurd (omega arith)
+    go (bad (placed q)) f = let g : Packet.Bad q ≡ Packet.Bad w = sym (ap told f) ∙ e in f ∙ cc
+    go (records cs) f = let g : Packet.Good (length cs) ≡ Packet.Bad w = sym (ap told f) ∙ e in let z : _≡_ {A = ℕ} 0 1 = cc in absurd (omega arith)
 
 pub good-framing : (p : List ℕ) (n : ℕ) → readPacket p ≡ Packet.Good n → (cs : List Rec) × (framing p ≡ records cs)
 unfolding readPacket told
 good-framing p n e = go (framing p) refl
   where
     go : (x : Framing) → framing p ≡ x → (cs : List Rec) × (framing p ≡ records cs)
-    go (bad q) f = let g : Packet.Refused q ≡ Packet.Good n = sym (ap told f) ∙ e in let z : _≡_ {A = ℕ} 0 1 = cc in absurd (omega arith)
+    go (bad (alone q)) f = let g : Packet.Refused q ≡ Packet.Good n = sym (ap told f) ∙ e in let z : _≡_ {A = ℕ} 0 1 = cc in absurd (omega arith)
+    go (bad (placed q)) f = let g : Packet.Bad q ≡ Packet.Good n = sym (ap told f) ∙ e in let z : _≡_ {A = ℕ} 0 1 = cc in absurd (omega arith)
     go (records cs) f = (cs, f)

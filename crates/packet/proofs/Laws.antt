@@ -5,11 +5,11 @@ use mathlib.Core.List.{List, []}
 use mathlib.Core.Bool.{true, false}
 use mathlib.Core.Logic.{_⊎_, inl, inr}
 use Prim.Native.Nat.{ℕ, zero, suc, _+_, _-_, _≤_, _<_}
-use native.Mathlib.Nat.{add-sub-cancel-left, add-zero, zero-add}
+use native.Mathlib.Nat.{add-sub-cancel-left, add-zero, zero-add, add-assoc}
 use native.Mathlib.Omega.{arith}
-use borrow.Author.Tests.{ltb-false, leb-true, lt-ltb, le-ltb, le-leb, lt-leb, eq-eqb, ne-eqb}
+use borrow.Author.Tests.{ltb-true, ltb-false, leb-true, lt-ltb, le-ltb, le-leb, lt-leb}
 use lib.ListN.{length, take, drop, length-drop, drop-of-length-le}
-use lib.Seq.{take-all, take-nil, drop-drop}
+use lib.Seq.{take-all, take-nil, drop-drop, length-take-le}
 use lib.Dec.{ltb, leb}
 use Rattle.facts.specs.Limits.{lastNumber, packetMost}
 use Rattle.facts.specs.Pick.{pick, both}
@@ -17,14 +17,17 @@ use Rattle.facts.proofs.Picks.{pick-ind, both-true}
 use Rattle.wire.specs.Le.{field}
 use Rattle.wire.proofs.Laws.{field-past}
 use Rattle.wire.specs.Records.{Rec, bad, records}
-use Rattle.fields.specs.Fields.{refusal, bodyNumber}
-use Rattle.fields.specs.declared.Refusal.{Refusal}
-use Rattle.fields.specs.declared.Body.{Body}
-use Rattle.body.specs.Read.{readBody, goodBody}
-use Rattle.body.proofs.Laws.{numbers, number-good}
-use Rattle.packet.specs.Record.{numberOk, headOf, bodyOf, recOf, refused, bodyJudged, readRecord}
-use Rattle.packet.specs.Packet.{Framing, before, behind, framesFrom, framing, told, readPacket}
+use Rattle.fields.specs.Fields.{refusal, badAt}
+use Rattle.fields.specs.declared.Fault.{Fault}
+use Rattle.body.specs.Read.{judgeBody, goodBody}
+use Rattle.body.specs.Places.{BadBody}
+use Rattle.body.specs.declared.Judged.{Judged}
+use Rattle.body.proofs.Laws.{Judgement, good, bad as bad-judged, judgement}
+use Rattle.body.proofs.Places.{body-within, judged-within}
+use Rattle.packet.specs.Record.{numberOk, headOf, bodyOf, recOf, shifted, badRecord, bodyJudged, readRecord}
+use Rattle.packet.specs.Packet.{Why, alone, placed, later, Framing, before, behind, framesFrom, framing, told, readPacket}
 use Rattle.packet.specs.Front.{Reached, at-front, past-good}
+use Rattle.packet.specs.Places.{BadRecord, no-room, bad-number, bad-body}
 use Rattle.packet.specs.declared.Head.{Head}
 use Rattle.packet.specs.declared.Record.{Record}
 use Rattle.packet.specs.declared.Packet.{Packet}
@@ -57,8 +60,23 @@ body-past p at h =
 pub body-short : (p : List ℕ) (at n : ℕ) → n ≡ field (drop at p) 8 2 → length p - (at + 10) < n → drop (at + 10) p ≡ bodyOf (drop at p)
 body-short p at n e h = sym (take-all n (drop (at + 10) p) (rw length-drop (omega arith))) ∙ body-part p at n e
 
+-- ---- "the offset in the packet": what each level adds where its part starts
+pub shift-shift : (m n : ℕ) (f : Fault) → shifted m (shifted n f) ≡ shifted (m + n) f
+shift-shift m n f = ap (badAt (f .number)) (sym (add-assoc m n (f .at)))
+
+pub shift-none : (f : Fault) → shifted 0 f ≡ f
+shift-none f = ap (badAt (f .number)) (zero-add (f .at))
+
+later-later : (m n : ℕ) (w : Why) → later m (later n w) ≡ later (m + n) w
+later-later m n (alone r) = refl
+later-later m n (placed f) = ap placed (shift-shift m n f)
+
+later-none : (w : Why) → later 0 w ≡ w
+later-none (alone r) = refl
+later-none (placed f) = ap placed (shift-none f)
+
 -- ---- a record is judged by 2, 5, 3, 4: each is told whatever stands behind it
-pub short-header : (t : List ℕ) → length t < 10 → refused 2 ≡ readRecord t
+pub short-header : (t : List ℕ) → length t < 10 → badRecord 2 ≡ readRecord t
 unfolding readRecord pick
 short-header t a = simp (lt-ltb (length t) 10 a)
 
@@ -69,29 +87,25 @@ module _ (t : List ℕ) (h : Head) (e : h ≡ headOf t) (a : 10 ≤ length t) wh
   number-is : h .number ≡ field t 0 8
   number-is = ap (λ x. x .number) e
 
-  pub short-body : length t - 10 < h .len → refused 2 ≡ readRecord t
+  pub short-body : length t - 10 < h .len → badRecord 2 ≡ readRecord t
   unfolding readRecord pick
   short-body b = simp (le-ltb (length t) 10 a, ← len-is, lt-ltb _ _ b)
 
   module _ (b : h .len ≤ length t - 10) where
-    pub bad-number : numberOk (h .number) ≡ false → refused 5 ≡ readRecord t
+    pub wrong-number : numberOk (h .number) ≡ false → badRecord 5 ≡ readRecord t
     unfolding readRecord pick
-    bad-number o = simp (le-ltb (length t) 10 a, ← len-is, le-ltb _ _ b, ← number-is, o)
+    wrong-number o = simp (le-ltb (length t) 10 a, ← len-is, le-ltb _ _ b, ← number-is, o)
 
-    -- 3 and 4 are the body reader's
-    pub record-judged : numberOk (h .number) ≡ true → (m : Body) (k : ℕ) → m ≡ readBody (take (10 + h .len - 10) (drop 10 t)) → k ≡ bodyNumber m → bodyJudged k (Record.Good h) ≡ readRecord t
+    -- 3 and 4 are the body's
+    pub record-judged : numberOk (h .number) ≡ true → (r : Judged) → r ≡ judgeBody (take (10 + h .len - 10) (drop 10 t)) → bodyJudged r h ≡ readRecord t
     unfolding readRecord pick
-    record-judged o m k r q =
-        let j : k ≡ bodyNumber (readBody (bodyOf t)) = q ∙ ap bodyNumber (r ∙ ap readBody (body-cut t (h .len) len-is)) in
+    record-judged o r q =
+        let j : r ≡ judgeBody (bodyOf t) = q ∙ ap judgeBody (body-cut t (h .len) len-is) in
         simp (le-ltb (length t) 10 a, ← len-is, le-ltb _ _ b, ← number-is, o, ← j)
 
-pub judged-good : (g : Record) (k : ℕ) → k ≡ 0 → g ≡ bodyJudged k g
-unfolding bodyJudged pick
-judged-good g k e = simp (eq-eqb k 0 e)
-
-pub judged-bad : (g : Record) (k : ℕ) → (k ≡ 0 → ⊥) → refused k ≡ bodyJudged k g
-unfolding bodyJudged pick
-judged-bad g k e = simp (ne-eqb k 0 e)
+    -- a place in it lies within what is left
+    pub judged-inside : (f : Fault) → Judged.Bad f ≡ judgeBody (take (10 + h .len - 10) (drop 10 t)) → 10 + f .at ≤ length t
+    judged-inside f q = omega (arith, judged-within (take (10 + h .len - 10) (drop 10 t)) f q, length-take-le (10 + h .len - 10) (drop 10 t) (rw length-drop (omega arith)))
 
 -- what is known of a good record: its number is in range, and its body good
 pub record GoodRec (c : Rec) : Type 0 where
@@ -99,40 +113,53 @@ pub record GoodRec (c : Rec) : Type 0 where
   pub number-to : c .number ≤ lastNumber
   pub body-good : goodBody (c .body) ≡ true
 
--- what reading the first record of t says: a good one lies within t, and a refusal is one of 2, 5, 3, 4
+-- what reading the first record of t says: a good one lies within t, and a bad one is bad where it is said to be
 abbrev pub Held : Record → List ℕ → Type 0
 Held (Record.Good h) t = (h ≡ headOf t) × (10 + h .len ≤ length t) × GoodRec (recOf t)
-Held (Record.Refused r) t = (2 ≤ r .number) × (r .number ≤ 5)
+Held (Record.Bad f) t = BadRecord t f
 
--- the body reader's number decides: 0 keeps the record, 3 and 4 refuse it
-judged-held : (t : List ℕ) (k : ℕ) → (k ≡ 0 → Held (Record.Good (headOf t)) t) → (k ≡ 0) ⊎ ((k ≡ 3) ⊎ (k ≡ 4)) → Held (bodyJudged k (Record.Good (headOf t))) t
-unfolding bodyJudged pick
-judged-held t k g (inl e) = rw e (g e)
-judged-held t k g (inr (inl e)) = rw e (omega arith, omega arith)
-judged-held t k g (inr (inr e)) = rw e (omega arith, omega arith)
-
-good-held : (t : List ℕ) → 10 + headOf t .len ≤ length t → numberOk (field t 0 8) ≡ true → bodyNumber (readBody (bodyOf t)) ≡ 0 → Held (Record.Good (headOf t)) t
-unfolding numberOk
-good-held t w o e =
-    let r = both-true {a = leb 1 (field t 0 8)} {b = leb (field t 0 8) lastNumber} o in (
-      refl,
-      w,
-      record { number-from = leb-true 1 (field t 0 8) (r .0); number-to = leb-true (field t 0 8) lastNumber (r .1); body-good = number-good (bodyOf t) e },
-    )
+-- a record whose body has come whole, with a good number: the body decides
+judged-held : (t : List ℕ) → 10 + headOf t .len ≤ length t → numberOk (headOf t .number) ≡ true → Held (bodyJudged (judgeBody (bodyOf t)) (headOf t)) t
+unfolding numberOk bodyJudged
+judged-held t w o = go (judgement (bodyOf t))
+  where
+    go : Judgement (bodyOf t) → Held (bodyJudged (judgeBody (bodyOf t)) (headOf t)) t
+    go (good e g z) =
+        let r = both-true {a = leb 1 (field t 0 8)} {b = leb (field t 0 8) lastNumber} o in
+        rw e (
+          refl,
+          w,
+          record { number-from = leb-true 1 (field t 0 8) (r .0); number-to = leb-true (field t 0 8) lastNumber (r .1); body-good = g },
+        )
+    go (bad-judged f e g h) = rw e (bad-body f w o h)
 
 pub record-held : (t : List ℕ) → Held (readRecord t) t
 unfolding readRecord
 record-held t =
-    pick-ind (λ r. Held r t) (ltb (length t) 10) _ _ (λ _. (omega arith, omega arith))
-    (λ a. pick-ind (λ r. Held r t) (ltb (length t - 10) (field t 8 2)) _ _ (λ _. (omega arith, omega arith))
+    pick-ind (λ r. Held r t) (ltb (length t) 10) _ _ (λ a. no-room (omega (arith, ltb-true (length t) 10 a)))
+    (λ a. pick-ind (λ r. Held r t) (ltb (length t - 10) (field t 8 2)) _ _ (λ b. no-room (omega (arith, ltb-true (length t - 10) (field t 8 2) b)))
     (λ b.
     let w : 10 + field t 8 2 ≤ length t = omega (arith, ltb-false (length t) 10 a, ltb-false (length t - 10) (field t 8 2) b) in
-    pick-ind (λ r. Held r t) (numberOk (field t 0 8)) _ _ (λ o. judged-held t (bodyNumber (readBody (bodyOf t))) (good-held t w o) (numbers (bodyOf t))) (λ _. (omega arith, omega arith))))
+    pick-ind (λ r. Held r t) (numberOk (field t 0 8)) _ _ (λ o. judged-held t w o) (λ o. bad-number w o)))
+
+-- the body of a record that is whole has the length that its header says
+pub body-length : (t : List ℕ) → 10 + headOf t .len ≤ length t → length (bodyOf t) ≡ headOf t .len
+unfolding bodyOf
+body-length t w = length-take-le (field t 8 2) (drop 10 t) (rw length-drop (omega arith))
+
+pub record-within : (t : List ℕ) (f : Fault) → BadRecord t f → (f .at ≤ length t) × (2 ≤ f .number) × (f .number ≤ 5)
+record-within t _ (no-room l) = (omega arith, omega arith, omega arith)
+record-within t _ (bad-number w o) = (omega arith, omega arith, omega arith)
+record-within t _ (bad-body f w o h) = (omega (arith, body-within (bodyOf t) f h, body-length t w), by-number h .0, by-number h .1)
+  where
+    by-number : BadBody (bodyOf t) f → (2 ≤ f .number) × (f .number ≤ 5)
+    by-number (inl h) = (omega (arith, h .0), omega (arith, h .0))
+    by-number (inr h) = (omega (arith, h .0), omega (arith, h .0))
 
 behind-cong : (F G : List ℕ → Framing) (t : List ℕ) (r : Record) → ((n : ℕ) → F (drop (10 + n) t) ≡ G (drop (10 + n) t)) → behind F t r ≡ behind G t r
 unfolding behind
-behind-cong F G t (Record.Good h) e = ap (before (recOf t)) (e (h .len))
-behind-cong F G t (Record.Refused r) e = refl
+behind-cong F G t (Record.Good h) e = ap (before (10 + h .len) (recOf t)) (e (h .len))
+behind-cong F G t (Record.Bad f) e = refl
 
 -- more turns than there are bytes change nothing
 pub enough : (f g : ℕ) (t : List ℕ) → length t ≤ f → length t ≤ g → framesFrom f t ≡ framesFrom g t
@@ -159,20 +186,23 @@ unfolding framesFrom pick
 frames-end zero p at h = refl
 frames-end (suc f) p at h = simp (le-ltb 0 (length (drop at p)) (rw length-drop (omega arith)))
 
--- an answer, with i records before it
-unfoldable pub more : ℕ → Packet → Packet
-more i (Packet.Good k) = Packet.Good (i + k)
-more i (Packet.Refused r) = Packet.Refused r
+-- an answer, with i records in n bytes before it
+unfoldable pub more : ℕ → ℕ → Packet → Packet
+more n i (Packet.Good k) = Packet.Good (i + k)
+more n i (Packet.Refused r) = Packet.Refused r
+more n i (Packet.Bad f) = Packet.Bad (shifted n f)
 
-pub more-none : (x : Packet) → x ≡ more 0 x
+pub more-none : (x : Packet) → x ≡ more 0 0 x
 unfolding more
 more-none (Packet.Good k) = ap Packet.Good (sym (zero-add k))
 more-none (Packet.Refused r) = refl
+more-none (Packet.Bad f) = ap Packet.Bad (sym (shift-none f))
 
-told-before : (i : ℕ) (c : Rec) (x : Framing) → more i (told (before c x)) ≡ more (i + 1) (told x)
+told-before : (n i m : ℕ) (c : Rec) (x : Framing) → more n i (told (before m c x)) ≡ more (n + m) (i + 1) (told x)
 unfolding told before more
-told-before i c (bad r) = refl
-told-before i c (records cs) = ap Packet.Good (sum i (length cs))
+told-before n i m c (bad (alone r)) = refl
+told-before n i m c (bad (placed f)) = ap Packet.Bad (shift-shift n m f)
+told-before n i m c (records cs) = ap Packet.Good (sum i (length cs))
   where
     sum : (a b : ℕ) → a + suc b ≡ a + 1 + b
     sum a b = omega arith
@@ -187,41 +217,47 @@ module _ (p : List ℕ) (at i : ℕ) (r : Record) (in-p : at < length p) (read :
       frames-step (length p) (drop at p) (rw length-drop (omega arith)) (rw length-drop (omega arith))
       ∙ ap (behind (framesFrom (length p)) (drop at p)) here
 
-  pub at-refused : (k : Refusal) → r ≡ Record.Refused k → more i (told (framesFrom (length p) (drop at p))) ≡ Packet.Refused k
+  -- a bad one lies within the packet, and its fault is the packet's, `at` bytes further on
+  pub at-bad : (f : Fault) → r ≡ Record.Bad f → (at + f .at ≤ length p) × (more at i (told (framesFrom (length p) (drop at p))) ≡ Packet.Bad (shifted at f))
   unfolding behind told more
-  at-refused k e = ap (λ x. more i (told x)) (stepped ∙ ap (behind (framesFrom (length p)) (drop at p)) e)
+  at-bad f e =
+      let w : BadRecord (drop at p) f = subst (λ (x : Record). Held x (drop at p)) (here ∙ e) (record-held (drop at p)) in (
+        omega (arith, length-drop at p, record-within (drop at p) f w .0),
+        ap (λ x. more at i (told x)) (stepped ∙ ap (behind (framesFrom (length p)) (drop at p)) e),
+      )
 
-  pub at-good : (h : Head) → r ≡ Record.Good h → (at + (10 + h .len) ≤ length p) × (more i (told (framesFrom (length p) (drop at p))) ≡ more (i + 1) (told (framesFrom (length p) (drop (at + (10 + h .len)) p))))
+  pub at-good : (h : Head) → r ≡ Record.Good h → (at + (10 + h .len) ≤ length p) × (more at i (told (framesFrom (length p) (drop at p))) ≡ more (at + (10 + h .len)) (i + 1) (told (framesFrom (length p) (drop (at + (10 + h .len)) p))))
   unfolding behind
   at-good h e =
       let w : 10 + h .len ≤ length (drop at p) = subst (λ (x : Record). Held x (drop at p)) (here ∙ e) (record-held (drop at p)) .1 in (
         omega (arith, length-drop at p, w),
-        ap (λ x. more i (told x)) (stepped ∙ ap (behind (framesFrom (length p)) (drop at p)) e)
-            ∙ told-before i (recOf (drop at p)) (framesFrom (length p) (drop (10 + h .len) (drop at p)))
-            ∙ ap (λ x. more (i + 1) (told (framesFrom (length p) x))) (drop-drop (10 + h .len) at p),
+        ap (λ x. more at i (told x)) (stepped ∙ ap (behind (framesFrom (length p)) (drop at p)) e)
+            ∙ told-before at i (10 + h .len) (recOf (drop at p)) (framesFrom (length p) (drop (10 + h .len) (drop at p)))
+            ∙ ap (λ x. more (at + (10 + h .len)) (i + 1) (told (framesFrom (length p) x))) (drop-drop (10 + h .len) at p),
       )
 
--- "records from the front, each by 2, 5, 3, 4": what is wrong where good records lead to is what the packet is refused by
-reached-bad : (p : List ℕ) (at : ℕ) (r : Refusal) → Reached p at → framesFrom (length p) (drop at p) ≡ bad r → framesFrom (length p) p ≡ bad r
+-- "records from the front, each by 2, 5, 3, 4": what is wrong where good records lead to is what the packet is refused by, so many bytes further on
+reached-bad : (p : List ℕ) (at : ℕ) (w : Why) → Reached p at → framesFrom (length p) (drop at p) ≡ bad w → framesFrom (length p) p ≡ bad (later at w)
 unfolding behind before
-reached-bad p _ r at-front e = e
-reached-bad p _ r (past-good at h w l g) e =
-    reached-bad p at r w
+reached-bad p _ w at-front e = e ∙ ap bad (sym (later-none w))
+reached-bad p _ w (past-good at h r l g) e =
+    reached-bad p at (later (10 + h .len) w) r
     (frames-step (length p) (drop at p) (rw length-drop (omega arith)) (rw length-drop (omega arith))
-    ∙ (ap (behind (framesFrom (length p)) (drop at p)) g ∙ ap (before (recOf (drop at p))) (ap (framesFrom (length p)) (drop-drop (10 + h .len) at p) ∙ e)))
+    ∙ (ap (behind (framesFrom (length p)) (drop at p)) g ∙ ap (before (10 + h .len) (recOf (drop at p))) (ap (framesFrom (length p)) (drop-drop (10 + h .len) at p) ∙ e)))
+    ∙ ap bad (later-later at (10 + h .len) w)
 
-pub first-bad : (p : List ℕ) (at : ℕ) (r : Refusal) → length p ≤ packetMost → at < length p → Reached p at → readRecord (drop at p) ≡ Record.Refused r → framing p ≡ bad r
+pub first-bad : (p : List ℕ) (at : ℕ) (f : Fault) → length p ≤ packetMost → at < length p → Reached p at → readRecord (drop at p) ≡ Record.Bad f → framing p ≡ bad (placed (shifted at f))
 unfolding framing behind pick both
-first-bad p at r m l w e =
+first-bad p at f m l w e =
     let some : 1 ≤ length p = omega arith in
     simp (le-leb 1 (length p) some, le-leb (length p) packetMost m)
-    (reached-bad p at r w
+    (reached-bad p at (placed f) w
     (frames-step (length p) (drop at p) (rw length-drop (omega arith)) (rw length-drop (omega arith)) ∙ ap (behind (framesFrom (length p)) (drop at p)) e))
 
 -- the loop's end: i records and no more
-pub at-end : (p : List ℕ) (at i : ℕ) → length p ≤ at → more i (told (framesFrom (length p) (drop at p))) ≡ Packet.Good i
+pub at-end : (p : List ℕ) (at i : ℕ) → length p ≤ at → more at i (told (framesFrom (length p) (drop at p))) ≡ Packet.Good i
 unfolding told more
-at-end p at i h = ap (λ x. more i (told x)) (frames-end (length p) p at h) ∙ ap Packet.Good (add-zero i)
+at-end p at i h = ap (λ x. more at i (told x)) (frames-end (length p) p at h) ∙ ap Packet.Good (add-zero i)
 
 -- a packet of a right size is its records; else 1
 pub packet-is : (p : List ℕ) → 1 ≤ length p → length p ≤ packetMost → readPacket p ≡ told (framesFrom (length p) p)

@@ -1,4 +1,5 @@
 pub mod Laws
 pub mod Good
-pub mod PacketBytes
+pub mod Places
 pub mod Nanoseconds
+pub mod PacketBytes

@@ -12,7 +12,7 @@ use Rattle.wire.specs.Records.{Rec, bad, records}
 use Rattle.wire.proofs.Bytewise.{bytes-take, bytes-drop}
 use Rattle.fields.specs.Fields.{refusal}
 use Rattle.packet.specs.Record.{bodyOf, recOf, readRecord}
-use Rattle.packet.specs.Packet.{Framing, before, behind, framesFrom, framing}
+use Rattle.packet.specs.Packet.{alone, Framing, before, behind, framesFrom, framing}
 use Rattle.packet.specs.declared.Record.{Record}
 
 -- every record of a list has a body made of bytes
@@ -21,22 +21,22 @@ AllBytes [] = Unit
 AllBytes (c ∷ cs) = Bytes (c .body) × AllBytes cs
 
 abbrev pub Bytewise : Framing → Type 0
-Bytewise (bad r) = Unit
+Bytewise (bad w) = Unit
 Bytewise (records cs) = AllBytes cs
 
 body-bytes : (t : List ℕ) → Bytes t → Bytes (bodyOf t)
 unfolding bodyOf
 body-bytes t h = bytes-take (field t 8 2) (drop 10 t) (bytes-drop 10 t h)
 
-before-bytes : (c : Rec) (x : Framing) → Bytes (c .body) → Bytewise x → Bytewise (before c x)
+before-bytes : (n : ℕ) (c : Rec) (x : Framing) → Bytes (c .body) → Bytewise x → Bytewise (before n c x)
 unfolding before
-before-bytes c (bad r) g f = tt
-before-bytes c (records cs) g f = (g, f)
+before-bytes n c (bad w) g f = tt
+before-bytes n c (records cs) g f = (g, f)
 
 behind-bytes : (rest : List ℕ → Framing) (t : List ℕ) (r : Record) → Bytes t → ((s : List ℕ) → Bytes s → Bytewise (rest s)) → Bytewise (behind rest t r)
 unfolding behind
-behind-bytes rest t (Record.Good x) h f = before-bytes (recOf t) (rest (drop (10 + x .len) t)) (body-bytes t h) (f (drop (10 + x .len) t) (bytes-drop (10 + x .len) t h))
-behind-bytes rest t (Record.Refused r) h f = tt
+behind-bytes rest t (Record.Good x) h f = before-bytes (10 + x .len) (recOf t) (rest (drop (10 + x .len) t)) (body-bytes t h) (f (drop (10 + x .len) t) (bytes-drop (10 + x .len) t h))
+behind-bytes rest t (Record.Bad w) h f = tt
 
 frames-bytes : (f : ℕ) (t : List ℕ) → Bytes t → Bytewise (framesFrom f t)
 unfolding framesFrom
@@ -48,4 +48,4 @@ frames-bytes (suc f) t h =
 
 pub framing-bytes : (p : List ℕ) → Bytes p → Bytewise (framing p)
 unfolding framing
-framing-bytes p h = pick-ind Bytewise (both (leb 1 (length p)) (leb (length p) packetMost)) (framesFrom (length p) p) (bad (refusal 1)) (λ _. frames-bytes (length p) p h) (λ _. tt)
+framing-bytes p h = pick-ind Bytewise (both (leb 1 (length p)) (leb (length p) packetMost)) (framesFrom (length p) p) (bad (alone (refusal 1))) (λ _. frames-bytes (length p) p h) (λ _. tt)

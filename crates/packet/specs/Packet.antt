@@ -1,4 +1,4 @@
--- "A packet is 1 to 1,500 bytes holding one or more records, back to back" (document 01, "From the tap").
+-- "A packet is 1 to 1,500 bytes holding one or more records, back to back" (document 01, "From the tap"), and at which of its bytes it is bad (request 5).
 use Prim.Native.Nat.{ℕ, zero, suc, _+_}
 use mathlib.Core.List.{List, [], _∷_}
 use lib.ListN.{length, drop}
@@ -8,23 +8,34 @@ use Rattle.facts.specs.Pick.{pick, both}
 use Rattle.wire.specs.Records.{Rec, Frames, bad, records}
 use Rattle.fields.specs.Fields.{refusal}
 use Rattle.fields.specs.declared.Refusal.{Refusal}
-use Rattle.packet.specs.Record.{recOf, readRecord}
+use Rattle.fields.specs.declared.Fault.{Fault}
+use Rattle.packet.specs.Record.{recOf, shifted, readRecord}
 use Rattle.packet.specs.declared.Record.{Record}
 use Rattle.packet.specs.declared.Packet.{Packet}
 
--- what framing makes of bytes: a refusal, or records
+-- why a packet is refused: by a number alone (1), or by number and offset (2 to 5)
+pub data Why : Type 0 where
+  alone : Refusal → Why
+  placed : Fault → Why
+
+-- of what lies behind n bytes
+abbrev pub later : ℕ → Why → Why
+later n (alone r) = alone r
+later n (placed f) = placed (shifted n f)
+
+-- what framing makes of bytes: why they are refused, or records
 abbrev pub Framing : Type 0
-Framing = Frames Refusal
+Framing = Frames Why
 
--- a record in front of what follows it
-unfoldable pub before : Rec → Framing → Framing
-before c (bad r) = bad r
-before c (records cs) = records (c ∷ cs)
+-- a record of n bytes in front of what follows it
+unfoldable pub before : ℕ → Rec → Framing → Framing
+before n c (bad w) = bad (later n w)
+before n c (records cs) = records (c ∷ cs)
 
--- the first record's refusal, or the record and what is found behind it
+-- the first record's fault, or the record and what is found behind it
 unfoldable pub behind : (List ℕ → Framing) → List ℕ → Record → Framing
-behind rest t (Record.Good h) = before (recOf t) (rest (drop (10 + h .len) t))
-behind rest t (Record.Refused r) = bad r
+behind rest t (Record.Good h) = before (10 + h .len) (recOf t) (rest (drop (10 + h .len) t))
+behind rest t (Record.Bad f) = bad (placed f)
 
 -- "records from the front", at most so many
 unfoldable pub framesFrom : ℕ → List ℕ → Framing
@@ -33,11 +44,12 @@ framesFrom (suc f) t = pick (ltb 0 (length t)) (behind (framesFrom f) t (readRec
 
 -- 1, then the records (no packet has more records than bytes)
 unfoldable pub framing : List ℕ → Framing
-framing p = pick (both (leb 1 (length p)) (leb (length p) packetMost)) (framesFrom (length p) p) (bad (refusal 1))
+framing p = pick (both (leb 1 (length p)) (leb (length p) packetMost)) (framesFrom (length p) p) (bad (alone (refusal 1)))
 
--- the answer to a packet: the number of its records, or the refusal
+-- the answer to a packet: the number of its records, or why it is refused
 unfoldable pub told : Framing → Packet
-told (bad r) = Packet.Refused r
+told (bad (alone r)) = Packet.Refused r
+told (bad (placed f)) = Packet.Bad f
 told (records cs) = Packet.Good (length cs)
 
 unfoldable pub readPacket : List ℕ → Packet
@@ -47,3 +59,4 @@ readPacket p = told (framing p)
 abbrev pub packetNumber : Packet → ℕ
 packetNumber (Packet.Good n) = 0
 packetNumber (Packet.Refused r) = r .number
+packetNumber (Packet.Bad f) = f .number

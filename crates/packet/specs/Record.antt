@@ -1,15 +1,17 @@
--- "A record is: sequence number, 8 bytes; body length, 2 bytes; body" (document 01, "From the tap").
-use Prim.Native.Nat.{ℕ, _-_}
+-- "A record is: sequence number, 8 bytes; body length, 2 bytes; body" (document 01, "From the tap"), and at which of its bytes it is bad (request 5).
+use Prim.Native.Nat.{ℕ, _+_, _-_}
 use mathlib.Core.List.{List}
 use mathlib.Core.Bool.{Bool}
 use lib.ListN.{length, take, drop}
-use lib.Dec.{ltb, leb, eqb}
+use lib.Dec.{ltb, leb}
 use Rattle.facts.specs.Limits.{lastNumber}
 use Rattle.facts.specs.Pick.{pick, both}
 use Rattle.wire.specs.Le.{field}
 use Rattle.wire.specs.Records.{Rec}
-use Rattle.fields.specs.Fields.{refusal, bodyNumber}
-use Rattle.body.specs.Read.{readBody}
+use Rattle.fields.specs.Fields.{badAt}
+use Rattle.fields.specs.declared.Fault.{Fault}
+use Rattle.body.specs.Read.{judgeBody}
+use Rattle.body.specs.declared.Judged.{Judged}
 use Rattle.packet.specs.declared.Head.{Head}
 use Rattle.packet.specs.declared.Record.{Record}
 
@@ -28,23 +30,29 @@ bodyOf t = take (field t 8 2) (drop 10 t)
 abbrev pub recOf : List ℕ → Rec
 recOf t = record { number = field t 0 8; body = bodyOf t }
 
-abbrev pub refused : ℕ → Record
-refused n = Record.Refused (refusal n)
+-- what is bad at a place of a part that starts at n: each level adds where its part starts
+abbrev pub shifted : ℕ → Fault → Fault
+shifted n f = badAt (f .number) (n + f .at)
 
--- 3 or 4, as the body reader says, or the record
-unfoldable pub bodyJudged : ℕ → Record → Record
-bodyJudged k r = pick (eqb k 0) r (refused k)
+-- "for 2 the record's start, for 5 the number's start", which is the record's
+abbrev pub badRecord : ℕ → Record
+badRecord n = Record.Bad (badAt n 0)
+
+-- 3 or 4, as the body's judge says, or the record; a body starts behind 10 bytes
+unfoldable pub bodyJudged : Judged → Head → Record
+bodyJudged Judged.Good h = Record.Good h
+bodyJudged (Judged.Bad f) h = Record.Bad (shifted 10 f)
 
 -- each record is judged by 2, 5, 3, 4
 unfoldable pub readRecord : List ℕ → Record
 readRecord t =
-    pick (ltb (length t) 10) (refused 2)
-    (pick (ltb (length t - 10) (field t 8 2)) (refused 2)
+    pick (ltb (length t) 10) (badRecord 2)
+    (pick (ltb (length t - 10) (field t 8 2)) (badRecord 2)
     (pick (numberOk (field t 0 8))
-    (bodyJudged (bodyNumber (readBody (bodyOf t))) (Record.Good (headOf t)))
-    (refused 5)))
+    (bodyJudged (judgeBody (bodyOf t)) (headOf t))
+    (badRecord 5)))
 
 -- document 01's number of each answer, 0 for a good record
 abbrev pub recordNumber : Record → ℕ
 recordNumber (Record.Good h) = 0
-recordNumber (Record.Refused r) = r .number
+recordNumber (Record.Bad f) = f .number

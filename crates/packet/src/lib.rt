@@ -1,4 +1,6 @@
 // Reads a packet: records back to back, each judged by 2, 5, 3, 4 from the front, before anything is done with any of them.
+use body::Judged;
+use fields::Fault;
 use fields::Refusal;
 ghost use mathlib.Core.Path.{_≡_};
 ghost use lib.ListN.{drop};
@@ -11,16 +13,17 @@ pub struct Head {
     pub len: usize,
 }
 
-// The first record of what is left of a packet.
+// The first record of what is left of a packet, or why and at which of its bytes it is bad.
 pub enum Record {
     Good(Head),
-    Refused(Refusal),
+    Bad(Fault),
 }
 
-// A whole packet: how many records it holds.
+// A whole packet: how many records it holds; else its number alone (1), or why and at which of its bytes it is bad.
 pub enum Packet {
     Good(usize),
     Refused(Refusal),
+    Bad(Fault),
 }
 
 fn number_ok(n: u64) -> bool
@@ -61,26 +64,27 @@ pub fn body_at(p: &[u8], at: usize) -> &[u8]
     &p[from..from + n]
 }
 
-// Judges the first record of what is left: 2, 5, then what the body reader says of its part.
+// Judges the first record of what is left: 2, 5, then what the body's judge says of its part.
 pub fn read_record(t: &[u8]) -> Record
     ensures { λ r. ⌜ r ≡ readRecord (now (t .entry)) ⌝ }
 {
     if t.len() < 10 {
-        return Record::Refused(Refusal { number: 2 });
+        return Record::Bad(Fault { number: 2, at: 0 });
     }
     let h = head_at(t, 0);
     let n = h.len;
     if t.len() - 10 < n {
-        return Record::Refused(Refusal { number: 2 });
+        return Record::Bad(Fault { number: 2, at: 0 });
     }
     if !number_ok(h.number) {
-        return Record::Refused(Refusal { number: 5 });
+        return Record::Bad(Fault { number: 5, at: 0 });
     }
-    let k = fields::number_of(body::read_body(&t[10..10 + n]));
-    if k == 0 {
-        Record::Good(h)
-    } else {
-        Record::Refused(Refusal { number: k })
+    match body::judge_body(&t[10..10 + n]) {
+        Judged::Good => Record::Good(h),
+        Judged::Bad(f) => Record::Bad(Fault {
+            number: f.number,
+            at: 10 + f.at,
+        }),
     }
 }
 
@@ -98,8 +102,11 @@ pub fn read_packet(p: &[u8]) -> Packet
     let mut records: usize = 0;
     while at < p.len() {
         match read_record(&p[at..]) {
-            Record::Refused(r) => {
-                return Packet::Refused(r);
+            Record::Bad(f) => {
+                return Packet::Bad(Fault {
+                    number: f.number,
+                    at: at + f.at,
+                });
             }
             Record::Good(h) => {
                 let n = h.len;

@@ -2,6 +2,7 @@
 use fields::AddOrder;
 use fields::Body;
 use fields::DeleteOrder;
+use fields::Fault;
 use fields::ModifyOrder;
 use fields::OrderExecution;
 use fields::Symbol;
@@ -10,9 +11,11 @@ use fields::SystemState;
 use fields::Trade;
 use fields::TradeCancel;
 use fields::TradingStatus;
+use kinds::Kind;
 use libc::STDIN_FILENO;
 use libc::STDOUT_FILENO;
 use packet::Packet;
+use packet::Record;
 
 // The longest packet that a two-byte length can announce.
 const LONGEST: usize = 65535;
@@ -63,16 +66,180 @@ fn show_first(held: &[u8], n: usize) {
 fn show_packet(p: &[u8]) {
     match packet::read_packet(p) {
         Packet::Refused(r) => {
-            io::write_all(STDOUT_FILENO, b"refused ");
-            io::print_decimal(STDOUT_FILENO, r.number as u64);
+            io::write_all(STDOUT_FILENO, b"refused");
+            also(r.number as u64);
             end_line();
         }
+        Packet::Bad(f) => show_fault(p, f),
         Packet::Good(n) => {
             io::write_all(STDOUT_FILENO, b"records ");
             io::print_decimal(STDOUT_FILENO, n as u64);
             end_line();
             show_records(p);
         }
+    }
+}
+
+// Number and offset, and in words where a reader finds it: the record, counted from 1, and what in it is wrong.
+fn show_fault(p: &[u8], f: Fault) {
+    io::write_all(STDOUT_FILENO, b"refused");
+    also(f.number as u64);
+    io::write_all(STDOUT_FILENO, b" at");
+    also(f.at as u64);
+    io::write_all(STDOUT_FILENO, b": record");
+    show_first_bad(p);
+    end_line();
+}
+
+// Over the good records to the first bad one.
+fn show_first_bad(p: &[u8]) {
+    let mut at = 0;
+    let mut record: u64 = 1;
+    while at < p.len() {
+        match packet::read_record(&p[at..]) {
+            Record::Bad(f) => {
+                also(record);
+                show_bad(&p[at..], f);
+                return;
+            }
+            Record::Good(h) => {
+                let n = h.len;
+                if p.len() - at < 10 {
+                    return;
+                }
+                if p.len() - at - 10 < n {
+                    return;
+                }
+                at = at + 10 + n;
+                if record == u64::MAX {
+                    return;
+                }
+                record = record + 1;
+            }
+        }
+    }
+}
+
+// What is wrong in a bad record.
+fn show_bad(t: &[u8], f: Fault) {
+    let n = f.number;
+    if n == 5 {
+        io::write_all(STDOUT_FILENO, b", sequence number");
+        return;
+    }
+    if n == 2 {
+        show_room(t);
+        return;
+    }
+    let b = packet::body_at(t, 0);
+    if b.len() == 0 {
+        io::write_all(STDOUT_FILENO, b", empty body");
+        return;
+    }
+    let k = kinds::kind_of(wire::u8_at(b, 0));
+    show_kind(k);
+    if n == 4 {
+        show_field(k, f.at);
+    } else {
+        show_length(k);
+    }
+}
+
+fn show_room(t: &[u8]) {
+    if t.len() < 10 {
+        io::write_all(STDOUT_FILENO, b", unfinished header");
+    } else {
+        io::write_all(STDOUT_FILENO, b", body past the end");
+    }
+}
+
+fn show_kind(k: Kind) {
+    match k {
+        Kind::SystemTime => {
+            io::write_all(STDOUT_FILENO, b", System Time");
+        }
+        Kind::SymbolUpdate => {
+            io::write_all(STDOUT_FILENO, b", Symbol Update");
+        }
+        Kind::SystemState => {
+            io::write_all(STDOUT_FILENO, b", System State");
+        }
+        Kind::TradingStatus => {
+            io::write_all(STDOUT_FILENO, b", Security Trading Status");
+        }
+        Kind::SymbolClear => {
+            io::write_all(STDOUT_FILENO, b", Symbol Clear");
+        }
+        Kind::Add => {
+            io::write_all(STDOUT_FILENO, b", Add Order");
+        }
+        Kind::Modify => {
+            io::write_all(STDOUT_FILENO, b", Modify Order");
+        }
+        Kind::Delete => {
+            io::write_all(STDOUT_FILENO, b", Delete Order");
+        }
+        Kind::Execution => {
+            io::write_all(STDOUT_FILENO, b", Order Execution");
+        }
+        Kind::Trade => {
+            io::write_all(STDOUT_FILENO, b", Trade");
+        }
+        Kind::TradeCancel => {
+            io::write_all(STDOUT_FILENO, b", Trade Cancel");
+        }
+        Kind::Unknown => {
+            io::write_all(STDOUT_FILENO, b", unknown type");
+        }
+    }
+}
+
+fn show_length(k: Kind) {
+    match k {
+        Kind::Unknown => {}
+        _ => {
+            io::write_all(STDOUT_FILENO, b", wrong length");
+        }
+    }
+}
+
+// The judged field of a message that starts at a place of its record. The Timestamp is the first field of all that have one.
+fn show_field(k: Kind, at: usize) {
+    if at == 11 {
+        io::write_all(STDOUT_FILENO, b", nanoseconds");
+        return;
+    }
+    match k {
+        Kind::SymbolUpdate => show_market(at),
+        Kind::Add => show_order(at),
+        Kind::Modify => show_deal(at, 27),
+        Kind::Execution => show_deal(at, 35),
+        _ => show_deal(at, 28),
+    }
+}
+
+fn show_market(at: usize) {
+    if at == 31 {
+        io::write_all(STDOUT_FILENO, b", test indicator");
+    } else {
+        io::write_all(STDOUT_FILENO, b", market");
+    }
+}
+
+fn show_order(at: usize) {
+    if at == 27 {
+        io::write_all(STDOUT_FILENO, b", side");
+    } else {
+        show_deal(at, 28);
+    }
+}
+
+// Price and size stand side by side.
+fn show_deal(at: usize, price: usize) {
+    if at == price {
+        io::write_all(STDOUT_FILENO, b", price");
+    } else {
+        io::write_all(STDOUT_FILENO, b", size");
     }
 }
 
@@ -108,7 +275,7 @@ fn show_body(b: &[u8]) {
         Body::Execution(m) => show_execution(m),
         Body::Trade(m) => show_trade(m),
         Body::TradeCancel(m) => show_cancel(m),
-        Body::Refused(r) => also(r.number as u64),
+        Body::Bad(f) => also(f.number as u64),
     }
     end_line();
 }

@@ -11,7 +11,7 @@ use Rattle.facts.specs.Limits.{lastNumber}
 use Rattle.facts.proofs.Picks.{pick-ind}
 use Rattle.wire.specs.Records.{Rec, Frames, bad, records}
 use Rattle.fields.specs.Fields.{refusal}
-use Rattle.fields.specs.declared.Refusal.{Refusal}
+use Rattle.packet.specs.Packet.{Why}
 use Rattle.arbitration.specs.Slots.{emptySlot, slotFor, slotBody}
 use Rattle.arbitration.specs.Engine.{Engine, Store}
 use Rattle.arbitration.specs.Receive.{slotOf, recordsOf, shelved, turned, after, run, worked, told, stop}
@@ -68,7 +68,7 @@ module _ (P : Parts) (L : PartsLaws P) where
   unfolding worked
   worked-fit p r f = go (P .frame p) (L .bounded p)
     where
-      go : (x : Frames Refusal) → Every Bounded (recordsOf x) → Fit (worked S E x r)
+      go : (x : Frames Why) → Every Bounded (recordsOf x) → Fit (worked S E x r)
       go (bad q) b = f
       go (records cs) b = run-keeps S E Fit Bounded after-fit cs r b f
 
@@ -85,7 +85,7 @@ module _ (P : Parts) (L : PartsLaws P) where
   unfolding handledBy worked
   packet-worked p k f = ap (λ (x : Handled P). x .after .rx) (sym (by-frame P k p (f .sizes) (next-fits (k .rx) f))) ∙ go (P .frame p)
     where
-      go : (x : Frames Refusal) → handledBy P x k .after .rx ≡ worked S E x (k .rx)
+      go : (x : Frames Why) → handledBy P x k .after .rx ≡ worked S E x (k .rx)
       go (bad q) = refl
       go (records cs) = refl
 
@@ -116,7 +116,7 @@ module _ (P : Parts) (L : PartsLaws P) where
   unfolding receives handledBy told
   packet-stop p k e = pick-ind (λ x. x .after .stop ≡ stop S E (x .after .rx)) (fit P k) (handledBy P (P .frame p) k) (handled P (Received.Refused (refusal 6)) k) (λ _. go (P .frame p)) (λ _. e)
     where
-      go : (x : Frames Refusal) → handledBy P x k .after .stop ≡ stop S E (handledBy P x k .after .rx)
+      go : (x : Frames Why) → handledBy P x k .after .stop ≡ stop S E (handledBy P x k .after .rx)
       go (bad q) = e
       go (records cs) = refl
 

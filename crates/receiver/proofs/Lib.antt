@@ -8,3 +8,4 @@ pub mod Real
 pub mod Runs
 pub mod Undefined
 pub mod Nanoseconds
+pub mod Places

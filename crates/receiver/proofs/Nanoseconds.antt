@@ -1,6 +1,6 @@
 -- Nanoseconds of a second over the receiver (request 6): a packet that holds too many is refused whole and leaves a gap, demand 3's lists have none, and an altered slot that does stops with 27.
 -- Assumes nothing.
-use Prim.Native.Nat.{ℕ, _%_, _≤_, _<_}
+use Prim.Native.Nat.{ℕ, _+_, _%_, _≤_, _<_}
 use mathlib.Core.Path.{_≡_, refl, sym, ap, subst, _∙_}
 use mathlib.Core.Bool.{true}
 use mathlib.Core.List.{List, [], _∷_, _++_}
@@ -9,12 +9,12 @@ use lib.ListN.{length, getD}
 use Rattle.facts.specs.Limits.{mostNanos, lastNumber, shelfSize}
 use Rattle.facts.specs.Pick.{pick}
 use Rattle.wire.specs.Records.{Rec, rec}
-use Rattle.fields.specs.Fields.{refusal}
+use Rattle.fields.specs.Fields.{badAt}
 use Rattle.body.specs.Read.{goodBody}
 use Rattle.body.specs.Nanoseconds.{stamped, stampOf, PastSecond}
 use Rattle.body.proofs.Laws.{framed-is}
 use Rattle.body.proofs.Nanoseconds.{past-bad, largest}
-use Rattle.packet.specs.Packet.{framing}
+use Rattle.packet.specs.Packet.{placed, framing}
 use Rattle.packet.specs.Nanoseconds.{PastIn}
 use Rattle.packet.proofs.Nanoseconds.{past-packet, past-none}
 use Rattle.arbitration.specs.Slots.{Slot, slotFor, slotBody}
@@ -34,18 +34,18 @@ use Rattle.receiver.specs.declared.Received.{Received}
 use Rattle.receiver.proofs.Accounts.{refused-lost}
 use Rattle.receiver.proofs.Real.{every-framed}
 
--- ---- "Larger is refused with 4": a packet with such a record behind good ones is refused whole, where nothing is by 6
-pub past-received : (k : Lent) (p : List ℕ) → fit real k ≡ true → PastIn p → received k p ≡ handled (Received.Refused (refusal 4)) k
+-- ---- "Larger is refused with 4 and its offset": a packet with such a record behind good ones is refused whole, at the Timestamp, where nothing is by 6
+pub past-received : (k : Lent) (p : List ℕ) → fit real k ≡ true → (x : PastIn p) → received k p ≡ handled (Received.Bad (badAt 4 (x .at + 11))) k
 unfolding receives handledBy pick
 past-received k p f x = rw (f, past-packet p x) refl
 
 -- ---- "Recordings that held such values now leave a gap": as any refused packet, it might as well have been lost
 pub past-lost : (ps qs : List (List ℕ)) (p : List ℕ) (k : Lent) → PastIn p → receivedAll (ps ++ (p ∷ qs)) k ≡ receivedAll (ps ++ qs) k
-past-lost ps qs p k x = refused-lost real p (refusal 4) (past-packet p x) ps qs k
+past-lost ps qs p k x = refused-lost real p (placed (badAt 4 (x .at + 11))) (past-packet p x) ps qs k
 
 -- and none of its records is accepted, the good ones no more than the other
 pub past-gap : (ps qs : List (List ℕ)) (p : List ℕ) → PastIn p → accepted framing (ps ++ (p ∷ qs)) ≡ accepted framing (ps ++ qs)
-past-gap ps qs p x = refused-adds-none framing p (refusal 4) (past-packet p x) ps qs
+past-gap ps qs p x = refused-adds-none framing p (placed (badAt 4 (x .at + 11))) (past-packet p x) ps qs
 
 -- wherever in a packet it stands: no accepted record is such
 pub never-accepted : (ps : List (List ℕ)) → Every (λ (c : Rec). PastSecond (c .body) → ⊥) (accepted framing ps)

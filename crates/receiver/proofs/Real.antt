@@ -38,7 +38,7 @@ every-framed P good p = go (framing p) (framing-fine p)
     all [] h = tt
     all (c ∷ cs) h = (good c (h .0), all cs (h .1))
 
-    go : (x : Framing) → Fine x → Every P (recordsOf x)
+    go : (x : Framing) → Fine (length p) x → Every P (recordsOf x)
     go (bad q) f = tt
     go (records cs) f = all cs f
 

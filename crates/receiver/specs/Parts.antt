@@ -5,7 +5,7 @@ use mathlib.Core.List.{List}
 use lib.Dec.{eqb}
 use Rattle.facts.specs.Pick.{pick}
 use Rattle.wire.specs.Records.{Frames}
-use Rattle.fields.specs.declared.Refusal.{Refusal}
+use Rattle.packet.specs.Packet.{Why}
 use Rattle.arbitration.specs.Engine.{ok, broke, Engine, Store}
 
 -- a book with its rules: the rule that a message (its number, its body) breaks, 0 for none; the book after it; and which bodies are good
@@ -24,6 +24,6 @@ pub record Parts : Type 1 where
   pub store : Store
   pub rules : Rules
   -- how a packet is read
-  pub frame : List ℕ → Frames Refusal
+  pub frame : List ℕ → Frames Why
   -- no "table size outside these limits or not in whole rows" (6)
   pub sized : rules .Book → store .Shelf → Bool

@@ -7,7 +7,7 @@ use Rattle.facts.specs.Pick.{pick, both}
 use Rattle.facts.specs.Limits.{lastNumber}
 use Rattle.wire.specs.Records.{Frames, bad, records}
 use Rattle.fields.specs.Fields.{refusal}
-use Rattle.fields.specs.declared.Refusal.{Refusal}
+use Rattle.packet.specs.Packet.{Why, alone, placed}
 use Rattle.arbitration.specs.Receive as theory
 use Rattle.receiver.specs.Parts.{Parts, engineOf}
 use Rattle.receiver.specs.declared.Account.{Account}
@@ -25,6 +25,12 @@ account t = record { counts = t .counts; next = t .next-number; applied = t .app
 abbrev pub receivedNumber : Received → ℕ
 receivedNumber (Received.Accepted a) = 0
 receivedNumber (Received.Refused r) = r .number
+receivedNumber (Received.Bad f) = f .number
+
+-- "Demand 1 reads "number and offset" for these four" (request 5): a refused packet is told as its reader tells it
+abbrev pub refusedBy : Why → Received
+refusedBy (alone r) = Received.Refused r
+refusedBy (placed f) = Received.Bad f
 
 module _ (P : Parts) where
   -- the receiver of the theory
@@ -47,9 +53,9 @@ module _ (P : Parts) where
   abbrev pub handled : Received → Receiver → Handled
   handled a k = record { answer = a; after = k }
 
-  -- "Each refusal returns its number alone; tables, output and state keep every byte"
-  unfoldable pub handledBy : Frames Refusal → Receiver → Handled
-  handledBy (bad r) k = handled (Received.Refused r) k
+  -- "tables, output and state keep every byte"
+  unfoldable pub handledBy : Frames Why → Receiver → Handled
+  handledBy (bad w) k = handled (refusedBy w) k
   handledBy (records cs) k =
       let t : theory.Told = theory.told (P .store) (engineOf (P .rules)) cs (k .rx) in
       handled (Received.Accepted (account t)) (receiver (theory.run (P .store) (engineOf (P .rules)) cs (k .rx)) (t .stopped))

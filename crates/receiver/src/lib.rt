@@ -2,6 +2,7 @@
 use arbitration::Counts;
 use book::Clock;
 use facts::LAST_NUMBER;
+use fields::Fault;
 use fields::Refusal;
 use packet::Packet;
 ghost use mathlib.Core.Path.{_≡_};
@@ -44,9 +45,11 @@ pub struct Account {
     pub stop: u8,
 }
 
+// The answer to a packet; a refused one gives its number alone (6, 1), or number and offset in the packet (2 to 5).
 pub enum Received {
     Accepted(Account),
     Refused(Refusal),
+    Bad(Fault),
 }
 
 pub struct Reply {
@@ -339,6 +342,10 @@ pub fn receive(
     match packet::read_packet(p) {
         Packet::Refused(r) => Reply {
             answer: Received::Refused(r),
+            state,
+        },
+        Packet::Bad(f) => Reply {
+            answer: Received::Bad(f),
             state,
         },
         Packet::Good(_) => accept(orders, symbols, shelf, state, p),

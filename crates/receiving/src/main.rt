@@ -108,9 +108,16 @@ fn give(
     let a = r.answer;
     let after = r.state;
     match a {
-        Received::Refused(f) => {
+        Received::Refused(r) => {
+            io::write_all(STDOUT_FILENO, b"refused");
+            also(r.number as u64);
+            end_line();
+        }
+        Received::Bad(f) => {
             io::write_all(STDOUT_FILENO, b"refused");
             also(f.number as u64);
+            io::write_all(STDOUT_FILENO, b" at");
+            also(f.at as u64);
             end_line();
         }
         Received::Accepted(t) => show_account(t),

@@ -2,7 +2,7 @@
 -- Assumes nothing.
 use Prim.Native.Nat.{ℕ, _+_, _-_, _≤_, _<_}
 use mathlib.Core.Path.{_≡_, refl, sym, ap, _∙_}
-use mathlib.Core.Bool.{true, false}
+use mathlib.Core.Bool.{Bool, true, false}
 use mathlib.Core.List.{List, [], _∷_, _++_, append-nil}
 use native.Mathlib.Nat.{add-sub-cancel-left}
 use native.Mathlib.Numerals.{add-one}
@@ -14,18 +14,20 @@ use lib.Dec.{leb, eqb}
 use borrow.Author.Tests.{leb-true, lt-ltb, le-ltb, eq-eqb, ne-eqb}
 use Rattle.facts.specs.Pick.{pick, both}
 use Rattle.facts.specs.Limits.{packetMost, holdLeast}
-use Rattle.facts.proofs.Picks.{both-true, pick-map}
+use Rattle.facts.proofs.Picks.{both-true, pick-ind}
 use Rattle.wire.specs.Le.{field}
 use Rattle.arbitration.specs.Stream.{each}
-use Rattle.fields.specs.Fields.{refusal}
+use Rattle.fields.specs.Fields.{refusal, badAt}
 use Rattle.fields.specs.declared.Refusal.{Refusal}
+use Rattle.fields.specs.declared.Fault.{Fault}
 use Rattle.receiver.specs.Receiver.{nextOk}
-use Rattle.receiver.specs.Lent.{Handled, received, sizesOk}
+use Rattle.receiver.specs.Lent.{Handled, lent, received, sizesOk}
+use Rattle.receiver.specs.declared.State.{State}
 use Rattle.receiver.specs.declared.Account.{Account}
 use Rattle.receiver.specs.declared.Received.{Received}
-use Rattle.recording.specs.Stream.{more, added, Standing, standing, noted, heard, hearer, Hearing, hearing, byte, standingOf, hearingOf, feedable, feeding, took, fed}
+use Rattle.recording.specs.Stream.{more, added, Standing, standing, refusedFor, noted, heard, hearer, Hearing, hearing, byte, standingOf, hearingOf, feedable, feeding, took, fed}
 use Rattle.recording.specs.Carve.{passed, grown}
-use Rattle.recording.specs.Steps.{WholeAt, Passed, Pushed, Stepped, Ran}
+use Rattle.recording.specs.Steps.{missing, passedOn, passedEnd, WholeAt, Passed, Pushed, Stepped, Ran}
 use Rattle.arbitration.specs.declared.Counts.{Counts}
 use Rattle.recording.specs.declared.Stream.{Stream}
 use Rattle.recording.specs.declared.Fed.{Fed}
@@ -33,34 +35,47 @@ use Rattle.recording.specs.declared.Moved.{Moved}
 use Rattle.recording.proofs.Bytes.{byte-grows, at-byte, passes, keeps-one, over-long, keeps, gives, at-once, length-grew, same-length-field, same-bytes}
 
 -- ---- `hear`: a packet, by its answer
-module _ (k : Standing) (p : List ℕ) (x : Handled) (x-is : x ≡ received (k .lent) p) where
+module _ (k : Standing) (p : List ℕ) (short : length p ≤ packetMost) (x : Handled) (x-is : x ≡ received (k .lent) p) where
   heard-as : (a : Received) → x .answer ≡ a → noted a (x .after) k ≡ heard p k
-  unfolding heard
-  heard-as a e = ap (λ (b : Received). noted b (x .after) k) (sym e) ∙ ap (λ (y : Handled). noted (y .answer) (y .after) k) x-is
+  unfolding heard pick
+  heard-as a e = simp (le-ltb packetMost (length p) short) (ap (λ (b : Received). noted b (x .after) k) (sym e) ∙ ap (λ (y : Handled). noted (y .answer) (y .after) k) x-is)
 
-  pub heard-accepted : (a : Account) → x .answer ≡ Received.Accepted a → (n : Counts) → n ≡ added (a .counts) (k .totals) → standing (k .bad) n (x .after) ≡ heard p k
+  pub heard-accepted : (a : Account) → x .answer ≡ Received.Accepted a → (n : Counts) → n ≡ added (a .counts) (k .totals) → standing (k .bad) (k .last) n (x .after) ≡ heard p k
   unfolding noted
-  heard-accepted a e n q = ap (λ m. standing (k .bad) m (x .after)) q ∙ heard-as (Received.Accepted a) e
+  heard-accepted a e n q = ap (λ m. standing (k .bad) (k .last) m (x .after)) q ∙ heard-as (Received.Accepted a) e
 
-  pub heard-refused : (r : Refusal) → x .answer ≡ Received.Refused r → (b : ℕ) → b ≡ more (k .bad) 1 → standing b (k .totals) (x .after) ≡ heard p k
+  pub heard-refused : (r : Refusal) → x .answer ≡ Received.Refused r → refusedFor (badAt (r .number) 0) (x .after) k ≡ heard p k
   unfolding noted
-  heard-refused r e b q = ap (λ m. standing m (k .totals) (x .after)) q ∙ heard-as (Received.Refused r) e
+  heard-refused r e = heard-as (Received.Refused r) e
+
+  pub heard-bad : (f : Fault) → x .answer ≡ Received.Bad f → refusedFor f (x .after) k ≡ heard p k
+  unfolding noted
+  heard-bad f e = heard-as (Received.Bad f) e
+
+-- a refused packet, over any tables
+pub missed-as : (k v : Stream) (q : State) (f : Fault) (o s h : List ℕ) → v ≡ missing k q f → standingOf v o s h ≡ standing (more (k .bad) 1) f (k .totals) (lent o s h q)
+missed-as k v q f o s h e = ap (λ (x : Stream). standingOf x o s h) e
 
 -- ---- `pass`
 module _ (k : Stream) (at end : ℕ) (inside : at < end) where
-  pub passed-whole : k .skip ≤ end - at → 0 < k .skip → (b : ℕ) → b ≡ more (k .bad) 1 → Passed k at end (record { at = at + k .skip; stream = record { receiver = k .receiver; held = k .held; skip = 0; bad = b; totals = k .totals } })
+  pub passed-whole : k .skip ≤ end - at → 0 < k .skip → (b : ℕ) → b ≡ more (k .bad) 1 → Passed k at end (record { at = at + k .skip; stream = record { receiver = k .receiver; held = k .held; skip = 0; bad = b; last = badAt 1 0; totals = k .totals } })
   unfolding pick
   passed-whole l p b e =
       let n : at + k .skip - at ≡ k .skip = omega arith in
       let z : 0 ≡ k .skip - (at + k .skip - at) = omega arith in
       let t : eqb (at + k .skip - at) (k .skip) ≡ true = eq-eqb (at + k .skip - at) (k .skip) n in
-      record { on = omega arith; within = omega arith; most = omega arith; stream-is = (λ i. record { receiver = k .receiver; held = k .held; skip = z i; bad = e i; totals = k .totals }) ∙ (λ i. record { receiver = k .receiver; held = k .held; skip = k .skip - (at + k .skip - at); bad = pick (sym t i) (more (k .bad) 1) (k .bad); totals = k .totals }) }
+      record {
+        on = omega arith;
+        within = omega arith;
+        most = omega arith;
+        stream-is = (λ i. record { receiver = k .receiver; held = k .held; skip = z i; bad = e i; last = badAt 1 0; totals = k .totals }) ∙ (λ i. pick (sym t i) (passedEnd (at + k .skip - at) k) (passedOn (at + k .skip - at) k));
+      }
 
-  pub passed-part : end - at < k .skip → Passed k at end (record { at = end; stream = record { receiver = k .receiver; held = k .held; skip = k .skip - (end - at); bad = k .bad; totals = k .totals } })
+  pub passed-part : end - at < k .skip → Passed k at end (record { at = end; stream = passedOn (end - at) k })
   unfolding pick
   passed-part l =
       let t : eqb (end - at) (k .skip) ≡ false = ne-eqb (end - at) (k .skip) (λ e. omega arith) in
-      record { on = inside; within = omega arith; most = omega arith; stream-is = λ i. record { receiver = k .receiver; held = k .held; skip = k .skip - (end - at); bad = pick (sym t i) (more (k .bad) 1) (k .bad); totals = k .totals } }
+      record { on = inside; within = omega arith; most = omega arith; stream-is = λ i. pick (sym t i) (passedEnd (end - at) k) (passedOn (end - at) k) }
 
 -- ---- `clear`
 pub clear-zeros : (w : List ℕ) (h : ℕ) (z : List ℕ) → h ≤ length w → z ≡ replicate (length (take (length w - h) (drop h w))) 0 → putMid h (length w - h) w z ≡ take h w ++ replicate (length w - h) 0
@@ -89,12 +104,12 @@ module _ (k : Stream) (o s h w : List ℕ) (b : ℕ) (no-skip : k .skip ≡ 0) (
   u-size : length u ≡ k .held + 1
   u-size = length-grew w (k .held) b fits
 
-  one-kept : grown hearer u K ≡ hearing u 0 K → k .held < length w → (m : ℕ) → m ≡ k .held + 1 → Pushed b x (record { receiver = k .receiver; held = m; skip = k .skip; bad = k .bad; totals = k .totals }) o s h w′
+  one-kept : grown hearer u K ≡ hearing u 0 K → k .held < length w → (m : ℕ) → m ≡ k .held + 1 → Pushed b x (record { receiver = k .receiver; held = m; skip = k .skip; bad = k .bad; last = k .last; totals = k .totals }) o s h w′
   one-kept g l m e =
       let front : take m w′ ≡ u = ap (λ v. take m v) stored ∙ ap (λ j. take j (set w (k .held) b)) (e ∙ add-one (k .held)) ∙ take-suc-set w (k .held) b l in
       record { fits = omega (arith, same-size); is = (λ i. hearing (front i) (no-skip i) K) ∙ sym g ∙ sym is-grown }
 
-  pub push-first : k .held ≡ 0 → Pushed b x (record { receiver = k .receiver; held = 1; skip = k .skip; bad = k .bad; totals = k .totals }) o s h w′
+  pub push-first : k .held ≡ 0 → Pushed b x (record { receiver = k .receiver; held = 1; skip = k .skip; bad = k .bad; last = k .last; totals = k .totals }) o s h w′
   push-first z = one-kept (keeps-one hearer u K (omega (arith, u-size))) (omega arith) 1 (omega arith)
 
   module _ (some : k .held ≡ 0 → ⊥) (n : ℕ) (n-is : n ≡ field w′ 0 2) where
@@ -104,12 +119,12 @@ module _ (k : Stream) (o s h w : List ℕ) (b : ℕ) (no-skip : k .skip ≡ 0) (
     u-two : 2 ≤ length u
     u-two = omega (arith, u-size)
 
-    pub push-over : packetMost < n → Pushed b x (record { receiver = k .receiver; held = 0; skip = n; bad = k .bad; totals = k .totals }) o s h w′
+    pub push-over : packetMost < n → Pushed b x (record { receiver = k .receiver; held = 0; skip = n; bad = k .bad; last = k .last; totals = k .totals }) o s h w′
     push-over l =
         let g = over-long hearer u K u-two (lt-ltb packetMost (field u 0 2) (omega (arith, u-field))) in
         record { fits = omega arith; is = (λ i. hearing [] (u-field i) K) ∙ sym g ∙ sym is-grown }
 
-    pub push-keeps : n ≤ packetMost → k .held ≤ n → Pushed b x (record { receiver = k .receiver; held = k .held + 1; skip = k .skip; bad = k .bad; totals = k .totals }) o s h w′
+    pub push-keeps : n ≤ packetMost → k .held ≤ n → Pushed b x (record { receiver = k .receiver; held = k .held + 1; skip = k .skip; bad = k .bad; last = k .last; totals = k .totals }) o s h w′
     push-keeps a c = one-kept (keeps hearer u K u-two (le-ltb packetMost (field u 0 2) (omega (arith, u-field))) (omega (arith, u-field, u-size))) (omega arith) (k .held + 1) refl
 
     pub push-gives : n ≤ packetMost → n < k .held → (r : Stream) (o′ s′ h′ : List ℕ) → standingOf r o′ s′ h′ ≡ heard (take (2 + n - 2) (drop 2 w′)) K → r .held ≡ 0 → r .skip ≡ 0 → Pushed b x r o′ s′ h′ w′
@@ -123,20 +138,26 @@ here-length : (t : List ℕ) (at : ℕ) → field (drop at t) 0 2 ≡ field t at
 unfolding field
 here-length t at = refl
 
+-- a stream that passes bytes over is the carving that does
+as-passed : (t : Bool) (n : ℕ) (k : Stream) (o s h w : List ℕ) → hearingOf (pick t (passedEnd n k) (passedOn n k)) o s h w ≡ hearing (take (k .held) w) (k .skip - n) (pick t (hearer .long (standingOf k o s h)) (standingOf k o s h))
+unfolding pick
+as-passed true n k o s h w = refl
+as-passed false n k o s h w = refl
+
 pub step-passes : (k : Stream) (o s h w chunk : List ℕ) (at : ℕ) (r : Moved) → 0 < k .skip → k .held ≤ length w → Passed k at (length chunk) r → Stepped chunk at (hearingOf k o s h w) r o s h w
 unfolding passed
 step-passes k o s h w chunk at r p fits q =
     let n : ℕ = r .at - at in
     let place : at + n ≡ r .at = omega (arith, q .on) in
     let behind : drop n (drop at chunk) ≡ drop (r .at) chunk = drop-drop n at chunk ∙ ap (λ j. drop j chunk) place in
-    let ends : r .stream .held ≡ k .held = ap (λ (v : Stream). v .held) (q .stream-is) in
+    let ends : r .stream .held ≡ k .held = ap (λ (v : Stream). v .held) (q .stream-is) ∙ pick-ind (λ (v : Stream). v .held ≡ k .held) (eqb n (k .skip)) (passedEnd n k) (passedOn n k) (λ _. refl) (λ _. refl) in
     record {
       on = q .on;
       within = q .within;
       fits = omega arith;
       same =
           ap (λ v. each byte (drop (r .at) chunk) (hearingOf v o s h w)) (q .stream-is)
-          ∙ ap (λ e. each byte (drop (r .at) chunk) (hearing (take (k .held) w) (k .skip - n) e)) (pick-map (λ b. standing b (k .totals) (standingOf k o s h .lent)) (eqb n (k .skip)) (more (k .bad) 1) (k .bad))
+          ∙ ap (each byte (drop (r .at) chunk)) (as-passed (eqb n (k .skip)) n k o s h w)
           ∙ ap (λ d. each byte d (passed hearer n (hearingOf k o s h w))) (sym behind)
           ∙ passes hearer n (drop at chunk) (hearingOf k o s h w) (omega (arith, q .on)) (q .most) (rw length-drop (omega (arith, q .on, q .within)));
     }
@@ -182,7 +203,7 @@ module _ (k : Stream) (o s h w chunk : List ℕ) where
   fed-took e r o′ s′ h′ w′ z n q c =
       let len : r .held ≡ length (take (r .held) w′) = sym (length-take-le (r .held) w′ (q .fits)) in
       let buffer : z ≡ take (r .held) w′ ++ replicate (length w - length (take (r .held) w′)) 0 = c ∙ (λ i. take (r .held) w′ ++ replicate (n i - len i) 0) in
-      (λ i. feeding (Fed.Took (record { receiver = r .receiver; held = len i; skip = r .skip; bad = r .bad; totals = r .totals })) o′ s′ h′ (buffer i))
+      (λ i. feeding (Fed.Took (record { receiver = r .receiver; held = len i; skip = r .skip; bad = r .bad; last = r .last; totals = r .totals })) o′ s′ h′ (buffer i))
       ∙ ap (took (length w)) (q .is)
       ∙ simp e
 

@@ -11,38 +11,33 @@ use native.Mathlib.Decide.{decLt}
 use lib.ListN.{length, take, drop, length-drop}
 use lib.Seq.{length-take-le}
 use lib.Dec.{leb, ltb, eqb}
-use borrow.Author.Tests.{leb-true, le-leb, lt-leb, lt-ltb, le-ltb, ne-eqb}
+use borrow.Author.Tests.{leb-true, ltb-true, le-leb, lt-leb, lt-ltb, le-ltb, ne-eqb}
 use Rattle.facts.specs.Pick.{pick, both, either}
 use Rattle.facts.specs.Limits.{packetMost}
 use Rattle.facts.proofs.Picks.{pick-ind, both-true, either-none}
 use Rattle.wire.specs.Le.{field}
 use Rattle.wire.specs.Records.{bad}
 use Rattle.fields.specs.Fields.{refusal}
-use Rattle.packet.specs.Packet.{Framing, framing}
+use Rattle.packet.specs.Packet.{alone, framing}
 use Rattle.arbitration.specs.Stream.{each}
-use Rattle.receiver.specs.Receiver.{handledBy, fit, receives, receivesAll}
-use Rattle.receiver.specs.Lent.{real, Lent, Handled, handled, received, receivedAll}
+use Rattle.receiver.specs.Receiver.{receivesAll}
+use Rattle.receiver.specs.Lent.{real, Lent, Handled, received, receivedAll}
+use Rattle.receiver.proofs.Accounts.{bad-keeps}
 use Rattle.receiver.specs.declared.Received.{Received}
 use Rattle.recording.specs.Carve.{Carved, carved, passed, grown, carve}
-use Rattle.recording.specs.Stream.{more, Standing, standing, noted, heard, hears, hearer, Hearing, hearing, byte, cut, streamIn}
+use Rattle.recording.specs.Stream.{Standing, tooLong, noted, heard, hears, hearer, Hearing, hearing, byte, cut, streamIn}
 use Rattle.recording.specs.Whole.{collects, packetsOf, restOf, Inside, waiting}
 use Rattle.recording.proofs.Bytes.{byte-grows, byte-passes, keeps-one, over-long, keeps, gives}
 use Rattle.recording.proofs.Packets.{longer, announced, completed, size, same-length, exact, one-byte, Tiled, tiled-byte, none-tiled, packets-laid}
 
 -- a packet of more than 1,500 bytes is refused, as any bad one is
-framing-long : (p : List ℕ) → packetMost < length p → framing p ≡ bad (refusal 1)
+framing-long : (p : List ℕ) → packetMost < length p → framing p ≡ bad (alone (refusal 1))
 unfolding framing both pick
 framing-long p h = simp (le-leb 1 (length p) (omega arith), lt-leb (length p) packetMost h)
 
-pub heard-long : (p : List ℕ) (k : Standing) → packetMost < length p → heard p k ≡ standing (more (k .bad) 1) (k .totals) (k .lent)
-unfolding heard noted receives handledBy
-heard-long p k h =
-    pick-ind Bad (fit real (k .lent)) (handledBy real (framing p) (k .lent)) (handled (Received.Refused (refusal 6)) (k .lent))
-    (λ _. ap (λ (x : Framing). noted (handledBy real x (k .lent) .answer) (handledBy real x (k .lent) .after) k) (framing-long p h))
-    (λ _. refl)
-  where
-    Bad : Handled → Type 0
-    Bad x = noted (x .answer) (x .after) k ≡ standing (more (k .bad) 1) (k .totals) (k .lent)
+pub heard-long : (p : List ℕ) (k : Standing) → packetMost < length p → heard p k ≡ tooLong k
+unfolding heard pick
+heard-long p k h = simp (lt-ltb packetMost (length p) h)
 
 -- ---- what the bytes that are left come to
 waiting-over : (u : List ℕ) (k : Standing) → 2 ≤ length u → packetMost < field u 0 2 → waiting u k ≡ hearing [] (field u 0 2 - (length u - 2)) k
@@ -166,13 +161,22 @@ cut-waiting u k i =
 pub cut-rest : (t : List ℕ) (k : Standing) → cut (streamIn (each byte t (hearing [] 0 k))) ≡ ltb 0 (length (restOf t))
 cut-rest t k = ap (λ (x : Hearing). cut (streamIn x)) (all-heard t k) ∙ cut-waiting (restOf t) (hears (packetsOf t) k) (packets-laid t .1)
 
--- the receiver and its tables are those of as many calls of `receive`
+-- the receiver and its tables are those of as many calls of `receive`: over-long packets, which it would refuse, make no difference
 counted-after : (a : Received) (after : Lent) (k : Standing) → noted a after k .lent ≡ after
 unfolding noted
 counted-after (Received.Accepted t) after k = refl
 counted-after (Received.Refused r) after k = refl
+counted-after (Received.Bad f) after k = refl
+
+heard-after : (p : List ℕ) (k : Standing) → heard p k .lent ≡ received (k .lent) p .after
+unfolding heard
+heard-after p k =
+    let x : Handled = received (k .lent) p in
+    pick-ind (λ (y : Standing). y .lent ≡ x .after) (ltb packetMost (length p)) (tooLong k) (noted (x .answer) (x .after) k)
+    (λ e. sym (bad-keeps real (k .lent) p (alone (refusal 1)) (framing-long p (ltb-true packetMost (length p) e))))
+    (λ _. counted-after (x .answer) (x .after) k)
 
 pub hears-receives : (ps : List (List ℕ)) (k : Standing) → hears ps k .lent ≡ receivedAll ps (k .lent)
-unfolding hears receivesAll heard
+unfolding hears receivesAll
 hears-receives [] k = refl
-hears-receives (p ∷ ps) k = hears-receives ps (heard p k) ∙ ap (receivedAll ps) (counted-after (received (k .lent) p .answer) (received (k .lent) p .after) k)
+hears-receives (p ∷ ps) k = hears-receives ps (heard p k) ∙ ap (receivedAll ps) (heard-after p k)

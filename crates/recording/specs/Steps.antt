@@ -7,7 +7,10 @@ use lib.Dec.{eqb}
 use Rattle.facts.specs.Pick.{pick}
 use Rattle.facts.specs.Limits.{packetMost}
 use Rattle.wire.specs.Le.{field}
+use Rattle.fields.specs.Fields.{badAt}
+use Rattle.fields.specs.declared.Fault.{Fault}
 use Rattle.arbitration.specs.Stream.{each}
+use Rattle.receiver.specs.declared.State.{State}
 use Rattle.recording.specs.Stream.{Hearing, hearingOf, byte, more}
 use Rattle.recording.specs.declared.Stream.{Stream}
 use Rattle.recording.specs.declared.Moved.{Moved}
@@ -18,9 +21,19 @@ pub record WholeAt (chunk : List ℕ) (at m : ℕ) : Type 0 where
   pub small : field chunk at 2 ≤ packetMost
   pub fits : at + m ≤ length chunk
 
--- n bytes of an over-long packet passed over
+-- a packet that was refused: a receiver after it, and why
+abbrev pub missing : Stream → State → Fault → Stream
+missing k q f = record { receiver = q; held = 0; skip = 0; bad = more (k .bad) 1; last = f; totals = k .totals }
+
+-- n bytes of an over-long packet passed over, with or without its last byte
+abbrev pub passedOn : ℕ → Stream → Stream
+passedOn n k = record { receiver = k .receiver; held = k .held; skip = k .skip - n; bad = k .bad; last = k .last; totals = k .totals }
+
+abbrev pub passedEnd : ℕ → Stream → Stream
+passedEnd n k = record { receiver = k .receiver; held = k .held; skip = k .skip - n; bad = more (k .bad) 1; last = badAt 1 0; totals = k .totals }
+
 abbrev pub passedOver : ℕ → Stream → Stream
-passedOver n k = record { receiver = k .receiver; held = k .held; skip = k .skip - n; bad = pick (eqb n (k .skip)) (more (k .bad) 1) (k .bad); totals = k .totals }
+passedOver n k = pick (eqb n (k .skip)) (passedEnd n k) (passedOn n k)
 
 pub record Passed (k : Stream) (at end : ℕ) (r : Moved) : Type 0 where
   pub on : at < r .at

@@ -5,7 +5,8 @@ use mathlib.Core.List.{List, [], _∷_, _++_}
 use lib.ListN.{length, take, replicate}
 use lib.Dec.{leb, ltb}
 use Rattle.facts.specs.Pick.{pick, both, either}
-use Rattle.fields.specs.Fields.{refusal}
+use Rattle.fields.specs.Fields.{refusal, badAt}
+use Rattle.fields.specs.declared.Fault.{Fault}
 use Rattle.facts.specs.Limits.{packetMost, holdLeast}
 use Rattle.arbitration.specs.declared.Counts.{Counts}
 use Rattle.arbitration.specs.Receive.{noCounts}
@@ -26,31 +27,41 @@ more a b = min (a + b) 18446744073709551615
 unfoldable pub added : Counts → Counts → Counts
 added t n = record { taken = more (n .taken) (t .taken); old = more (n .old) (t .old); far = more (n .far) (t .far); repeated = more (n .repeated) (t .repeated); differing = more (n .differing) (t .differing) }
 
--- what packets change: the counts, and the receiver with its tables
+-- what packets change: the counts, why the last refused packet was, and the receiver with its tables
 pub record Standing : Type 0 where
   pub bad : ℕ
+  pub last : Fault
   pub totals : Counts
   pub lent : Lent
 
-abbrev pub standing : ℕ → Counts → Lent → Standing
-standing b n k = record { bad = b; totals = n; lent = k }
+abbrev pub standing : ℕ → Fault → Counts → Lent → Standing
+standing b f n k = record { bad = b; last = f; totals = n; lent = k }
 
 -- "A refused packet is counted as bad and passed over"
+abbrev pub refusedFor : Fault → Lent → Standing → Standing
+refusedFor f after k = standing (more (k .bad) 1) f (k .totals) after
+
+-- by number and offset (request 5), and with offset 0 where the number stands alone
 unfoldable pub noted : Received → Lent → Standing → Standing
-noted (Received.Accepted a) after k = standing (k .bad) (added (a .counts) (k .totals)) after
-noted (Received.Refused r) after k = standing (more (k .bad) 1) (k .totals) after
+noted (Received.Accepted a) after k = standing (k .bad) (k .last) (added (a .counts) (k .totals)) after
+noted (Received.Refused r) after k = refusedFor (badAt (r .number) 0) after k
+noted (Received.Bad f) after k = refusedFor f after k
+
+-- "A packet is 1 to 1,500 bytes": a longer one is refused by 1, unread
+abbrev pub tooLong : Standing → Standing
+tooLong k = refusedFor (badAt 1 0) (k .lent) k
 
 unfoldable pub heard : List ℕ → Standing → Standing
-heard p k = noted (received (k .lent) p .answer) (received (k .lent) p .after) k
+heard p k = pick (ltb packetMost (length p)) (tooLong k) (noted (received (k .lent) p .answer) (received (k .lent) p .after) k)
 
 -- packet after packet
 unfoldable pub hears : List (List ℕ) → Standing → Standing
 hears [] k = k
 hears (p ∷ ps) k = hears ps (heard p k)
 
--- "A packet is 1 to 1,500 bytes": a longer one is passed over, and is bad when its last byte has come
+-- an over-long packet is passed over, and is bad when its last byte has come
 abbrev pub hearer : Hearer Standing
-hearer = record { over = λ n. ltb packetMost n; give = heard; long = λ k. standing (more (k .bad) 1) (k .totals) (k .lent) }
+hearer = record { over = λ n. ltb packetMost n; give = heard; long = tooLong }
 
 abbrev pub Hearing : Type 0
 Hearing = Carved Standing
@@ -64,14 +75,14 @@ byte = carve hearer
 
 -- ---- the stream of the code: its state by value, the tables and the lent buffer
 abbrev pub standingOf : Stream → List ℕ → List ℕ → List ℕ → Standing
-standingOf k o s h = standing (k .bad) (k .totals) (lent o s h (k .receiver))
+standingOf k o s h = standing (k .bad) (k .last) (k .totals) (lent o s h (k .receiver))
 
 abbrev pub hearingOf : Stream → List ℕ → List ℕ → List ℕ → List ℕ → Hearing
 hearingOf k o s h w = hearing (take (k .held) w) (k .skip) (standingOf k o s h)
 
--- nothing held, nothing to pass over, nothing counted
+-- nothing held, nothing to pass over, nothing refused, nothing counted
 abbrev pub opened : State → Stream
-opened q = record { receiver = q; held = 0; skip = 0; bad = 0; totals = noCounts }
+opened q = record { receiver = q; held = 0; skip = 0; bad = 0; last = badAt 0 0; totals = noCounts }
 
 -- "a recording that ends inside a length or packet gives `recording=cut`"
 unfoldable pub cut : Stream → Bool
@@ -98,7 +109,7 @@ fedNumber (Fed.Took k) = 0
 fedNumber (Fed.Refused r) = r .number
 
 abbrev pub streamIn : Hearing → Stream
-streamIn x = record { receiver = stateOf (x .kept .lent); held = length (x .unfinished); skip = x .skip; bad = x .kept .bad; totals = x .kept .totals }
+streamIn x = record { receiver = stateOf (x .kept .lent); held = length (x .unfinished); skip = x .skip; bad = x .kept .bad; last = x .kept .last; totals = x .kept .totals }
 
 -- the stream after a chunk: in a buffer of w bytes the unfinished ones, and zeros behind them
 unfoldable pub took : ℕ → Hearing → Feeding

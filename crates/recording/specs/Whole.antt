@@ -9,6 +9,7 @@ use lib.Dec.{leb, ltb}
 use Rattle.facts.specs.Pick.{pick, both}
 use Rattle.facts.specs.Limits.{packetMost}
 use Rattle.wire.specs.Le.{field}
+use Rattle.fields.specs.Fields.{badAt}
 use Rattle.receiver.specs.Lent.{fresh, freshState}
 use Rattle.arbitration.specs.Receive.{noCounts}
 use Rattle.arbitration.specs.Stream.{each}
@@ -68,7 +69,7 @@ fedAll (c ∷ cs) x = fedAll cs (fedOn c x)
 -- ---- from a start
 -- nothing counted
 abbrev pub began : ℕ → ℕ → ℕ → Standing
-began o s h = standing 0 noCounts (fresh o s h)
+began o s h = standing 0 (badAt 0 0) noCounts (fresh o s h)
 
 -- a stream that was opened over the tables of a start; w: the lent buffer, with any bytes
 abbrev pub openedOver : ℕ → ℕ → ℕ → List ℕ → Feeding

@@ -2,24 +2,26 @@
 use arbitration::Counts;
 use facts::HOLD_LEAST;
 use facts::PACKET_MOST;
+use fields::Fault;
 use fields::Refusal;
 use receiver::Received;
 use receiver::State;
 ghost use mathlib.Core.Path.{_≡_};
 ghost use mathlib.Core.List.{_++_};
 ghost use Prim.Native.Nat.{_+_, _-_, _≤_, _<_};
-ghost use Rattle.facts.specs.Limits.{holdLeast};
+ghost use Rattle.facts.specs.Limits.{packetMost, holdLeast};
 ghost use lib.ListN.{length, take, drop, set, replicate};
 ghost use Rattle.recording.specs.Stream.{more as atMost, added, heard, standingOf, hearingOf, opened, cut, feedable, feeding, fed};
-ghost use Rattle.recording.specs.Steps.{WholeAt, Passed, Pushed, Stepped, Ran};
+ghost use Rattle.recording.specs.Steps.{missing, WholeAt, Passed, Pushed, Stepped, Ran};
 
 // What a stream keeps between chunks, beside its buffer: the receiver, how many bytes of an unfinished packet are in the buffer, how many
-// of an over-long one are still to come, and the counts.
+// of an over-long one are still to come, how many packets were refused and why the last of them was, and the counts.
 pub struct Stream {
     pub receiver: State,
     pub held: usize,
     pub skip: usize,
     pub bad: u64,
+    pub last: Fault,
     pub totals: Counts,
 }
 
@@ -52,8 +54,25 @@ fn add(n: Counts, t: Counts) -> Counts
     }
 }
 
+// A refused packet: counted, and why it was. Nothing is held after it.
+fn missed(k: Stream, receiver: State, last: Fault) -> Stream
+    ensures { λ r. ⌜ r ≡ missing k receiver last ⌝ }
+{
+    let bad = more(k.bad, 1);
+    let totals = k.totals;
+    Stream {
+        receiver,
+        held: 0,
+        skip: 0,
+        bad,
+        last,
+        totals,
+    }
+}
+
 // A whole packet: given to the receiver and counted. Nothing is held after it.
 fn hear(orders: &mut [u64], symbols: &mut [u8], shelf: &mut [u8], k: Stream, p: &[u8]) -> Stream
+    requires { ⌜ length (now p) ≤ packetMost ⌝ }
     ensures { λ r. ⌜ (standingOf r (now (orders .exit)) (now (symbols .exit)) (now (shelf .exit)) ≡ heard (now (p .entry)) (standingOf k (now (orders .entry)) (now (symbols .entry)) (now (shelf .entry)))) × (r .held ≡ 0) × (r .skip ≡ 0) ⌝ }
 {
     let a = receiver::receive(orders, symbols, shelf, k.receiver, p);
@@ -63,25 +82,25 @@ fn hear(orders: &mut [u64], symbols: &mut [u8], shelf: &mut [u8], k: Stream, p: 
     match answer {
         Received::Accepted(t) => {
             let counts = t.counts;
+            let last = k.last;
             let sums = add(totals, counts);
             Stream {
                 receiver,
                 held: 0,
                 skip: 0,
                 bad: k.bad,
+                last,
                 totals: sums,
             }
         }
-        Received::Refused(_) => {
-            let bad = more(k.bad, 1);
-            Stream {
-                receiver,
-                held: 0,
-                skip: 0,
-                bad,
-                totals,
-            }
+        Received::Refused(e) => {
+            let last = Fault {
+                number: e.number,
+                at: 0,
+            };
+            missed(k, receiver, last)
         }
+        Received::Bad(f) => missed(k, receiver, f),
     }
 }
 
@@ -94,7 +113,9 @@ fn pass(k: Stream, at: usize, end: usize) -> Moved
     let left = end - at;
     let mut stream = k;
     if skip <= left {
+        let last = Fault { number: 1, at: 0 };
         stream.bad = more(k.bad, 1);
+        stream.last = last;
         stream.skip = 0;
         return Moved {
             at: at + skip,
@@ -261,6 +282,7 @@ pub fn open(state: State) -> Stream
         held: 0,
         skip: 0,
         bad: 0,
+        last: Fault { number: 0, at: 0 },
         totals: Counts {
             taken: 0,
             old: 0,

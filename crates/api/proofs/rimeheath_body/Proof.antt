@@ -1,23 +1,33 @@
+use mathlib.Core.Path.{sym, _∙_}
+use native.Mathlib.Omega.{arith}
+use Rattle.body.proofs.Places.{judged-small}
+use Rattle.api.proofs.Handing.{body-refused, body-told}
 -- A refused body leaves what is lent; any other is told by its first byte and its numbers.
 -- Assumes nothing.
-use mathlib.Core.Path.{refl}
-use Rattle.api.proofs.Handing.{body-refused, body-told}
-use native.Mathlib.Omega.{arith}
 use borrow.Author.Needs.{needs}
 use Rattle.api.proofs.rimeheath_body.Statement.{statement}
 use Rattle.api.proofs.rimeheath_body.Tie as tie
 
-read-body-requires : tie.Need-read-body-requires
-read-body-requires c κs = search needs
+judge-body-requires : tie.Need-judge-body-requires
+judge-body-requires c κs = search needs
 
-number-of-requires : tie.Need-number-of-requires
-number-of-requires c κs = search needs
+enum-known-f : tie.Need-enum-known-f
+enum-known-f c = search needs
 
-returns : tie.Need-returns
-returns c = body-refused _ _ (c .before .before .read-body .ensures) _ _ _ (c .before .number-of .ensures) (λ z. omega (arith, c .if1 .taken))
+with-offset-requires : tie.Need-with-offset-requires
+with-offset-requires c κs = omega (arith, judged-small (c .before .before .before .before .before .args .b .now) _ (sym (c .before .f .given .1) ∙ c .before .before .before .judge-body .ensures))
+
+enum-told : tie.Need-enum-told
+enum-told c = search needs
 
 u8-at-requires : tie.Need-u8-at-requires
 u8-at-requires c κs = search needs
+
+kind-of-requires : tie.Need-kind-of-requires
+kind-of-requires c κs = search needs
+
+decode-requires : tie.Need-decode-requires
+decode-requires c κs = search needs
 
 cast-fields-of : tie.Need-cast-fields-of
 cast-fields-of c = search needs
@@ -25,17 +35,24 @@ cast-fields-of c = search needs
 fields-of-requires : tie.Need-fields-of-requires
 fields-of-requires c κs = search needs
 
+returns : tie.Need-returns
+returns c = body-refused _ _ _ (c .before .before .before .before .judge-body .ensures) _ (c .before .before .f .given .1) _ (c .with-offset .ensures)
+
 returns-2 : tie.Need-returns-2
-returns-2 c = body-told _ _ (c .before .before .before .before .read-body .ensures) _ _ _ (c .before .before .before .number-of .ensures) refl (omega (arith, c .before .before .if1 .left)) _ (c .before .u8-at .ensures) _ (c .fields-of .ensures)
+returns-2 c = body-told _ _ _ (c .before .before .before .before .before .before .judge-body .ensures) (c .before .before .before .before .enum-told .given .1) _ (c .before .before .before .u8-at .ensures) _ (c .before .before .kind-of .ensures) _ (c .before .decode .ensures) _ (c .fields-of .ensures)
 
 pub rimeheath-body-spec : {M : Type 1} → statement M
 rimeheath-body-spec =
     tie.close
     (tie.spec
-    read-body-requires
-    number-of-requires
-    returns
+    judge-body-requires
+    enum-known-f
+    with-offset-requires
+    enum-told
     u8-at-requires
+    kind-of-requires
+    decode-requires
     cast-fields-of
     fields-of-requires
+    returns
     returns-2)

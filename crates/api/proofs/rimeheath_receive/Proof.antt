@@ -1,7 +1,12 @@
+use mathlib.Core.Path.{sym, ap, _∙_}
+use native.Mathlib.Omega.{arith}
+use Rattle.packet.proofs.Places.{packet-small}
+use Rattle.receiver.specs.Lent.{Handled}
+use Rattle.receiver.proofs.Places.{bad-read}
+use Rattle.api.specs.Calls.{receiveAnswer}
+use Rattle.api.proofs.Handing.{receive-handed, receive-bad, receive-accepted}
 -- A refused packet leaves state and account; an accepted one tells both.
 -- Assumes nothing.
-use Rattle.api.specs.Calls.{receiveAnswer}
-use Rattle.api.proofs.Handing.{receive-handed, receive-accepted}
 use borrow.Author.Needs.{needs}
 use Rattle.api.proofs.rimeheath_receive.Statement.{statement}
 use Rattle.api.proofs.rimeheath_receive.Tie as tie
@@ -15,14 +20,23 @@ receive-requires c κs = search needs
 enum-known-answer : tie.Need-enum-known-answer
 enum-known-answer c = search needs
 
+cast-result : tie.Need-cast-result
+cast-result c = search needs
+
 enum-known-answer-2 : tie.Need-enum-known-answer-2
 enum-known-answer-2 c = search needs
 
-cast-t22 : tie.Need-cast-t22
-cast-t22 c = search needs
+with-offset-requires : tie.Need-with-offset-requires
+with-offset-requires c κs = omega (arith, packet-small (c .before .before .before .before .before .before .before .before .before .before .before .before .before .before .before .before .before .before .before .before .args .p .now) _ (bad-read _ (c .before .before .before .before .before .before .before .before .before .before .before .before .before .before .before .before .before .before .before .before .args .p .now) _ (ap (λ (x : Handled). x .answer) (sym (c .before .before .before .before .before .before .before .before .before .before .receive .ensures)) ∙ c .before .answer2 .given .1)))
+
+enum-known-answer-3 : tie.Need-enum-known-answer-3
+enum-known-answer-3 c = search needs
 
 cast-t23 : tie.Need-cast-t23
 cast-t23 c = search needs
+
+cast-t24 : tie.Need-cast-t24
+cast-t24 c = search needs
 
 account-numbers-requires : tie.Need-account-numbers-requires
 account-numbers-requires c κs = search needs
@@ -38,7 +52,7 @@ same-length-3 c = search needs
 
 returns : tie.Need-returns
 unfolding receiveAnswer
-returns c = receive-handed _ _ _ _ _ _ (rw (c .before .before .before .before .before .before .before .before .before .before .before .state-in .ensures) at (c .before .before .before .before .before .before .before .before .before .before .receive .ensures)) (c .before .before .before .before .before .before .before .before .before .before .before .before .before .before .before .before .before .before .before .before .args .state .now) (c .before .before .before .before .before .before .before .before .before .before .before .before .before .before .before .before .before .before .before .before .args .account .now) _ (c .before .answer .given .1)
+returns c = receive-handed _ _ _ _ _ _ (rw (c .before .before .before .before .before .before .before .before .before .before .before .before .state-in .ensures) at (c .before .before .before .before .before .before .before .before .before .before .before .receive .ensures)) (c .before .before .before .before .before .before .before .before .before .before .before .before .before .before .before .before .before .before .before .before .before .args .state .now) (c .before .before .before .before .before .before .before .before .before .before .before .before .before .before .before .before .before .before .before .before .before .args .account .now) _ (c .before .before .answer .given .1)
 
 same-length-4 : tie.Need-same-length-4
 same-length-4 c = search needs
@@ -50,7 +64,19 @@ same-length-6 : tie.Need-same-length-6
 same-length-6 c = search needs
 
 returns-2 : tie.Need-returns-2
-returns-2 c = receive-accepted _ _ _ _ _ _ (rw (c .before .before .before .before .before .before .before .before .before .before .before .before .before .before .before .before .state-in .ensures) at (c .before .before .before .before .before .before .before .before .before .before .before .before .before .before .before .receive .ensures)) _ _ _ (c .before .before .before .before .before .before .answer2 .given .1) _ (c .account-numbers .ensures)
+returns-2 c = receive-bad _ _ _ _ _ _ (rw (c .before .before .before .before .before .before .before .before .before .before .before .before .state-in .ensures) at (c .before .before .before .before .before .before .before .before .before .before .before .receive .ensures)) _ _ _ (c .before .before .answer2 .given .1) _ (c .with-offset .ensures)
+
+same-length-7 : tie.Need-same-length-7
+same-length-7 c = search needs
+
+same-length-8 : tie.Need-same-length-8
+same-length-8 c = search needs
+
+same-length-9 : tie.Need-same-length-9
+same-length-9 c = search needs
+
+returns-3 : tie.Need-returns-3
+returns-3 c = receive-accepted _ _ _ _ _ _ (rw (c .before .before .before .before .before .before .before .before .before .before .before .before .before .before .before .before .state-in .ensures) at (c .before .before .before .before .before .before .before .before .before .before .before .before .before .before .before .receive .ensures)) _ _ _ (c .before .before .before .before .before .before .answer3 .given .1) _ (c .account-numbers .ensures)
 
 pub rimeheath-receive-spec : {M : Type 1} → statement M
 rimeheath-receive-spec =
@@ -59,9 +85,12 @@ rimeheath-receive-spec =
     state-in-requires
     receive-requires
     enum-known-answer
+    cast-result
     enum-known-answer-2
-    cast-t22
+    with-offset-requires
+    enum-known-answer-3
     cast-t23
+    cast-t24
     account-numbers-requires
     same-length
     same-length-2
@@ -70,4 +99,8 @@ rimeheath-receive-spec =
     same-length-4
     same-length-5
     same-length-6
-    returns-2)
+    returns-2
+    same-length-7
+    same-length-8
+    same-length-9
+    returns-3)

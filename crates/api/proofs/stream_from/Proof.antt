@@ -4,59 +4,71 @@ use borrow.Author.Needs.{needs}
 use Rattle.api.proofs.stream_from.Statement.{statement}
 use Rattle.api.proofs.stream_from.Tie as tie
 
-element-copy-out-t7 : tie.Need-element-copy-out-t7
-element-copy-out-t7 c = search needs
+element-copy-out-t8 : tie.Need-element-copy-out-t8
+element-copy-out-t8 c = search needs
 
-element-copy-out-t10 : tie.Need-element-copy-out-t10
-element-copy-out-t10 c = search needs
+element-copy-out-t11 : tie.Need-element-copy-out-t11
+element-copy-out-t11 c = search needs
 
-element-copy-out-t13 : tie.Need-element-copy-out-t13
-element-copy-out-t13 c = search needs
+element-copy-out-t14 : tie.Need-element-copy-out-t14
+element-copy-out-t14 c = search needs
 
 state-in-requires : tie.Need-state-in-requires
 state-in-requires c κs = search needs
 
-element-copy-out-t7-2 : tie.Need-element-copy-out-t7-2
-element-copy-out-t7-2 c = search needs
+element-copy-out-t8-2 : tie.Need-element-copy-out-t8-2
+element-copy-out-t8-2 c = search needs
 
-element-copy-out-t13-2 : tie.Need-element-copy-out-t13-2
-element-copy-out-t13-2 c = search needs
+element-copy-out-t14-2 : tie.Need-element-copy-out-t14-2
+element-copy-out-t14-2 c = search needs
 
-element-copy-out-t10-2 : tie.Need-element-copy-out-t10-2
-element-copy-out-t10-2 c = search needs
+element-copy-out-t11-2 : tie.Need-element-copy-out-t11-2
+element-copy-out-t11-2 c = search needs
 
-element-copy-out-t23 : tie.Need-element-copy-out-t23
-element-copy-out-t23 c = search needs
+element-copy-out-t24 : tie.Need-element-copy-out-t24
+element-copy-out-t24 c = search needs
 
-element-copy-out-t26 : tie.Need-element-copy-out-t26
-element-copy-out-t26 c = search needs
+element-copy-out-t27 : tie.Need-element-copy-out-t27
+element-copy-out-t27 c = search needs
 
-element-copy-out-t7-3 : tie.Need-element-copy-out-t7-3
-element-copy-out-t7-3 c = search needs
+element-copy-out-t8-3 : tie.Need-element-copy-out-t8-3
+element-copy-out-t8-3 c = search needs
 
-element-copy-out-t26-2 : tie.Need-element-copy-out-t26-2
-element-copy-out-t26-2 c = search needs
+cast-t30 : tie.Need-cast-t30
+cast-t30 c = search needs
 
-element-copy-out-t23-2 : tie.Need-element-copy-out-t23-2
-element-copy-out-t23-2 c = search needs
+element-copy-out-t24-2 : tie.Need-element-copy-out-t24-2
+element-copy-out-t24-2 c = search needs
+
+element-copy-out-t11-3 : tie.Need-element-copy-out-t11-3
+element-copy-out-t11-3 c = search needs
+
+element-copy-out-t24-3 : tie.Need-element-copy-out-t24-3
+element-copy-out-t24-3 c = search needs
+
+element-copy-out-t14-3 : tie.Need-element-copy-out-t14-3
+element-copy-out-t14-3 c = search needs
 
 returns : tie.Need-returns
-returns c = rw (c .before .before .before .before .before .before .before .before .state-in .ensures)
+returns c = rw (c .before .before .before .before .before .before .before .before .before .before .state-in .ensures)
 
 pub stream-from-spec : {M : Type 1} → statement M
 stream-from-spec =
     tie.close
     (tie.spec
-    element-copy-out-t7
-    element-copy-out-t10
-    element-copy-out-t13
+    element-copy-out-t8
+    element-copy-out-t11
+    element-copy-out-t14
     state-in-requires
-    element-copy-out-t7-2
-    element-copy-out-t13-2
-    element-copy-out-t10-2
-    element-copy-out-t23
-    element-copy-out-t26
-    element-copy-out-t7-3
-    element-copy-out-t26-2
-    element-copy-out-t23-2
+    element-copy-out-t8-2
+    element-copy-out-t14-2
+    element-copy-out-t11-2
+    element-copy-out-t24
+    element-copy-out-t27
+    element-copy-out-t8-3
+    cast-t30
+    element-copy-out-t24-2
+    element-copy-out-t11-3
+    element-copy-out-t24-3
+    element-copy-out-t14-3
     returns)

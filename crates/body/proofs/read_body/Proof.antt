@@ -1,72 +1,47 @@
--- The tests on the way to each answer are those of framed and judged; the table, the kind and the fault are the callees' answers.
+use mathlib.Core.Path.{sym, ap, _∙_}
+use Rattle.body.specs.Read.{message, readBody}
+use Rattle.body.specs.declared.Judged.{Judged}
+-- What the judge says is told, or the kind that the type byte decides is decoded.
 -- Assumes nothing.
-use native.Mathlib.Omega.{arith}
-use lib.ListN.{length}
-use borrow.Author.Tests.{lt-ltb, le-ltb, eq-eqb, ne-eqb}
-use Rattle.facts.specs.Pick.{pick, both}
-use Rattle.body.specs.Read.{framed, judged, readBody}
 use borrow.Author.Needs.{needs}
 use Rattle.body.proofs.read_body.Statement.{statement}
 use Rattle.body.proofs.read_body.Tie as tie
 
-returns : tie.Need-returns
-unfolding readBody framed pick both
-returns c = simp (le-ltb 0 (length (c .before .before .args .b .now)) (omega arith))
+judge-body-requires : tie.Need-judge-body-requires
+judge-body-requires c κs = search needs
 
-shared-slice-read-t : tie.Need-shared-slice-read-t
-shared-slice-read-t c = search needs
+enum-known-f : tie.Need-enum-known-f
+enum-known-f c = search needs
 
-length-of-requires : tie.Need-length-of-requires
-length-of-requires c κs = search needs
+enum-told : tie.Need-enum-told
+enum-told c = search needs
 
-returns-2 : tie.Need-returns-2
-unfolding readBody framed pick both
-returns-2 c = simp (lt-ltb 0 (length (c .before .before .before .before .before .args .b .now)) (omega arith), ← c .before .length-of .ensures, ne-eqb _ _ (c .if2 .taken))
+u8-at-requires : tie.Need-u8-at-requires
+u8-at-requires c κs = search needs
 
 kind-of-requires : tie.Need-kind-of-requires
 kind-of-requires c κs = search needs
 
-fault-requires : tie.Need-fault-requires
-fault-requires c κs = search needs
-
 decode-requires : tie.Need-decode-requires
 decode-requires c κs = search needs
 
-returns-3 : tie.Need-returns-3
-unfolding readBody framed judged pick both
-returns-3 c =
-    simp (
-      lt-ltb 0 (length (c .before .before .before .before .before .before .before .before .before .args .b .now)) (omega arith),
-      ← c .before .before .before .before .before .length-of .ensures,
-      eq-eqb _ _ (c .before .before .before .before .if2 .left),
-      ← c .before .before .before .kind-of .ensures,
-      ← c .before .before .fault .ensures,
-      eq-eqb _ _ (c .before .if3 .taken),
-    )
-    (c .decode .ensures)
+returns : tie.Need-returns
+unfolding readBody message
+returns c = ap (λ (x : Judged). message x (c .before .before .before .before .before .args .b .now)) (sym (c .before .f .given .1) ∙ c .before .before .before .judge-body .ensures)
 
-returns-4 : tie.Need-returns-4
-unfolding readBody framed judged pick both
-returns-4 c =
-    simp (
-      lt-ltb 0 (length (c .before .before .before .before .before .before .before .before .args .b .now)) (omega arith),
-      ← c .before .before .before .before .length-of .ensures,
-      eq-eqb _ _ (c .before .before .before .if2 .left),
-      ← c .before .before .kind-of .ensures,
-      ← c .before .fault .ensures,
-      ne-eqb _ _ (c .if3 .left),
-    )
+returns-2 : tie.Need-returns-2
+unfolding readBody message
+returns-2 c = rw (← c .before .before .before .before .before .judge-body .ensures, c .before .before .before .enum-told .given .1, ← c .before .before .u8-at .ensures, ← c .before .kind-of .ensures) (c .decode .ensures)
 
 pub read-body-spec : {M : Type 1} → statement M
 read-body-spec =
     tie.close
     (tie.spec
-    returns
-    shared-slice-read-t
-    length-of-requires
-    returns-2
+    judge-body-requires
+    enum-known-f
+    enum-told
+    u8-at-requires
     kind-of-requires
-    fault-requires
     decode-requires
-    returns-3
-    returns-4)
+    returns
+    returns-2)

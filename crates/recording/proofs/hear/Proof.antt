@@ -1,9 +1,10 @@
--- By the receiver's answer, one law says what is counted.
--- Assumes nothing.
-use mathlib.Core.Path.{refl}
+use mathlib.Core.Path.{refl, ap, _∙_}
 use Rattle.receiver.specs.Lent.{handled}
 use Rattle.recording.specs.Stream.{standingOf}
-use Rattle.recording.proofs.Exits.{heard-accepted, heard-refused}
+use Rattle.recording.specs.declared.Stream.{Stream}
+use Rattle.recording.proofs.Exits.{heard-accepted, heard-refused, heard-bad, missed-as}
+-- By the receiver's answer, one law says what is counted and kept.
+-- Assumes nothing.
 use borrow.Author.Needs.{needs}
 use Rattle.recording.proofs.hear.Statement.{statement}
 use Rattle.recording.proofs.hear.Tie as tie
@@ -17,11 +18,17 @@ enum-known-answer c = search needs
 add-requires : tie.Need-add-requires
 add-requires c κs = search needs
 
-enum-told : tie.Need-enum-told
-enum-told c = search needs
+enum-known-answer-2 : tie.Need-enum-known-answer-2
+enum-known-answer-2 c = search needs
 
-more-requires : tie.Need-more-requires
-more-requires c κs = search needs
+missed-requires : tie.Need-missed-requires
+missed-requires c κs = search needs
+
+enum-known-answer-3 : tie.Need-enum-known-answer-3
+enum-known-answer-3 c = search needs
+
+missed-requires-2 : tie.Need-missed-requires-2
+missed-requires-2 c κs = search needs
 
 same-length : tie.Need-same-length
 same-length c = search needs
@@ -33,7 +40,7 @@ same-length-3 : tie.Need-same-length-3
 same-length-3 c = search needs
 
 returns : tie.Need-returns
-returns c = (heard-accepted (standingOf (c .before .before .before .before .before .before .before .before .before .before .before .before .before .before .before .before .before .before .before .before .before .args .k) (c .before .before .before .before .before .before .before .before .before .before .before .before .before .before .before .before .before .before .before .before .before .args .orders .now) (c .before .before .before .before .before .before .before .before .before .before .before .before .before .before .before .before .before .before .before .before .before .args .symbols .now) (c .before .before .before .before .before .before .before .before .before .before .before .before .before .before .before .before .before .before .before .before .before .args .shelf .now)) (c .before .before .before .before .before .before .before .before .before .before .before .before .before .before .before .before .before .before .before .before .before .args .p .now) (handled (c .before .before .before .before .before .before .before .before .before .before .before .before .before .receive .result .answer) _) (c .before .before .before .before .before .before .before .before .before .before .before .before .before .receive .ensures) _ (c .before .before .before .answer .given .1) (c .add .result) (c .add .ensures), refl, refl)
+returns c = (heard-accepted (standingOf (c .before .before .before .before .before .before .before .before .before .before .before .before .before .before .before .before .before .before .before .before .before .before .args .k) (c .before .before .before .before .before .before .before .before .before .before .before .before .before .before .before .before .before .before .before .before .before .before .args .orders .now) (c .before .before .before .before .before .before .before .before .before .before .before .before .before .before .before .before .before .before .before .before .before .before .args .symbols .now) (c .before .before .before .before .before .before .before .before .before .before .before .before .before .before .before .before .before .before .before .before .before .before .args .shelf .now)) (c .before .before .before .before .before .before .before .before .before .before .before .before .before .before .before .before .before .before .before .before .before .before .args .p .now) (c .before .before .before .before .before .before .before .before .before .before .before .before .before .before .before .before .before .before .before .before .before .before .pre) (handled (c .before .before .before .before .before .before .before .before .before .before .before .before .before .before .receive .result .answer) _) (c .before .before .before .before .before .before .before .before .before .before .before .before .before .before .receive .ensures) _ (c .before .before .before .before .answer .given .1) (c .add .result) (c .add .ensures), refl, refl)
 
 same-length-4 : tie.Need-same-length-4
 same-length-4 c = search needs
@@ -45,7 +52,19 @@ same-length-6 : tie.Need-same-length-6
 same-length-6 c = search needs
 
 returns-2 : tie.Need-returns-2
-returns-2 c = (heard-refused (standingOf (c .before .before .before .before .before .before .before .before .before .before .before .before .before .before .before .before .before .before .before .args .k) (c .before .before .before .before .before .before .before .before .before .before .before .before .before .before .before .before .before .before .before .args .orders .now) (c .before .before .before .before .before .before .before .before .before .before .before .before .before .before .before .before .before .before .before .args .symbols .now) (c .before .before .before .before .before .before .before .before .before .before .before .before .before .before .before .before .before .before .before .args .shelf .now)) (c .before .before .before .before .before .before .before .before .before .before .before .before .before .before .before .before .before .before .before .args .p .now) (handled (c .before .before .before .before .before .before .before .before .before .before .before .receive .result .answer) _) (c .before .before .before .before .before .before .before .before .before .before .before .receive .ensures) _ (c .before .enum-told .given .1) (c .more .result) (c .more .ensures), refl, refl)
+returns-2 c = (missed-as (c .before .before .before .before .before .before .before .before .before .before .before .before .before .before .before .before .before .before .before .before .args .k) _ _ _ _ _ _ (c .missed .ensures) ∙ heard-refused (standingOf (c .before .before .before .before .before .before .before .before .before .before .before .before .before .before .before .before .before .before .before .before .args .k) (c .before .before .before .before .before .before .before .before .before .before .before .before .before .before .before .before .before .before .before .before .args .orders .now) (c .before .before .before .before .before .before .before .before .before .before .before .before .before .before .before .before .before .before .before .before .args .symbols .now) (c .before .before .before .before .before .before .before .before .before .before .before .before .before .before .before .before .before .before .before .before .args .shelf .now)) (c .before .before .before .before .before .before .before .before .before .before .before .before .before .before .before .before .before .before .before .before .args .p .now) (c .before .before .before .before .before .before .before .before .before .before .before .before .before .before .before .before .before .before .before .before .pre) (handled (c .before .before .before .before .before .before .before .before .before .before .before .before .receive .result .answer) _) (c .before .before .before .before .before .before .before .before .before .before .before .before .receive .ensures) _ (c .before .before .answer2 .given .1), ap (λ (v : Stream). v .held) (c .missed .ensures), ap (λ (v : Stream). v .skip) (c .missed .ensures))
+
+same-length-7 : tie.Need-same-length-7
+same-length-7 c = search needs
+
+same-length-8 : tie.Need-same-length-8
+same-length-8 c = search needs
+
+same-length-9 : tie.Need-same-length-9
+same-length-9 c = search needs
+
+returns-3 : tie.Need-returns-3
+returns-3 c = (missed-as (c .before .before .before .before .before .before .before .before .before .before .before .before .before .before .before .before .before .before .before .before .args .k) _ _ _ _ _ _ (c .missed2 .ensures) ∙ heard-bad (standingOf (c .before .before .before .before .before .before .before .before .before .before .before .before .before .before .before .before .before .before .before .before .args .k) (c .before .before .before .before .before .before .before .before .before .before .before .before .before .before .before .before .before .before .before .before .args .orders .now) (c .before .before .before .before .before .before .before .before .before .before .before .before .before .before .before .before .before .before .before .before .args .symbols .now) (c .before .before .before .before .before .before .before .before .before .before .before .before .before .before .before .before .before .before .before .before .args .shelf .now)) (c .before .before .before .before .before .before .before .before .before .before .before .before .before .before .before .before .before .before .before .before .args .p .now) (c .before .before .before .before .before .before .before .before .before .before .before .before .before .before .before .before .before .before .before .before .pre) (handled (c .before .before .before .before .before .before .before .before .before .before .before .before .receive .result .answer) _) (c .before .before .before .before .before .before .before .before .before .before .before .before .receive .ensures) _ (c .before .before .answer3 .given .1), ap (λ (v : Stream). v .held) (c .missed2 .ensures), ap (λ (v : Stream). v .skip) (c .missed2 .ensures))
 
 pub hear-spec : {M : Type 1} → statement M
 hear-spec =
@@ -54,8 +73,10 @@ hear-spec =
     receive-requires
     enum-known-answer
     add-requires
-    enum-told
-    more-requires
+    enum-known-answer-2
+    missed-requires
+    enum-known-answer-3
+    missed-requires-2
     same-length
     same-length-2
     same-length-3
@@ -63,4 +84,8 @@ hear-spec =
     same-length-4
     same-length-5
     same-length-6
-    returns-2)
+    returns-2
+    same-length-7
+    same-length-8
+    same-length-9
+    returns-3)
