@@ -3,7 +3,7 @@
 //! recording must come to the same bytes.
 
 use crate::desk::Desk;
-use crate::packet::Side;
+use crate::packet::{Refusal, Side};
 use crate::receiver::Answer;
 use crate::sheet::play_telling;
 use crate::tables::*;
@@ -25,8 +25,8 @@ pub fn answers_of_recording(recording: &[u8]) -> Result<Vec<u8>, u8> {
     Ok(text)
 }
 
-/// `refused R`, or the five counts (10 to 14), next, applied, highest and stop.
-fn packet_line(text: &mut Vec<u8>, answer: Result<Answer, u8>) {
+/// `refused R`, for 2 to 5 `refused R at O`, or the five counts (10 to 14), next, applied, highest and stop.
+fn packet_line(text: &mut Vec<u8>, answer: Result<Answer, Refusal>) {
     match answer {
         Err(refusal) => line(text, "refused", &[refusal]),
         Ok(answer) => line(

@@ -1,5 +1,6 @@
 //! A receiver with the tables and the shelf that are lent to it.
 
+use crate::packet::Refusal;
 use crate::receiver::{receive, start, Answer, State, SHELF_BYTES};
 use crate::tables::{ENTRY_BYTES, MOST_ENTRIES, MOST_ROWS, ROW_NUMBERS};
 
@@ -48,7 +49,7 @@ impl Desk {
     }
 
     /// A packet as it comes: its answer, or its refusal with nothing changed.
-    pub fn give(&mut self, packet: &[u8]) -> Result<Answer, u8> {
+    pub fn give(&mut self, packet: &[u8]) -> Result<Answer, Refusal> {
         let (after, answer) = receive(
             self.state,
             &mut self.orders,

@@ -1,8 +1,9 @@
 //! A plain second reading of document 01 (tap packets of DoM 1.3.b into an order book and its
-//! sheet), with requests 2, 6 and 13 of document 02, written from the documents alone. No cleverness:
+//! sheet), with requests 2, 5, 6 and 13 of document 02, written from the documents alone. No cleverness:
 //! linear scans everywhere, so that each function can be held against the sentences quoted above it.
 //!
-//! Refusals (1 to 6, 30) and broken rules (20 to 27) are document 01's numbers, as plain `u8`.
+//! Refusals (6, 30) and broken rules (20 to 27) are document 01's numbers, as plain `u8`. What reads a packet
+//! answers a `packet::Refusal`, which has the offset beside 2 to 5 (request 5).
 //!
 //! Where the proved library is linked (`cfg(linked)`, see `build.rs`) there are also `proved`, which
 //! calls it, `twins`, which holds it against this program, and `scenarios`, what both are given.
@@ -19,9 +20,11 @@ pub mod packet;
 #[cfg(linked)]
 #[allow(unsafe_code)] // C functions cannot be called otherwise; nothing else here does
 pub mod proved;
+pub mod reading;
 pub mod receiver;
 #[cfg(linked)]
 pub mod scenarios;
+pub mod seen;
 pub mod sheet;
 pub mod stream;
 pub mod tables;

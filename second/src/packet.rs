@@ -1,5 +1,7 @@
 //! The eleven messages, and reading them: a body (refusals 3, 4), then records and packets
-//! (refusal 1, then record by record 2, 5, 3, 4).
+//! (refusal 1, then record by record 2, 5, 3, 4). Each refusal of 2 to 5 tells its offset (request 5).
+
+use std::fmt;
 
 /// "A packet is 1 to 1,500 bytes".
 pub const MOST_PACKET_BYTES: usize = 1_500;
@@ -134,6 +136,49 @@ pub struct SymbolUpdate {
     pub market: u8,
     /// All 42 bytes as they came: a symbol entry is "the last Symbol Update body for its symbol".
     pub body: [u8; 42],
+}
+
+/// Why a packet, a record or a body is refused. Request 5: "Refusals 2 to 5 in reading shall also give the
+/// offset in the packet of the first byte at fault". What is read by itself gives the offset in itself.
+#[derive(Clone, Copy, Debug, PartialEq, Eq)]
+pub struct Refusal {
+    pub number: u8,
+    /// Of 2 to 5; any other number is given alone.
+    pub offset: Option<usize>,
+}
+
+impl Refusal {
+    pub fn alone(number: u8) -> Refusal {
+        Refusal {
+            number,
+            offset: None,
+        }
+    }
+
+    pub fn at(number: u8, offset: usize) -> Refusal {
+        Refusal {
+            number,
+            offset: Some(offset),
+        }
+    }
+
+    /// The same, where what was refused lies so many bytes further on.
+    pub fn behind(self, bytes: usize) -> Refusal {
+        Refusal {
+            number: self.number,
+            offset: self.offset.map(|offset| offset + bytes),
+        }
+    }
+}
+
+/// `4 at 28`, or the number alone.
+impl fmt::Display for Refusal {
+    fn fmt(&self, text: &mut fmt::Formatter) -> fmt::Result {
+        match self.offset {
+            None => write!(text, "{}", self.number),
+            Some(offset) => write!(text, "{} at {offset}", self.number),
+        }
+    }
 }
 
 /// A record of a good packet.
@@ -335,37 +380,43 @@ pub fn price_in_range(price: u64) -> bool {
     (1..=HIGHEST_PRICE).contains(&price)
 }
 
-fn check(in_range: bool) -> Result<(), u8> {
+/// 4, unless the field at this offset of its body is in range.
+fn check(in_range: bool, offset: usize) -> Result<(), Refusal> {
     if in_range {
         Ok(())
     } else {
-        Err(4)
+        Err(Refusal::at(4, offset))
     }
 }
 
-fn check_price_and_size(price: u64, size: u32) -> Result<(), u8> {
-    check(price_in_range(price))?;
-    check(size >= 1)
+/// The price at this offset and the size right behind its 8 bytes, or 4 by the first of them that is bad.
+fn price_and_size(body: &[u8], at: usize) -> Result<(u64, u32), Refusal> {
+    let (price, size) = (u64_at(body, at), u32_at(body, at + 8));
+    check(price_in_range(price), at)?;
+    check(size >= 1, at + 8)?;
+    Ok((price, size))
 }
 
 /// The nanoseconds of a body that has a Timestamp, or 4. All messages but System Time have one, as 003's
 /// NanoTime behind the type byte. Request 6: "The largest good value is 999,999,999, in every message
-/// that carries the field. Larger is refused with 4".
-fn timestamp(body: &[u8]) -> Result<u32, u8> {
+/// that carries the field. Larger is refused with 4 and its offset."
+fn timestamp(body: &[u8]) -> Result<u32, Refusal> {
     let nanoseconds = u32_at(body, 1);
-    check(nanoseconds <= LAST_NANOSECOND)?;
+    check(nanoseconds <= LAST_NANOSECOND, 1)?;
     Ok(nanoseconds)
 }
 
 /// A body: refused with 3 ("no such type, an empty body, or not that type's length"), else with 4
-/// ("a field out of range"), else the message that its type byte decides.
-pub fn read_body(body: &[u8]) -> Result<Message, u8> {
+/// ("a field out of range"), else the message that its type byte decides. Request 5: "for 3 the body's start
+/// or, for an empty body, the place where it would start, for 4 the first byte of the earliest bad field by
+/// offset", so each message's fields are judged in the order of their places.
+pub fn read_body(body: &[u8]) -> Result<Message, Refusal> {
     if body.is_empty() {
-        return Err(3);
+        return Err(Refusal::at(3, 0));
     }
     let kind = body[0];
     if length_of_type(kind) != Some(body.len()) {
-        return Err(3);
+        return Err(Refusal::at(3, 0));
     }
     match kind {
         SYSTEM_TIME => Ok(Message::SystemTime {
@@ -385,8 +436,8 @@ pub fn read_body(body: &[u8]) -> Result<Message, u8> {
                 market: body[41],
                 body: bytes_at(body, 0),
             };
-            check(update.test == b'Y' || update.test == b'N')?;
-            check(b"ABCHIJKLMNPQUVWXYZ".contains(&update.market))?;
+            check(update.test == b'Y' || update.test == b'N', 21)?;
+            check(b"ABCHIJKLMNPQUVWXYZ".contains(&update.market), 41)?;
             Ok(Message::SymbolUpdate(update))
         }
         SYSTEM_STATE => Ok(Message::SystemState {
@@ -411,11 +462,9 @@ pub fn read_body(body: &[u8]) -> Result<Message, u8> {
             let side = match body[17] {
                 b'B' => Side::Buy,
                 b'S' => Side::Sell,
-                _ => return Err(4),
+                _ => return Err(Refusal::at(4, 17)),
             };
-            let price = u64_at(body, 18);
-            let size = u32_at(body, 26);
-            check_price_and_size(price, size)?;
+            let (price, size) = price_and_size(body, 18)?;
             Ok(Message::AddOrder {
                 nanoseconds,
                 symbol: u32_at(body, 5),
@@ -428,9 +477,7 @@ pub fn read_body(body: &[u8]) -> Result<Message, u8> {
         }
         MODIFY_ORDER => {
             let nanoseconds = timestamp(body)?;
-            let price = u64_at(body, 17);
-            let size = u32_at(body, 25);
-            check_price_and_size(price, size)?;
+            let (price, size) = price_and_size(body, 17)?;
             // Request 2: "The specification calls bits 1 to 7 undefined. Document 01 was wrong to
             // want zeros. They are ignored from now on, kept on the shelf as they came, and the
             // field range for flags is struck out."
@@ -450,9 +497,7 @@ pub fn read_body(body: &[u8]) -> Result<Message, u8> {
         }),
         ORDER_EXECUTION => {
             let nanoseconds = timestamp(body)?;
-            let price = u64_at(body, 25);
-            let size = u32_at(body, 33);
-            check_price_and_size(price, size)?;
+            let (price, size) = price_and_size(body, 25)?;
             Ok(Message::OrderExecution {
                 nanoseconds,
                 symbol: u32_at(body, 5),
@@ -465,9 +510,7 @@ pub fn read_body(body: &[u8]) -> Result<Message, u8> {
         }
         TRADE => {
             let nanoseconds = timestamp(body)?;
-            let price = u64_at(body, 18);
-            let size = u32_at(body, 26);
-            check_price_and_size(price, size)?;
+            let (price, size) = price_and_size(body, 18)?;
             Ok(Message::Trade {
                 nanoseconds,
                 symbol: u32_at(body, 5),
@@ -480,9 +523,7 @@ pub fn read_body(body: &[u8]) -> Result<Message, u8> {
         }
         TRADE_CANCEL => {
             let nanoseconds = timestamp(body)?;
-            let price = u64_at(body, 18);
-            let size = u32_at(body, 26);
-            check_price_and_size(price, size)?;
+            let (price, size) = price_and_size(body, 18)?;
             Ok(Message::TradeCancel {
                 nanoseconds,
                 symbol: u32_at(body, 5),
@@ -492,44 +533,46 @@ pub fn read_body(body: &[u8]) -> Result<Message, u8> {
                 size,
             })
         }
-        _ => Err(3),
+        _ => Err(Refusal::at(3, 0)),
     }
 }
 
 /// A packet: refused with 1, else by the first fault of its records "from the front, each by 2,
 /// 5, 3, 4", else its records in order.
-pub fn read_packet(packet: &[u8]) -> Result<Vec<Record<'_>>, u8> {
+pub fn read_packet(packet: &[u8]) -> Result<Vec<Record<'_>>, Refusal> {
     if packet.is_empty() || packet.len() > MOST_PACKET_BYTES {
-        return Err(1);
+        return Err(Refusal::alone(1));
     }
     let mut records = Vec::new();
-    let mut rest = packet;
-    while !rest.is_empty() {
-        let record = read_record(rest)?;
-        rest = &rest[HEADER_BYTES + record.body.len()..];
+    let mut start = 0;
+    while start < packet.len() {
+        // "the offset in the packet": the offset in the record, behind all records before it.
+        let record = read_record(&packet[start..]).map_err(|refusal| refusal.behind(start))?;
+        start += HEADER_BYTES + record.body.len();
         records.push(record);
     }
     Ok(records)
 }
 
-/// The first record of what is left of a packet, or the refusal of its first fault: 2, 5, 3, 4.
-pub fn read_record(rest: &[u8]) -> Result<Record<'_>, u8> {
+/// The first record of what is left of a packet, or the refusal of its first fault: 2, 5, 3, 4. Request 5:
+/// "for 2 the record's start, for 5 the number's start", which are the same place.
+pub fn read_record(rest: &[u8]) -> Result<Record<'_>, Refusal> {
     // 2: "fewer than 10 header bytes left, or the body runs past the end"
     if rest.len() < HEADER_BYTES {
-        return Err(2);
+        return Err(Refusal::at(2, 0));
     }
     let number = little(&rest[0..8]);
     let length = little(&rest[8..10]) as usize;
     if length > rest.len() - HEADER_BYTES {
-        return Err(2);
+        return Err(Refusal::at(2, 0));
     }
     // 5: "sequence number 0 or above 10^12"
     if number == 0 || number > LAST_NUMBER {
-        return Err(5);
+        return Err(Refusal::at(5, 0));
     }
     // 3 and 4
     let body = &rest[HEADER_BYTES..HEADER_BYTES + length];
-    let message = read_body(body)?;
+    let message = read_body(body).map_err(|refusal| refusal.behind(HEADER_BYTES))?;
     Ok(Record {
         number,
         body,

@@ -3,7 +3,7 @@
 //! `lent` has its twelve calls as they are, over memory that the caller lends; `Proved` is a receiver
 //! with tables of its own, and answers in Rust's forms. All unsafe code of this crate is in `lent`.
 
-use crate::packet::Side;
+use crate::packet::{Refusal, Side};
 use crate::receiver::{Answer, SHELF_BYTES};
 use crate::tables::{ENTRY_BYTES, ROW_NUMBERS};
 
@@ -11,7 +11,8 @@ use crate::tables::{ENTRY_BYTES, ROW_NUMBERS};
 pub const SHEET_BYTES: usize = 1_500_000;
 
 /// The twelve calls. Each answers 0 or the number of a refusal, but for `cut`, which answers whether it
-/// is so, and takes any lengths and any bytes.
+/// is so, and takes any lengths and any bytes. The four that read packets, records and bodies answer 32 bits:
+/// the offset of a refusal stands above its number (`taken_apart`).
 ///
 /// What the header asks of its callers beyond the types of C holds for all of them by Rust's types:
 /// a slice's pointer is never null and points to as many elements as its length says, an array
@@ -20,8 +21,9 @@ pub mod lent {
     use std::ffi::c_uchar;
 
     type State = [u64; 3];
-    /// Next, second, stop; bytes held, bytes to pass over, bad packets; records by 10 to 14.
-    pub type Stream = [u64; 11];
+    /// Next, second, stop; bytes held, bytes to pass over, bad packets; records by 10 to 14; number and offset
+    /// of the last refused packet.
+    pub type Stream = [u64; 13];
 
     extern "C" {
         fn rimeheath_start(
@@ -44,7 +46,7 @@ pub mod lent {
             packet: *const c_uchar,
             packet_len: usize,
             account: *mut [u64; 9],
-        ) -> u8;
+        ) -> u32;
         fn rimeheath_ladder(
             orders: *const u64,
             orders_len: usize,
@@ -75,9 +77,9 @@ pub mod lent {
             packet: *const c_uchar,
             packet_len: usize,
             records: *mut [u64; 1],
-        ) -> u8;
-        fn rimeheath_record(rest: *const c_uchar, rest_len: usize, head: *mut [u64; 2]) -> u8;
-        fn rimeheath_body(body: *const c_uchar, body_len: usize, fields: *mut [u64; 8]) -> u8;
+        ) -> u32;
+        fn rimeheath_record(rest: *const c_uchar, rest_len: usize, head: *mut [u64; 2]) -> u32;
+        fn rimeheath_body(body: *const c_uchar, body_len: usize, fields: *mut [u64; 8]) -> u32;
         fn rimeheath_sheet(
             text: *mut c_uchar,
             text_len: usize,
@@ -134,7 +136,7 @@ pub mod lent {
         state: &mut State,
         packet: &[u8],
         account: &mut [u64; 9],
-    ) -> u8 {
+    ) -> u32 {
         // SAFETY: each pointer comes with its own slice's length; the five `&mut` are apart from
         // each other and from the packet, which is only read.
         unsafe {
@@ -207,17 +209,17 @@ pub mod lent {
         }
     }
 
-    pub fn packet(packet: &[u8], records: &mut [u64; 1]) -> u8 {
+    pub fn packet(packet: &[u8], records: &mut [u64; 1]) -> u32 {
         // SAFETY: the pointer comes with its slice's length and is only read; the `&mut` is apart.
         unsafe { rimeheath_packet(packet.as_ptr(), packet.len(), records) }
     }
 
-    pub fn record(rest: &[u8], head: &mut [u64; 2]) -> u8 {
+    pub fn record(rest: &[u8], head: &mut [u64; 2]) -> u32 {
         // SAFETY: the pointer comes with its slice's length and is only read; the `&mut` is apart.
         unsafe { rimeheath_record(rest.as_ptr(), rest.len(), head) }
     }
 
-    pub fn body(body: &[u8], fields: &mut [u64; 8]) -> u8 {
+    pub fn body(body: &[u8], fields: &mut [u64; 8]) -> u32 {
         // SAFETY: the pointer comes with its slice's length and is only read; the `&mut` is apart.
         unsafe { rimeheath_body(body.as_ptr(), body.len(), fields) }
     }
@@ -287,48 +289,19 @@ pub mod lent {
     }
 }
 
-/// Document 01's refusals.
-#[derive(Clone, Copy, Debug, PartialEq, Eq)]
-pub enum Refusal {
-    PacketSize,
-    Framing,
-    Kind,
-    Field,
-    Number,
-    TableOrNext,
-    UnknownSymbol,
-    /// A number that document 01 does not have; no call gives one.
-    Other(u8),
+/// The number and the offset of a 32-bit answer: "answer = number + 256 * offset".
+pub fn taken_apart(answer: u32) -> (u8, usize) {
+    ((answer % 256) as u8, (answer / 256) as usize)
 }
 
-impl Refusal {
-    pub fn number(self) -> u8 {
-        match self {
-            Refusal::PacketSize => 1,
-            Refusal::Framing => 2,
-            Refusal::Kind => 3,
-            Refusal::Field => 4,
-            Refusal::Number => 5,
-            Refusal::TableOrNext => 6,
-            Refusal::UnknownSymbol => 30,
-            Refusal::Other(number) => number,
-        }
+/// An answer of 8 or 32 bits; 0 is no refusal. The offset belongs to 2 to 5. Beside any other number it must
+/// be 0, and it is told where it is not.
+fn refused(answer: impl Into<u32>) -> Result<(), Refusal> {
+    match taken_apart(answer.into()) {
+        (0, 0) => Ok(()),
+        (number @ (1 | 6..), 0) => Err(Refusal::alone(number)),
+        (number, offset) => Err(Refusal::at(number, offset)),
     }
-}
-
-/// 0 is no refusal.
-fn refused(number: u8) -> Result<(), Refusal> {
-    Err(match number {
-        0 => return Ok(()),
-        1 => Refusal::PacketSize,
-        2 => Refusal::Framing,
-        3 => Refusal::Kind,
-        4 => Refusal::Field,
-        5 => Refusal::Number,
-        6 => Refusal::TableOrNext,
-        30 => Refusal::UnknownSymbol,
-        other => Refusal::Other(other),
-    })
 }
 
 /// A good body's type and numbers, as the header lists them.

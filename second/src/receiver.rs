@@ -1,7 +1,7 @@
 //! The receiver: a shelf of 64 slots, a start, and packets taken one by one.
 
 use crate::book;
-use crate::packet::{little, read_body, read_packet, Message, Record, LAST_NUMBER};
+use crate::packet::{little, read_body, read_packet, Message, Record, Refusal, LAST_NUMBER};
 use crate::tables::{order_table_fits, symbol_table_fits};
 
 /// "The shelf is 64 slots of 74 bytes (number, length, body padded with zeros to 64 bytes)".
@@ -127,17 +127,17 @@ pub fn start(orders: &mut [u64], symbols: &mut [u8], shelf: &mut [u8]) -> Result
     })
 }
 
-/// A packet: refused ("Order: 6, 1, then records from the front, each by 2, 5, 3, 4") with
-/// nothing changed, else worked record by record.
+/// A packet: refused ("Order: 6, 1, then records from the front, each by 2, 5, 3, 4", the last four with
+/// their offset by request 5) with nothing changed, else worked record by record.
 pub fn receive(
     state: State,
     orders: &mut [u64],
     symbols: &mut [u8],
     shelf: &mut [u8],
     packet: &[u8],
-) -> Result<(State, Answer), u8> {
+) -> Result<(State, Answer), Refusal> {
     if !receiver_fits(state, orders, symbols, shelf) {
-        return Err(6);
+        return Err(Refusal::alone(6));
     }
     let records = read_packet(packet)?;
 

@@ -1,7 +1,7 @@
 //! The sheet, and recordings played into a receiver at full capacities.
 
 use crate::desk::Desk;
-use crate::packet::{little, Side};
+use crate::packet::{little, Refusal, Side};
 use crate::receiver::{next_fits, Answer, State};
 use crate::tables::*;
 use crate::views::{ladder, live_orders, spread, used_entries};
@@ -130,7 +130,7 @@ pub fn play(recording: &[u8]) -> Played {
 }
 
 /// The same, with what `receive` answers to each whole packet told in order.
-pub fn play_telling(recording: &[u8], mut tell: impl FnMut(Result<Answer, u8>)) -> Played {
+pub fn play_telling(recording: &[u8], mut tell: impl FnMut(Result<Answer, Refusal>)) -> Played {
     let mut desk = Desk::full();
     let mut bad = 0;
     let (packets, whole) = packets_of(recording);

@@ -1,7 +1,8 @@
-//! A recording in pieces cut anywhere, byte by byte (document 02, request 13; document 01, "The sheet").
+//! A recording in pieces cut anywhere, byte by byte (document 02, request 13; document 01, "The sheet"), and
+//! what its last refused packet was refused with (request 5).
 
 use crate::desk::Desk;
-use crate::packet::{little, MOST_PACKET_BYTES};
+use crate::packet::{little, Refusal, MOST_PACKET_BYTES};
 use crate::receiver::receiver_fits;
 
 /// "a lent buffer of 1,502 bytes or more for the unfinished packet": its length and its bytes.
@@ -17,6 +18,10 @@ pub struct Stream {
     pub bad: u64,
     /// "the totals of each record answer", 10 to 14, over all accepted packets.
     pub totals: [u64; 5],
+    /// Number and offset of the last packet that was refused: both 0 before the first, and the offset 0
+    /// where the number stands alone. A caller may lend any.
+    pub last_number: u8,
+    pub last_offset: u64,
 }
 
 impl Stream {
@@ -40,9 +45,9 @@ impl Stream {
     fn byte(&mut self, desk: &mut Desk, hold: &mut [u8], byte: u8) {
         if self.to_pass > 0 {
             self.to_pass -= 1;
-            // Too long a packet is bad when its last byte has come.
+            // Too long a packet is bad when its last byte has come. "packet of 0 or more than 1,500 bytes": 1
             if self.to_pass == 0 {
-                self.bad = self.bad.saturating_add(1);
+                self.refused(Refusal::alone(1));
             }
             return;
         }
@@ -64,16 +69,23 @@ impl Stream {
         }
     }
 
-    /// "A refused packet is counted as bad and passed over".
+    /// A whole packet goes to the receiver.
     fn packet(&mut self, desk: &mut Desk, packet: &[u8]) {
         match desk.give(packet) {
-            Err(_) => self.bad = self.bad.saturating_add(1),
+            Err(refusal) => self.refused(refusal),
             Ok(answer) => {
                 for (total, count) in self.totals.iter_mut().zip(answer.counts()) {
                     *total = total.saturating_add(count);
                 }
             }
         }
+    }
+
+    /// "A refused packet is counted as bad and passed over". Its refusal is told until another one's is.
+    fn refused(&mut self, refusal: Refusal) {
+        self.bad = self.bad.saturating_add(1);
+        self.last_number = refusal.number;
+        self.last_offset = refusal.offset.unwrap_or(0) as u64;
     }
 
     /// "a recording that ends inside a length or packet": whether one that ended now would be cut.

@@ -5,8 +5,9 @@
 use crate::desk::{Desk, MARK, MARK_BYTE};
 use crate::morning::{differ_in_undefined_bits_alone, set_timestamp, Dice};
 use crate::packet::*;
-use crate::proved::{lent, Proved, SHEET_BYTES};
+use crate::proved::{lent, taken_apart, Proved, SHEET_BYTES};
 use crate::receiver::{filled_slot, slot, slot_number, Answer, SLOTS, SLOT_BYTES};
+use crate::seen::{add_each, claimed_body, Faults};
 use crate::sheet::sheet;
 use crate::stream::Stream;
 use crate::tables::*;
@@ -22,6 +23,8 @@ pub struct Tally {
     pub packets: u64,
     /// Packets by the number of their refusal; 0 counts the accepted ones.
     pub refusals: [u64; 31],
+    /// Packets refused with 2 to 5, by their faults and places (request 5).
+    pub faults: Faults,
     /// Accepted packets by their stop.
     pub stops: [u64; 28],
     /// Records by their answer, 10 to 14.
@@ -50,6 +53,10 @@ pub struct Tally {
     /// Bad packets and records by 10 to 14, as streams tell them.
     pub fed_bad: u64,
     pub fed_records: [u64; 5],
+    /// Pieces in which a packet was refused, by the number that the stream then told as its last; and pieces
+    /// in which packets were accepted and none refused, while it told an earlier one's.
+    pub fed_last: [u64; 7],
+    pub fed_last_kept: u64,
     /// Messages worked over spoiled rows of their own IDs, by the places of their types.
     pub spoiled: [u64; 11],
     /// Ladders with a level of the most shares that there can be.
@@ -62,6 +69,7 @@ impl Tally {
     pub fn add(&mut self, other: &Tally) {
         self.packets += other.packets;
         add_each(&mut self.refusals, &other.refusals);
+        self.faults.add(&other.faults);
         add_each(&mut self.stops, &other.stops);
         add_each(&mut self.records, &other.records);
         add_each(&mut self.at_the_limit, &other.at_the_limit);
@@ -80,6 +88,8 @@ impl Tally {
         self.passing_feeds += other.passing_feeds;
         self.fed_bad += other.fed_bad;
         add_each(&mut self.fed_records, &other.fed_records);
+        add_each(&mut self.fed_last, &other.fed_last);
+        self.fed_last_kept += other.fed_last_kept;
         add_each(&mut self.spoiled, &other.spoiled);
         self.largest_levels += other.largest_levels;
         add_each(&mut self.widest_spreads, &other.widest_spreads);
@@ -90,7 +100,10 @@ impl Tally {
         let mut seen = Vec::new();
         for number in 1..=6 {
             seen.push((format!("refusal {number}"), self.refusals[number]));
+            let told = format!("a stream's last refusal {number}");
+            seen.push((told, self.fed_last[number]));
         }
+        seen.extend(self.faults.seen());
         for stop in (0..1).chain(20..28) {
             seen.push((format!("stop {stop}"), self.stops[stop]));
         }
@@ -131,6 +144,7 @@ impl Tally {
             ("pieces cut inside a length or packet", self.cut_feeds),
             ("pieces cut inside too long a packet", self.passing_feeds),
             ("a stream's bad packets", self.fed_bad),
+            ("a stream's last refusal kept", self.fed_last_kept),
             ("the largest sum", self.largest_levels),
             ("the lowest spread", self.widest_spreads[0]),
             ("the highest spread", self.widest_spreads[1]),
@@ -138,12 +152,6 @@ impl Tally {
             seen.push((what.to_string(), count));
         }
         seen
-    }
-}
-
-fn add_each(sums: &mut [u64], numbers: &[u64]) {
-    for (sum, number) in sums.iter_mut().zip(numbers) {
-        *sum += number;
     }
 }
 
@@ -172,7 +180,7 @@ impl Twins {
             second: Desk::unstarted(1, 1),
             stream: Stream::default(),
             hold: Vec::new(),
-            proved_stream: [0; 11],
+            proved_stream: [0; 13],
             proved_hold: Vec::new(),
             bad: 0,
             tally: Tally::default(),
@@ -217,7 +225,7 @@ impl Twins {
         self.lend_again();
     }
 
-    /// The stream's eleven numbers in the order of the boundary.
+    /// The stream's thirteen numbers in the order of the boundary.
     fn stream_numbers(&self) -> lent::Stream {
         let (state, stream) = (&self.second.state, &self.stream);
         let [taken, old, too_far, repeated, differing] = stream.totals;
@@ -233,6 +241,8 @@ impl Twins {
             too_far,
             repeated,
             differing,
+            stream.last_number.into(),
+            stream.last_offset,
         ]
     }
 
@@ -240,6 +250,13 @@ impl Twins {
     pub fn set_idle_bits(&mut self, bits: u64) {
         self.proved.state[1] |= bits << 32;
         self.proved.state[2] |= bits << 8;
+    }
+
+    /// The same of a stream, and of the number of its last refused packet all bits above the low 8.
+    pub fn set_idle_bits_of_stream(&mut self, bits: u64) {
+        self.proved_stream[1] |= bits << 32;
+        self.proved_stream[2] |= bits << 8;
+        self.proved_stream[11] |= bits << 8;
     }
 
     pub fn start(&mut self) -> Result<(), Difference> {
@@ -268,7 +285,7 @@ impl Twins {
         self.hold = vec![MARK_BYTE; hold];
         self.bad = 0;
         self.lend_again();
-        self.proved_stream = [MARK; 11];
+        self.proved_stream = [MARK; 13];
         let number = lent::open(&self.proved.state, &mut self.proved_stream);
         same("open: answer", &number, &0)?;
         same("open: stream", &self.proved_stream, &self.stream_numbers())
@@ -279,6 +296,10 @@ impl Twins {
     pub fn feed(&mut self, chunk: &[u8]) -> Result<(), Difference> {
         let before = self.stream;
         let wanted = told(self.stream.feed(&mut self.second, &mut self.hold, chunk));
+        let wanted_stream = match wanted {
+            0 => self.stream_numbers(),
+            _ => self.proved_stream,
+        };
         let proved = &mut self.proved;
         let number = lent::feed(
             &mut proved.orders,
@@ -289,7 +310,7 @@ impl Twins {
             chunk,
         );
         same("feed: answer", &number, &wanted)?;
-        same("feed: stream", &self.proved_stream, &self.stream_numbers())?;
+        same("feed: stream", &self.proved_stream, &wanted_stream)?;
         same_runs("feed", "byte held", &self.proved_hold, &self.hold, 1)?;
         self.same_tables("feed")?;
         let (cut, wanted_cut) = (lent::cut(&self.proved_stream), self.stream.is_cut());
@@ -310,17 +331,22 @@ impl Twins {
             for (place, total) in stream.totals.iter().enumerate() {
                 tally.fed_records[place] += total - before.totals[place];
             }
+            if stream.bad > before.bad {
+                tally.fed_last[usize::from(stream.last_number)] += 1;
+            } else if stream.totals != before.totals {
+                tally.fed_last_kept += u64::from(stream.last_number != 0);
+            }
         }
     }
 
     /// One packet to both: the reader's answers, the receiver's, and all that is left.
-    pub fn receive(&mut self, packet: &[u8]) -> Result<Result<Answer, u8>, Difference> {
+    pub fn receive(&mut self, packet: &[u8]) -> Result<Result<Answer, Refusal>, Difference> {
         self.tally.packets += 1;
         self.read(packet)?;
         let mut account = [MARK; 9];
         let proved = &mut self.proved;
         let mut wanted_state = proved.state;
-        let number = lent::receive(
+        let told = lent::receive(
             &mut proved.orders,
             &mut proved.symbols,
             &mut proved.shelf,
@@ -329,15 +355,13 @@ impl Twins {
             &mut account,
         );
         let answer = self.second.give(packet);
-        let (wanted, wanted_account) = match &answer {
-            Err(number) => (*number, [MARK; 9]),
-            Ok(answer) => {
-                let after = self.second.state;
-                wanted_state = [after.next, after.second, after.stop.into()];
-                (0, account_of(answer))
-            }
-        };
-        same("receive: answer", &number, &wanted)?;
+        let mut wanted_account = [MARK; 9];
+        if let Ok(answer) = &answer {
+            let after = self.second.state;
+            wanted_state = [after.next, after.second, after.stop.into()];
+            wanted_account = account_of(answer);
+        }
+        same_refusal("receive: number and offset", told, &answer)?;
         same("receive: account", &account, &wanted_account)?;
         same("receive: state", &self.proved.state, &wanted_state)?;
         self.same_tables("receive")?;
@@ -354,12 +378,13 @@ impl Twins {
         Ok(())
     }
 
-    fn note(&mut self, packet: &[u8], answer: &Result<Answer, u8>) {
+    fn note(&mut self, packet: &[u8], answer: &Result<Answer, Refusal>) {
         let tally = &mut self.tally;
         match answer {
-            Err(number) => {
+            Err(refusal) => {
                 self.bad += 1;
-                tally.refusals[*number as usize] += 1;
+                tally.refusals[refusal.number as usize] += 1;
+                tally.faults.note(packet, *refusal);
             }
             Ok(answer) => {
                 tally.refusals[0] += 1;
@@ -378,26 +403,25 @@ impl Twins {
     /// reader also gets all that is left behind the header, where that is more than the header claims.
     fn read(&mut self, packet: &[u8]) -> Result<(), Difference> {
         let mut records = [MARK];
-        let number = lent::packet(packet, &mut records);
-        let (wanted, wanted_records) = match read_packet(packet) {
-            Err(number) => (number, [MARK]),
-            Ok(records) => (0, [records.len() as u64]),
-        };
-        same("packet: answer", &number, &wanted)?;
-        same("packet: records", &records, &wanted_records)?;
+        let told = lent::packet(packet, &mut records);
+        let wanted = read_packet(packet);
+        let wanted_records = wanted.as_ref().map_or(MARK, |records| records.len() as u64);
+        same_refusal("packet: number and offset", told, &wanted)?;
+        same("packet: records", &records, &[wanted_records])?;
         let mut rest = packet;
         loop {
             let mut head = [MARK; 2];
-            let number = lent::record(rest, &mut head);
-            let (wanted, wanted_head) = match read_record(rest) {
-                Err(number) => (number, [MARK; 2]),
-                Ok(record) => (0, [record.number, record.body.len() as u64]),
+            let told = lent::record(rest, &mut head);
+            let wanted = read_record(rest);
+            let wanted_head = match &wanted {
+                Err(_) => [MARK; 2],
+                Ok(record) => [record.number, record.body.len() as u64],
             };
-            same("record: answer", &number, &wanted)?;
+            same_refusal("record: number and offset", told, &wanted)?;
             same("record: head", &head, &wanted_head)?;
             let (body, behind) = claimed_body(rest);
             self.body(body)?;
-            if wanted != 0 {
+            if wanted.is_err() {
                 return match behind {
                     [] => Ok(()),
                     _ => self.body(&rest[HEADER_BYTES..]),
@@ -411,12 +435,10 @@ impl Twins {
     pub fn body(&mut self, body: &[u8]) -> Result<(), Difference> {
         self.tally.bodies += 1;
         let mut fields = [MARK; 8];
-        let number = lent::body(body, &mut fields);
-        let (wanted, wanted_fields) = match read_body(body) {
-            Err(number) => (number, [MARK; 8]),
-            Ok(message) => (0, fields_of(&message)),
-        };
-        same("body: answer", &number, &wanted)?;
+        let told = lent::body(body, &mut fields);
+        let wanted = read_body(body);
+        let wanted_fields = wanted.as_ref().map_or([MARK; 8], fields_of);
+        same_refusal("body: number and offset", told, &wanted)?;
         same("body: fields", &fields, &wanted_fields)?;
         self.note_timestamp(body);
         Ok(())
@@ -629,17 +651,6 @@ fn place_of(kind: u8) -> Option<usize> {
         .position(|(known, _)| *known == kind)
 }
 
-/// The body of the first record of what is left of a packet, or of a shelf's slot, which begins as a record
-/// does: by its header's length and as far as there are bytes, and what lies behind it.
-fn claimed_body(bytes: &[u8]) -> (&[u8], &[u8]) {
-    if bytes.len() < HEADER_BYTES {
-        return (&[], &[]);
-    }
-    let (header, rest) = bytes.split_at(HEADER_BYTES);
-    let length = little(&header[8..]) as usize;
-    rest.split_at(length.min(rest.len()))
-}
-
 /// What stands in the Timestamp, or as a System Time's seconds, if all the rest of the body is good.
 fn timestamp_of_a_good_rest(body: &[u8]) -> Option<u32> {
     let nanoseconds = little(body.get(1..5)?) as u32;
@@ -687,6 +698,16 @@ pub fn fields_of(message: &Message) -> [u64; 8] {
 /// The number that the boundary answers: 0 where nothing is refused.
 fn told(answer: Result<(), u8>) -> u8 {
     answer.err().unwrap_or(0)
+}
+
+/// The number and the offset that the boundary answers: both 0 where nothing is refused, and the offset 0
+/// where a number stands alone.
+fn same_refusal<T>(what: &str, told: u32, wanted: &Result<T, Refusal>) -> Result<(), Difference> {
+    let wanted = match wanted {
+        Ok(_) => (0, 0),
+        Err(refusal) => (refusal.number, refusal.offset.unwrap_or(0)),
+    };
+    same(what, &taken_apart(told), &wanted)
 }
 
 fn same<T: PartialEq + Debug>(what: &str, proved: &T, second: &T) -> Result<(), Difference> {

@@ -5,7 +5,7 @@
 mod common;
 use common::*;
 use second::morning::*;
-use second::packet::{read_body, read_packet, Message, Side, LAST_NUMBER};
+use second::packet::{read_body, read_packet, Message, Refusal, Side, LAST_NUMBER};
 use second::receiver::{Answer, State};
 use second::views;
 use std::collections::{BTreeMap, VecDeque};
@@ -287,13 +287,13 @@ fn altered_receivers() {
         let answer = desk.give(&packet);
         let good = sizes_good(&before) && (1..=LAST_NUMBER + 1).contains(&before.state.next);
         if !good {
-            assert_eq!(answer, Err(6), "seed {seed}");
-        } else if let Err(number) = read_packet(&packet) {
-            assert_eq!(answer, Err(number), "seed {seed}");
+            assert_eq!(answer, Err(Refusal::alone(6)), "seed {seed}");
+        } else if let Err(refusal) = read_packet(&packet) {
+            assert_eq!(answer, Err(refusal), "seed {seed}");
         }
         match answer {
-            Err(number) => {
-                refused[number as usize] += 1;
+            Err(refusal) => {
+                refused[refusal.number as usize] += 1;
                 assert_eq!(desk, before, "seed {seed}");
             }
             Ok(answer) => {

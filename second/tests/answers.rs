@@ -5,7 +5,7 @@ use common::{example_file, example_path, seeds, Reference};
 use second::answers::answers_of_recording;
 use second::examples::*;
 use second::morning::{drawn_recording, packed, recording};
-use second::packet::read_packet;
+use second::packet::{read_packet, Refusal};
 use second::sheet::{packets_of, play};
 use second::tables::{MOST_ENTRIES, MOST_ROWS};
 use std::collections::BTreeMap;
@@ -40,7 +40,10 @@ fn refused_and_cut_packets() {
     // 0 bytes, 1,501 bytes, half a record, and a piece that gives no line.
     let mut bytes = recording(&[vec![], vec![0; 1_501], vec![1, 0, 0]]);
     bytes.extend([9, 0, 1]);
-    assert_eq!(text(&bytes), "refused 1\nrefused 1\nrefused 2\nsecond 0\n");
+    assert_eq!(
+        text(&bytes),
+        "refused 1\nrefused 1\nrefused 2 at 0\nsecond 0\n"
+    );
 }
 
 #[test]
@@ -86,7 +89,14 @@ fn packets_told<'a>(bytes: &[u8], lines: &'a str) -> (Vec<&'a str>, u64, u64) {
     for packet in packets_of(bytes).0 {
         let line = rest.next().expect("a line for each packet");
         match read_packet(packet) {
-            Err(number) => assert_eq!(line, format!("refused {number}")),
+            Err(Refusal {
+                number,
+                offset: None,
+            }) => assert_eq!(line, format!("refused {number}")),
+            Err(Refusal {
+                number,
+                offset: Some(offset),
+            }) => assert_eq!(line, format!("refused {number} at {offset}")),
             Ok(records) => {
                 let numbers: Vec<u64> = line.split(' ').map(|word| word.parse().unwrap()).collect();
                 let [counts @ .., told, applied, _highest, stopped] = numbers.as_slice() else {
@@ -200,6 +210,11 @@ fn the_morning_of_every_flag_byte_line_by_line() {
 #[test]
 fn the_morning_of_the_tap_fault_line_by_line() {
     comes_to_what_is_stated("nanoseconds");
+}
+
+#[test]
+fn the_morning_of_every_bad_field_line_by_line() {
+    comes_to_what_is_stated("offsets");
 }
 
 #[test]

@@ -4,7 +4,7 @@ mod common;
 use common::*;
 use second::examples::{example_list, morning_recording, MORNING_SHEET};
 use second::morning::record;
-use second::packet::{little, read_packet};
+use second::packet::{little, read_packet, Refusal};
 use second::sheet::{sheet, sheet_of_recording};
 use second::views::spread;
 
@@ -119,7 +119,7 @@ fn p10_capacity_1_second_add_of_the_live_id_is_21() {
 #[test]
 fn p11_a_9_byte_packet_is_2() {
     let packet = &record(1, &time(34_200))[..9];
-    assert_eq!(read_packet(packet), Err(2));
+    assert_eq!(read_packet(packet), Err(Refusal::at(2, 0)));
     Desk::new(1, 1).refuses(2, packet);
 }
 
@@ -127,5 +127,7 @@ fn p11_a_9_byte_packet_is_2() {
 fn p12_a_good_record_before_a_bad_one_is_not_taken() {
     let mut packet = record(1, &time(34_200));
     packet.extend_from_slice(&record(2, &buy(7, 500, 0, 100)));
+    // 15 bytes of the good record, 10 of the bad one's header, and the price at 18 of its body.
+    assert_eq!(read_packet(&packet), Err(Refusal::at(4, 43)));
     Desk::new(1, 1).refuses(4, &packet);
 }

@@ -1,7 +1,8 @@
-//! Request 6: nanoseconds of a second. A Timestamp above 999,999,999 is refused with 4 in the ten messages
-//! that have one, in packets and on the shelf. Tried of the second program, and of the proved library where
+//! Request 6: nanoseconds of a second. A Timestamp above 999,999,999 is refused with 4 and its offset in the ten
+//! messages that have one, in packets and on the shelf. Tried of the second program, and of the proved library where
 //! it is linked. Run one seed again with SECOND_SEED=number.
 
+#[macro_use]
 mod common;
 use common::watched::Receiver;
 use common::*;
@@ -16,7 +17,7 @@ use std::collections::BTreeMap;
 /// What these tests do with a receiver of either program.
 trait Tap: Receiver {
     /// The type and the numbers of a body, or its refusal.
-    fn read(body: &[u8]) -> Result<Vec<u64>, u8>;
+    fn read(body: &[u8]) -> Result<Vec<u64>, Refusal>;
     fn shelf(&mut self) -> &mut [u8];
 
     /// Document 01's example, numbers 1 to 5 applied.
@@ -30,10 +31,10 @@ trait Tap: Receiver {
         receiver
     }
 
-    /// A packet that must be refused with this number, and change nothing.
-    fn refuses(&mut self, number: u8, packet: &[u8]) {
+    /// A packet that must be refused with this number at this offset, and change nothing.
+    fn refuses(&mut self, number: u8, offset: usize, packet: &[u8]) {
         let before = self.clone();
-        assert_eq!(self.hear(packet), Err(number));
+        assert_eq!(self.hear(packet), Err(Refusal::at(number, offset)));
         assert_eq!(*self, before);
     }
 
@@ -50,7 +51,7 @@ trait Tap: Receiver {
 }
 
 impl Tap for Desk {
-    fn read(body: &[u8]) -> Result<Vec<u64>, u8> {
+    fn read(body: &[u8]) -> Result<Vec<u64>, Refusal> {
         read_body(body).map(|message| message.numbers())
     }
 
@@ -61,27 +62,13 @@ impl Tap for Desk {
 
 #[cfg(linked)]
 impl Tap for Proved {
-    fn read(body: &[u8]) -> Result<Vec<u64>, u8> {
-        let fields = proved::body(body).map_err(|refusal| refusal.number())?;
-        Ok(fields.0.to_vec())
+    fn read(body: &[u8]) -> Result<Vec<u64>, Refusal> {
+        Ok(proved::body(body)?.0.to_vec())
     }
 
     fn shelf(&mut self) -> &mut [u8] {
         &mut self.shelf
     }
-}
-
-/// Each of these tests, of the second program and of the proved library.
-macro_rules! of_both {
-    ($($test:ident)*) => {
-        mod of_the_second_program {
-            $(#[test] fn $test() { super::$test::<super::Desk>(); })*
-        }
-        #[cfg(linked)]
-        mod of_the_proved_library {
-            $(#[test] fn $test() { super::$test::<super::Proved>(); })*
-        }
-    };
 }
 
 of_both! {
@@ -148,8 +135,8 @@ fn the_largest_good_value_is_999_999_999<R: Tap>() {
     }
     for nanoseconds in BAD {
         for body in ten(nanoseconds) {
-            assert_eq!(R::read(&body), Err(4), "type {}", body[0]);
-            R::after_example().refuses(4, &record(6, &body));
+            assert_eq!(R::read(&body), Err(Refusal::at(4, 1)), "type {}", body[0]);
+            R::after_example().refuses(4, 11, &record(6, &body));
         }
     }
 }
@@ -208,24 +195,24 @@ fn framing_number_type_and_length_come_before_it<R: Tap>() {
             let longer = [&body[..], &[0]].concat();
             let unknown = [&[0], &body[1..]].concat();
             for other in [&body[..body.len() - 1], &longer, &unknown] {
-                assert_eq!(R::read(other), Err(3));
-                receiver.refuses(3, &record(6, other));
+                assert_eq!(R::read(other), Err(Refusal::at(3, 0)));
+                receiver.refuses(3, 10, &record(6, other));
             }
-            receiver.refuses(5, &record(0, &body));
-            receiver.refuses(2, &record_claiming(6, length + 1, &body));
-            receiver.refuses(4, &[record(6, &body), vec![1, 2, 3]].concat());
+            receiver.refuses(5, 0, &record(0, &body));
+            receiver.refuses(2, 0, &record_claiming(6, length + 1, &body));
+            receiver.refuses(4, 11, &[record(6, &body), vec![1, 2, 3]].concat());
         }
     }
 }
 
-/// Bodies of each type that has another judged field, with all of these bad in turn.
-fn other_faults(nanoseconds: u32) -> Vec<Vec<u8>> {
+/// Bodies of each type that has another judged field, with all of these bad in turn, and the offset of that.
+fn other_faults(nanoseconds: u32) -> Vec<(usize, Vec<u8>)> {
     let mut faults = Vec::new();
     for body in ten(nanoseconds) {
         let mut spoiled = |at: usize, bytes: &[u8]| {
             let mut faulty = body.clone();
             faulty[at..at + bytes.len()].copy_from_slice(bytes);
-            faults.push(faulty);
+            faults.push((at, faulty));
         };
         if body[0] == SYMBOL_UPDATE {
             spoiled(21, b"X");
@@ -243,12 +230,14 @@ fn other_faults(nanoseconds: u32) -> Vec<Vec<u8>> {
     faults
 }
 
+/// By the Timestamp where it is bad, since it lies before every other field that is judged.
 fn beside_another_bad_field_it_is_4_still<R: Tap>() {
     assert_eq!(other_faults(0).len(), 2 + 1 + 5 * 3);
     for nanoseconds in GOOD.into_iter().chain(BAD) {
-        for body in other_faults(nanoseconds) {
-            assert_eq!(R::read(&body), Err(4));
-            R::after_example().refuses(4, &record(6, &body));
+        for (other, body) in other_faults(nanoseconds) {
+            let earliest = if nanoseconds > 999_999_999 { 1 } else { other };
+            assert_eq!(R::read(&body), Err(Refusal::at(4, earliest)));
+            R::after_example().refuses(4, 10 + earliest, &record(6, &body));
         }
     }
 }
@@ -261,11 +250,13 @@ fn one_bad_record_refuses_its_packet_which_leaves_a_gap<R: Tap>() {
             let mut records = vec![(6, time(1)), (7, time(2)), (8, time(3))];
             records[place].1 = bad.clone();
             let mut receiver = R::after_example();
-            receiver.refuses(4, &packet(&records));
+            // Behind System Times of 15 bytes each, its own header and its type.
+            let offset = 15 * place + 11;
+            receiver.refuses(4, offset, &packet(&records));
             receiver.takes(&[(9, time(4)), (10, time(5))], 6, 0);
             assert_eq!(slot(receiver.shelf(), 9), filled_slot(9, &time(4)));
             // The same packet again is refused again.
-            receiver.refuses(4, &packet(&records));
+            receiver.refuses(4, offset, &packet(&records));
             records[place].1 = good.clone();
             receiver.takes(&records, 11, 0);
             assert_eq!(receiver.state().second, 5);
@@ -283,8 +274,8 @@ fn an_old_or_too_far_record_is_judged_too<R: Tap>() {
     for body in ten(1_000_000_000) {
         let mut receiver = R::after_example();
         for number in [1, 5, 69, 70, 1_000, LAST_NUMBER] {
-            receiver.refuses(4, &record(number, &body));
-            receiver.refuses(4, &packet(&[(6, time(1)), (number, body.clone())]));
+            receiver.refuses(4, 11, &record(number, &body));
+            receiver.refuses(4, 26, &packet(&[(6, time(1)), (number, body.clone())]));
         }
     }
 }
@@ -355,12 +346,21 @@ fn a_list_with_one_is_none_of_demand_3<R: Tap>() {
         let mut receiver = R::after_example();
         for (number, body) in numbered(&list, 1, 8).into_iter().skip(5) {
             match number {
-                6 => receiver.refuses(4, &record(number, &body)),
+                6 => receiver.refuses(4, 11, &record(number, &body)),
                 _ => receiver.takes(&[(number, body)], 6, 0),
             }
         }
         receiver.takes(&[(6, good)], 9, 0);
     }
+}
+
+/// Where a packet has its first Timestamp: behind System Times, which have none and take 15 bytes each.
+fn first_timestamp(packet: &[u8]) -> usize {
+    let mut start = 0;
+    while packet[start + 10] == SYSTEM_TIME {
+        start += 15;
+    }
+    start + 11
 }
 
 /// Seeded deliveries of a list, one packet in four with a tap fault, and gap fills without one at the end:
@@ -377,7 +377,7 @@ fn deliveries_with_tap_faults_come_to_the_list<R: Tap>() {
         for packet in delivery(dice.bits(), &list, how) {
             let faulty = with_tap_fault(&packet);
             if dice.below(4) == 0 && faulty != packet {
-                receiver.refuses(4, &faulty);
+                receiver.refuses(4, first_timestamp(&faulty), &faulty);
                 faults += 1;
             } else {
                 receiver.hear(&packet).expect("a good packet");
@@ -414,7 +414,7 @@ fn told(body: &[u8]) -> u64 {
 fn bad_by_its_timestamp_alone(body: &[u8]) -> bool {
     let mut at_0 = body.to_vec();
     set_timestamp(&mut at_0, 0);
-    read_body(body) == Err(4) && read_body(&at_0).is_ok()
+    read_body(body) == Err(Refusal::at(4, 1)) && read_body(&at_0).is_ok()
 }
 
 /// All messages of seeded lists have good Timestamps, and each of the ten has the last nanosecond.
@@ -479,8 +479,8 @@ fn a_list_in_the_making_takes_none_beyond_the_limit() {
 fn bodies_are_made_bad_by_their_timestamps() {
     let (mut alone, mut beside) = (BTreeMap::new(), BTreeMap::new());
     for seed in seeds(20_000) {
-        let body = bad_body(seed, 4);
-        assert_eq!(read_body(&body), Err(4), "seed {seed}");
+        let (body, refusal) = told_body(seed, 4);
+        assert_eq!(read_body(&body), Err(refusal), "seed {seed}");
         let values: &mut [u64; 3] = match bad_by_its_timestamp_alone(&body) {
             true => alone.entry(body[0]).or_default(),
             false if told(&body) > 999_999_999 => beside.entry(body[0]).or_default(),
@@ -556,7 +556,7 @@ fn a_tap_fault_is_in_one_record() {
     set_timestamp(&mut faulty, 1_000_000_000);
     let wanted = packet(&[(1, time(1)), (2, faulty), (3, update)]);
     assert_eq!(with_tap_fault(&good), wanted);
-    assert_eq!(read_packet(&wanted), Err(4));
+    assert_eq!(read_packet(&wanted), Err(Refusal::at(4, 26)));
     let times = packet(&[(1, time(1)), (2, time(2))]);
     assert_eq!(with_tap_fault(&times), times);
 }

@@ -17,7 +17,7 @@ fn sheet2(input: Stdio, arguments: &[PathBuf]) -> Output {
 
 #[test]
 fn sheet2_reads_standard_input_or_a_file() {
-    for name in ["morning", "long", "flags", "nanoseconds"] {
+    for name in ["morning", "long", "flags", "nanoseconds", "offsets"] {
         let wanted = example_file(&format!("{name}.sheet"));
         let path = example_path(&format!("{name}.rec"));
         let piped = sheet2(File::open(&path).unwrap().into(), &[]);

@@ -6,8 +6,8 @@ mod common;
 use common::*;
 use second::examples::{example_list, morning_recording, MORNING_SHEET};
 use second::morning::*;
-use second::packet::{Side, HIGHEST_PRICE};
-use second::proved::{self, lent, Body, Counts, Head, Proved, Refusal};
+use second::packet::{Refusal, Side, HIGHEST_PRICE};
+use second::proved::{self, lent, taken_apart, Body, Counts, Head, Proved};
 use second::stream::LEAST_HOLD;
 
 fn example() -> (Proved, Vec<u8>) {
@@ -40,30 +40,73 @@ fn the_example_through_every_call() {
 }
 
 #[test]
-fn refusals_by_name() {
+fn each_refusal() {
     let (mut receiver, packet) = example();
-    assert_eq!(Proved::new(0, 4), Err(Refusal::TableOrNext));
-    assert_eq!(receiver.receive(&[]), Err(Refusal::PacketSize));
-    assert_eq!(receiver.receive(&packet[..9]), Err(Refusal::Framing));
+    assert_eq!(Proved::new(0, 4), Err(Refusal::alone(6)));
+    assert_eq!(receiver.receive(&[]), Err(Refusal::alone(1)));
+    assert_eq!(receiver.receive(&packet[..9]), Err(Refusal::at(2, 0)));
     let numberless = record(0, &time(1));
-    assert_eq!(receiver.receive(&numberless), Err(Refusal::Number));
+    assert_eq!(receiver.receive(&numberless), Err(Refusal::at(5, 0)));
     let typeless = record(1, &[0]);
-    assert_eq!(receiver.receive(&typeless), Err(Refusal::Kind));
+    assert_eq!(receiver.receive(&typeless), Err(Refusal::at(3, 10)));
     let free = record(1, &buy(7, 500, 0, 100));
-    assert_eq!(receiver.receive(&free), Err(Refusal::Field));
-    assert_eq!(receiver.spread(7), Err(Refusal::UnknownSymbol));
+    assert_eq!(receiver.receive(&free), Err(Refusal::at(4, 28)));
+    assert_eq!(receiver.spread(7), Err(Refusal::alone(30)));
     assert_eq!(receiver, example().0);
-    for (refusal, number) in [
-        (Refusal::PacketSize, 1),
-        (Refusal::Framing, 2),
-        (Refusal::Kind, 3),
-        (Refusal::Field, 4),
-        (Refusal::Number, 5),
-        (Refusal::TableOrNext, 6),
-        (Refusal::UnknownSymbol, 30),
+}
+
+/// The four calls that answer 32 bits: the offset stands above the number's 8, and 0, 1 and 6 have none.
+#[test]
+fn numbers_and_offsets_in_one_answer() {
+    for (answer, number, offset) in [
+        (0, 0, 0),
+        (1, 1, 0),
+        (2, 2, 0),
+        (256 + 4, 4, 1),
+        (65_535, 255, 255),
+        (256 * 1_500 + 3, 3, 1_500),
+        (u32::MAX, 255, 16_777_215),
     ] {
-        assert_eq!(refusal.number(), number);
+        assert_eq!(taken_apart(answer), (number, offset));
     }
+    let (mut receiver, packet) = example();
+    // 94 System Times of 15 bytes, two Modifies of 40, and a header that announces an empty body.
+    let mut longest = Vec::new();
+    for number in 1..=94 {
+        longest.extend(record(number, &time(1)));
+    }
+    for number in 95..=96 {
+        longest.extend(record(number, &modify(7, 500, 1, 1, 1)));
+    }
+    longest.extend(record(97, &[]));
+    let bad = record(1, &buy(7, 500, 0, 100));
+    for (bytes, answer) in [
+        (&packet[..], 0),
+        (&[], 1),
+        (&packet[..9], 2),
+        (&longest, 256 * 1_500 + 3),
+        (&bad, 256 * 28 + 4),
+        (&[0; 10], 5),
+    ] {
+        assert_eq!(lent::packet(bytes, &mut [0]), answer);
+        let Proved {
+            orders,
+            symbols,
+            shelf,
+            state,
+        } = &mut receiver;
+        let received = lent::receive(orders, symbols, shelf, state, bytes, &mut [0; 9]);
+        assert_eq!(received, answer);
+        // 6 comes before all of them.
+        let received = lent::receive(&mut [], symbols, shelf, state, bytes, &mut [0; 9]);
+        assert_eq!(received, 6);
+    }
+    assert_eq!(lent::record(&[], &mut [0; 2]), 2);
+    assert_eq!(lent::record(&longest[1_490..], &mut [0; 2]), 256 * 10 + 3);
+    assert_eq!(lent::record(&bad, &mut [0; 2]), 256 * 28 + 4);
+    assert_eq!(lent::body(&[], &mut [0; 8]), 3);
+    assert_eq!(lent::body(&bad[10..], &mut [0; 8]), 256 * 18 + 4);
+    assert_eq!(lent::body(&time(1), &mut [0; 8]), 0);
 }
 
 /// A book that is crossed has a negative spread (P9), and one with an empty side has none.
@@ -111,16 +154,16 @@ fn the_example_in_pieces() {
     let bytes = morning_recording();
     for first in 0..=bytes.len() {
         let (mut receiver, _) = example();
-        let mut stream = [9; 11];
+        let mut stream = [9; 13];
         assert_eq!(lent::open(&receiver.state, &mut stream), 0);
-        assert_eq!(stream, [1, 0, 0, 0, 0, 0, 0, 0, 0, 0, 0]);
+        assert_eq!(stream, [1, 0, 0, 0, 0, 0, 0, 0, 0, 0, 0, 0, 0]);
         let mut hold = [9; LEAST_HOLD];
         let inside = first != 0 && first != bytes.len();
         for (chunk, cut) in [(&bytes[..first], inside), (&bytes[first..], false)] {
             let number = feed(&mut receiver, &mut hold, &mut stream, chunk);
             assert_eq!((number, lent::cut(&stream)), (0, cut), "cut at {first}");
         }
-        assert_eq!(stream, [6, 34_200, 0, 0, 0, 0, 5, 0, 0, 0, 0]);
+        assert_eq!(stream, [6, 34_200, 0, 0, 0, 0, 5, 0, 0, 0, 0, 0, 0]);
         assert_eq!(hold, [0; LEAST_HOLD]);
         receiver.state.copy_from_slice(&stream[..3]);
         assert_eq!(receiver.sheet(0, false), Ok(MORNING_SHEET.into()));
@@ -131,12 +174,12 @@ fn the_example_in_pieces() {
 #[test]
 fn a_refused_piece() {
     let (mut receiver, _) = example();
-    let mut stream = [1, 0, 0, 0, 0, 0, 0, 0, 0, 0, 0];
+    let mut stream = [1, 0, 0, 0, 0, 0, 0, 0, 0, 0, 0, 4, 28];
     let mut hold = [9; LEAST_HOLD - 1];
     let bytes = morning_recording();
     assert_eq!(feed(&mut receiver, &mut hold, &mut stream, &bytes), 6);
     assert_eq!(receiver, example().0);
-    assert_eq!(stream, [1, 0, 0, 0, 0, 0, 0, 0, 0, 0, 0]);
+    assert_eq!(stream, [1, 0, 0, 0, 0, 0, 0, 0, 0, 0, 0, 4, 28]);
     assert_eq!(hold, [9; LEAST_HOLD - 1]);
 }
 

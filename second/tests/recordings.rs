@@ -4,7 +4,8 @@ mod common;
 use common::*;
 use second::examples::*;
 use second::morning::*;
-use second::packet::{little, read_packet, LAST_NANOSECOND, LAST_NUMBER, MODIFY_ORDER};
+use second::packet::*;
+use second::reading::{first_fault, Fault, JUDGED_FIELDS};
 use second::sheet::*;
 use std::collections::{BTreeMap, BTreeSet};
 
@@ -244,10 +245,10 @@ fn the_long_recording_shows_everything() {
     for packet in long_packets() {
         let tap_fault = tap_fault(&packet, &list);
         match desk.give(&packet) {
-            Err(number) => {
-                refused[number as usize] += 1;
+            Err(refusal) => {
+                refused[refusal.number as usize] += 1;
                 if let Some(numbers) = tap_fault {
-                    assert_eq!(number, 4);
+                    assert_eq!(refusal.number, 4);
                     tap_faults += 1;
                     if numbers.contains(&desk.state.next) {
                         gap = desk.state.next;
@@ -341,7 +342,7 @@ fn the_morning_of_the_tap_fault() {
         let Err(refusal) = read_packet(packet) else {
             continue;
         };
-        assert_eq!(refusal, 4);
+        assert_eq!(refusal, Refusal::at(4, TYPE + 1));
         assert_eq!(little(&packet[TYPE + 1..TYPE + 5]), 1_000_000_000);
         let mut mended = packet.to_vec();
         mended[TYPE + 1..TYPE + 5].copy_from_slice(&LAST_NANOSECOND.to_le_bytes());
@@ -349,6 +350,35 @@ fn the_morning_of_the_tap_fault() {
         assert!(types.insert(packet[TYPE]));
     }
     assert_eq!(types.len(), 10);
+}
+
+/// The morning of every bad field comes to the sheet that tools/offsets.py states for it, and has what it is
+/// there for: each judged field, and each other fault of a record, in the second record of a packet.
+#[test]
+fn the_morning_of_every_bad_field() {
+    let stored = example_file("offsets.rec");
+    let wanted = String::from_utf8(example_file("offsets.sheet")).unwrap();
+    assert_eq!(sheet_text(&stored), wanted);
+
+    let (mut fields, mut others) = (BTreeSet::new(), Vec::new());
+    for packet in packets_of(&stored).0 {
+        match first_fault(packet) {
+            None => assert!(read_packet(packet).is_ok()),
+            Some((2, _, Fault::Field(place))) => assert!(fields.insert(place)),
+            Some((2, _, other)) => others.push(other),
+            Some((record, _, fault)) => panic!("record {record}: {fault:?}"),
+        }
+    }
+    assert!(fields.into_iter().eq(0..JUDGED_FIELDS.len()));
+    let wanted = [
+        Fault::UnfinishedHeader,
+        Fault::BodyPastTheEnd,
+        Fault::SequenceNumber,
+        Fault::EmptyBody,
+        Fault::UnknownType,
+        Fault::WrongLength(SYSTEM_TIME),
+    ];
+    assert_eq!(others, wanted);
 }
 
 /// Seeded recordings: every one gives a sheet, and together they show every rule and both words.

@@ -50,7 +50,7 @@ fn six_sizes_at_a_start_and_in_receiving() {
         // 6 comes before 1 and before all else.
         for packet in [vec![], vec![0; 1_501], record(1, &time(1)), vec![0; 9]] {
             let answer = receive(FRESH, &mut orders, &mut symbols, &mut shelf, &packet);
-            assert_eq!(answer, Err(6));
+            assert_eq!(answer, Err(Refusal::alone(6)));
         }
         assert!(orders.iter().all(|number| *number == 3));
         assert!(symbols.iter().all(|byte| *byte == 3));
@@ -141,7 +141,7 @@ fn three_types_and_lengths() {
         for length in 1..=80 {
             let mut body = vec![0; length];
             body[0] = kind;
-            let refused = read_body(&body) == Err(3);
+            let refused = read_body(&body) == Err(Refusal::at(3, 0));
             let known = TYPES_AND_LENGTHS.contains(&(kind, length));
             assert_eq!(refused, !known, "type {kind}, length {length}");
         }
@@ -239,8 +239,8 @@ fn thirty_and_six_in_views() {
     assert_eq!(run, [77; 9]);
 }
 
-/// Bad packets of the generator: each is refused with the number it was made for, and changes
-/// nothing, whatever other faults it has.
+/// Bad packets of the generator: each is refused with the number and at the offset it was made for, and
+/// changes nothing, whatever other faults it has.
 #[test]
 fn made_bad_packets_are_refused_as_they_were_made() {
     let list = list(
@@ -254,14 +254,15 @@ fn made_bad_packets_are_refused_as_they_were_made() {
     desk.records(&numbered(&list, 1, 20));
     let mut lengths = [0; 2];
     for seed in seeds(20_000) {
-        let refusal = 1 + (seed % 5) as u8;
-        let packet = bad_packet(seed, &list, refusal);
+        let number = 1 + (seed % 5) as u8;
+        let (packet, refusal) = told_packet(seed, &list, number);
+        assert_eq!(refusal.number, number, "seed {seed}");
+        assert_eq!(packet, bad_packet(seed, &list, number), "seed {seed}");
         lengths[usize::from(packet.is_empty())] += 1;
         if seed < 2_000 {
-            desk.refuses(refusal, &packet);
-        } else {
-            assert_eq!(read_packet(&packet), Err(refusal), "seed {seed}");
+            desk.refuses(number, &packet);
         }
+        assert_eq!(read_packet(&packet), Err(refusal), "seed {seed}");
     }
     if all_seeds() {
         assert!(lengths.iter().all(|count| *count > 1_000), "{lengths:?}");

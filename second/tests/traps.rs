@@ -38,14 +38,13 @@ fn number_0_past_the_end_is_2_and_number_0_with_an_empty_body_is_5() {
 fn a_known_type_with_another_length_is_3_before_a_field_is_looked_at() {
     let mut kinds = BTreeSet::new();
     for seed in 0..300 {
-        let body = bad_body(seed, 4);
-        assert_eq!(read_body(&body), Err(4), "seed {seed}");
-        assert_eq!(read_body(&body[..body.len() - 1]), Err(3), "seed {seed}");
-        assert_eq!(
-            read_body(&[&body[..], &[0]].concat()),
-            Err(3),
-            "seed {seed}"
-        );
+        let (body, refusal) = told_body(seed, 4);
+        assert_eq!(read_body(&body), Err(refusal), "seed {seed}");
+        let wrong_length = Err(Refusal::at(3, 0));
+        let shorter = &body[..body.len() - 1];
+        assert_eq!(read_body(shorter), wrong_length, "seed {seed}");
+        let longer = [&body[..], &[0]].concat();
+        assert_eq!(read_body(&longer), wrong_length, "seed {seed}");
         kinds.insert(body[0]);
     }
     // The ten that have a judged field: all but System Time.
@@ -80,22 +79,22 @@ fn the_type_byte_decides_the_message_and_not_the_length() {
     let mut body = modify(7, 9, 1, 1, 0);
     assert!(read_body(&body).is_ok());
     body[0] = TRADE_CANCEL;
-    assert_eq!(read_body(&body), Err(4));
+    assert_eq!(read_body(&body), Err(Refusal::at(4, 18)));
     // As a Modify this cancel has size 0 (and flags 2, which are not judged).
     let mut body = trade_cancel(0, 7, 9, 0, 1, 0x200_0000);
     assert!(read_body(&body).is_ok());
     body[0] = MODIFY_ORDER;
-    assert_eq!(read_body(&body), Err(4));
+    assert_eq!(read_body(&body), Err(Refusal::at(4, 25)));
 }
 
 #[test]
 fn price_and_size_are_judged_in_execution_trade_and_cancel_and_a_lot_is_no_size() {
-    assert_eq!(read_body(&order_execution(0, 7, 1, 1, 0, 1, 0)), Err(4));
-    assert_eq!(read_body(&trade(0, 7, 1, 0, 1, 0, 0)), Err(4));
-    assert_eq!(
-        read_body(&trade_cancel(0, 7, 1, 0, HIGHEST_PRICE + 1, 1)),
-        Err(4)
-    );
+    let execution = order_execution(0, 7, 1, 1, 0, 1, 0);
+    assert_eq!(read_body(&execution), Err(Refusal::at(4, 25)));
+    let sizeless = trade(0, 7, 1, 0, 1, 0, 0);
+    assert_eq!(read_body(&sizeless), Err(Refusal::at(4, 26)));
+    let cancel = trade_cancel(0, 7, 1, 0, HIGHEST_PRICE + 1, 1);
+    assert_eq!(read_body(&cancel), Err(Refusal::at(4, 18)));
     assert!(read_body(&symbol_update(0, 7, b"ABC        ", 0)).is_ok());
 }
 

@@ -1,6 +1,7 @@
 //! The packets of tools/vectors.py, and the text that it says a right reader prints.
 
 use second::packet::*;
+use second::reading::lines_of_packet;
 use std::path::PathBuf;
 use std::process::Command;
 
@@ -16,50 +17,6 @@ fn vectors(word: &str) -> Vec<u8> {
     output.stdout
 }
 
-/// The fields of a message as the vectors print them: its numbers, and the letters of the two that have some.
-fn fields(message: &Message) -> Vec<u64> {
-    let spell = |bytes: &[u8]| bytes.iter().map(|byte| *byte as u64).collect::<Vec<u64>>();
-    let numbers = message.numbers();
-    match *message {
-        Message::SymbolUpdate(update) => [
-            numbers[..2].to_vec(),
-            spell(&update.ticker),
-            numbers[2..3].to_vec(),
-            spell(&update.opening),
-            spell(&update.closing),
-            numbers[3..].to_vec(),
-        ]
-        .concat(),
-        Message::SystemState { version, .. } => [
-            numbers[..2].to_vec(),
-            spell(&version),
-            numbers[2..].to_vec(),
-        ]
-        .concat(),
-        _ => numbers,
-    }
-}
-
-fn printed(packet: &[u8]) -> String {
-    match read_packet(packet) {
-        Err(number) => format!("refused {number}\n"),
-        Ok(records) => {
-            let mut text = format!("records {}\n", records.len());
-            for record in records {
-                let mut words = vec![record.number.to_string()];
-                words.extend(
-                    fields(&record.message)
-                        .iter()
-                        .map(|field| field.to_string()),
-                );
-                text.push_str(&words.join(" "));
-                text.push('\n');
-            }
-            text
-        }
-    }
-}
-
 #[test]
 fn the_reader_prints_what_the_vectors_say() {
     let packets = vectors("stdin");
@@ -69,7 +26,7 @@ fn the_reader_prints_what_the_vectors_say() {
     let mut at = 0;
     while at < packets.len() {
         let length = little(&packets[at..at + 2]) as usize;
-        text.push_str(&printed(&packets[at + 2..at + 2 + length]));
+        text.push_str(&lines_of_packet(&packets[at + 2..at + 2 + length]));
         at += 2 + length;
         count += 1;
     }

@@ -25,9 +25,10 @@ fn main() -> ExitCode {
 
 #[cfg(linked)]
 mod linked {
-    use second::morning::system_time;
+    use second::examples::example_list;
+    use second::morning::{bad_packet, system_time};
     use second::packet::*;
-    use second::proved::{lent, Proved};
+    use second::proved::{self, lent, Proved};
     use second::receiver::{receive, State};
     use second::tables::{MOST_ENTRIES, MOST_ROWS};
     use second::traffic::{in_packets, Traffic};
@@ -167,14 +168,14 @@ mod linked {
         Ok(())
     }
 
-    fn refused(refusal: second::proved::Refusal) -> String {
-        format!("refused with {}", refusal.number())
+    fn refused(refusal: Refusal) -> String {
+        format!("refused with {refusal}")
     }
 
     fn proved_receives(receiver: &mut Proved, packets: &[Vec<u8>]) {
         let mut account = [0; 9];
         for packet in packets {
-            let number = lent::receive(
+            let refusal = lent::receive(
                 black_box(&mut receiver.orders),
                 black_box(&mut receiver.symbols),
                 black_box(&mut receiver.shelf),
@@ -182,7 +183,7 @@ mod linked {
                 black_box(packet),
                 &mut account,
             );
-            black_box((number, &account));
+            black_box((refusal, &account));
         }
     }
 
@@ -221,17 +222,14 @@ mod linked {
         records.extend((0..MESSAGES * 5).map(|_| traffic.message()));
         let packets = in_packets(&records, 30);
         let wanted = Ok(records.len() as u64);
-        let proved = || counted(&packets, proved_count);
-        let lists = || {
-            counted(&packets, |packet| {
-                read_packet(packet).map(|r| r.len() as u64)
-            })
-        };
+        let proved = || counted(&packets, proved::packet);
+        let lists = || counted(&packets, listed_count);
         let plain = || counted(&packets, plain_count);
         if [proved(), lists(), plain()] != [wanted, wanted, wanted] {
             return Err("the readers count differently".to_string());
         }
-        let timed = |count: &dyn Fn() -> Result<u64, u8>| {
+        refuse_alike()?;
+        let timed = |count: &dyn Fn() -> Result<u64, Refusal>| {
             time(|| {
                 let _ = black_box(count());
             })
@@ -239,7 +237,7 @@ mod linked {
         for (name, rust) in [
             (
                 "read packets (second program)",
-                &lists as &dyn Fn() -> Result<u64, u8>,
+                &lists as &dyn Fn() -> Result<u64, Refusal>,
             ),
             ("read packets (a plain Rust loop)", &plain),
         ] {
@@ -249,8 +247,25 @@ mod linked {
         Ok(())
     }
 
+    /// Bad packets, which are not timed: all three readers must do the same work, so tell the same number and
+    /// offset.
+    fn refuse_alike() -> Result<(), String> {
+        let list = example_list();
+        for seed in 0..1_000 {
+            let packet = bad_packet(seed, &list, 1 + (seed % 5) as u8);
+            let wanted = proved::packet(&packet);
+            if [listed_count(&packet), plain_count(&packet)] != [wanted, wanted] {
+                return Err(format!("the readers refuse seed {seed} differently"));
+            }
+        }
+        Ok(())
+    }
+
     /// The records of all packets together, or the first refusal.
-    fn counted(packets: &[Vec<u8>], count: impl Fn(&[u8]) -> Result<u64, u8>) -> Result<u64, u8> {
+    fn counted(
+        packets: &[Vec<u8>],
+        count: impl Fn(&[u8]) -> Result<u64, Refusal>,
+    ) -> Result<u64, Refusal> {
         let mut sum = 0;
         for packet in packets {
             sum += count(black_box(packet))?;
@@ -258,33 +273,30 @@ mod linked {
         Ok(sum)
     }
 
-    fn proved_count(packet: &[u8]) -> Result<u64, u8> {
-        let mut records = [0];
-        match lent::packet(packet, &mut records) {
-            0 => Ok(records[0]),
-            number => Err(number),
-        }
+    fn listed_count(packet: &[u8]) -> Result<u64, Refusal> {
+        read_packet(packet).map(|records| records.len() as u64)
     }
 
     /// What one would write for speed and nothing else: one pass, no list.
-    fn plain_count(packet: &[u8]) -> Result<u64, u8> {
+    fn plain_count(packet: &[u8]) -> Result<u64, Refusal> {
         if packet.is_empty() || packet.len() > MOST_PACKET_BYTES {
-            return Err(1);
+            return Err(Refusal::alone(1));
         }
         let (mut rest, mut count) = (packet, 0);
         while !rest.is_empty() {
+            let start = packet.len() - rest.len();
             let Some((head, behind)) = rest.split_at_checked(HEADER_BYTES) else {
-                return Err(2);
+                return Err(Refusal::at(2, start));
             };
             let length = usize::from(u16::from_le_bytes([head[8], head[9]]));
             let Some((body, behind)) = behind.split_at_checked(length) else {
-                return Err(2);
+                return Err(Refusal::at(2, start));
             };
             let number = number_at(head, 0);
             if number == 0 || number > LAST_NUMBER {
-                return Err(5);
+                return Err(Refusal::at(5, start));
             }
-            plain_body(body)?;
+            plain_body(body).map_err(|refusal| refusal.behind(start + HEADER_BYTES))?;
             rest = behind;
             count += 1;
         }
@@ -297,8 +309,8 @@ mod linked {
         u64::from_le_bytes(number)
     }
 
-    fn plain_body(body: &[u8]) -> Result<(), u8> {
-        let kind = *body.first().ok_or(3)?;
+    fn plain_body(body: &[u8]) -> Result<(), Refusal> {
+        let kind = *body.first().ok_or(Refusal::at(3, 0))?;
         let (length, price) = match kind {
             SYSTEM_TIME => (5, None),
             SYMBOL_UPDATE => (42, None),
@@ -311,28 +323,34 @@ mod linked {
             ORDER_EXECUTION => (38, Some(25)),
             TRADE => (31, Some(18)),
             TRADE_CANCEL => (30, Some(18)),
-            _ => return Err(3),
+            _ => return Err(Refusal::at(3, 0)),
         };
         if body.len() != length {
-            return Err(3);
+            return Err(Refusal::at(3, 0));
         }
-        let priced = price.is_none_or(|at| {
-            price_in_range(number_at(body, at)) && body[at + 8..at + 12] != [0; 4]
-        });
-        let judged = match kind {
-            SYMBOL_UPDATE => {
-                matches!(body[21], b'Y' | b'N') && b"ABCHIJKLMNPQUVWXYZ".contains(&body[41])
-            }
-            ADD_ORDER => matches!(body[17], b'B' | b'S'),
-            _ => true,
-        };
+        match plain_fault(kind, body, price) {
+            None => Ok(()),
+            Some(offset) => Err(Refusal::at(4, offset)),
+        }
+    }
+
+    /// The earliest bad field.
+    fn plain_fault(kind: u8, body: &[u8], price: Option<usize>) -> Option<usize> {
         let nanoseconds = u32::from_le_bytes([body[1], body[2], body[3], body[4]]);
-        let timed = kind == SYSTEM_TIME || nanoseconds <= LAST_NANOSECOND;
-        if timed && priced && judged {
-            Ok(())
-        } else {
-            Err(4)
+        if kind != SYSTEM_TIME && nanoseconds > LAST_NANOSECOND {
+            return Some(1);
         }
+        match kind {
+            SYMBOL_UPDATE if !matches!(body[21], b'Y' | b'N') => return Some(21),
+            SYMBOL_UPDATE if !b"ABCHIJKLMNPQUVWXYZ".contains(&body[41]) => return Some(41),
+            ADD_ORDER if !matches!(body[17], b'B' | b'S') => return Some(17),
+            _ => {}
+        }
+        let at = price?;
+        if !price_in_range(number_at(body, at)) {
+            return Some(at);
+        }
+        (body[at + 8..at + 12] == [0; 4]).then_some(at + 8)
     }
 
     // -----------------------------------------------------------------------------------------

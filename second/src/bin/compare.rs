@@ -143,7 +143,7 @@ mod linked {
                 tally.refusals[0], tally.applied, tally.bodies
             );
             for (what, count) in tally.seen() {
-                println!("compare: {what:40} {count:9}");
+                println!("compare: {what:50} {count:9}");
             }
             let seldom = self.seldom();
             for (what, count, least) in &seldom {

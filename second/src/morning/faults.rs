@@ -1,11 +1,16 @@
-//! Packets, records and bodies that are refused, each with the number it is made for.
+//! Packets, records and bodies that are refused, each with the number and the offset it is made for.
 
 use super::{messages::*, Dice};
 use crate::packet::*;
 
 /// A packet that is refused with this number (1 to 5): good records of the list in front, the
 /// fault, and behind it good records and further faults.
-pub fn bad_packet(seed: u64, list: &[Vec<u8>], refusal: u8) -> Vec<u8> {
+pub fn bad_packet(seed: u64, list: &[Vec<u8>], number: u8) -> Vec<u8> {
+    told_packet(seed, list, number).0
+}
+
+/// The same, and the refusal with its offset: where the fault was put.
+pub fn told_packet(seed: u64, list: &[Vec<u8>], refusal: u8) -> (Vec<u8>, Refusal) {
     let mut dice = Dice::new(seed);
     let good = |dice: &mut Dice| {
         let number = dice.between(1, list.len() as u64);
@@ -14,7 +19,7 @@ pub fn bad_packet(seed: u64, list: &[Vec<u8>], refusal: u8) -> Vec<u8> {
     let mut packet = Vec::new();
     if refusal == 1 {
         if dice.below(3) == 0 {
-            return packet;
+            return (packet, Refusal::alone(1));
         }
         let least = dice.pick(&[1_501, 1_501, 1_600, 2_500]);
         while packet.len() < least {
@@ -23,21 +28,23 @@ pub fn bad_packet(seed: u64, list: &[Vec<u8>], refusal: u8) -> Vec<u8> {
         if dice.below(2) == 0 {
             packet.truncate(1_501);
         }
-        return packet;
+        return (packet, Refusal::alone(1));
     }
     for _ in 0..dice.below(5) {
         packet.extend_from_slice(&good(&mut dice));
     }
+    let start = packet.len();
     if refusal == 2 {
         packet.extend_from_slice(&faulty_end(&mut dice));
-        return packet;
+        return (packet, Refusal::at(2, start));
     }
-    packet.extend_from_slice(&faulty_record(&mut dice, refusal));
+    let (faulty, told) = told_record(&mut dice, refusal);
+    packet.extend_from_slice(&faulty);
     for _ in 0..dice.below(4) {
         match dice.below(3) {
             0 => {
                 let further = dice.between(3, 5) as u8;
-                packet.extend_from_slice(&faulty_record(&mut dice, further));
+                packet.extend_from_slice(&told_record(&mut dice, further).0);
             }
             _ => packet.extend_from_slice(&good(&mut dice)),
         }
@@ -45,7 +52,7 @@ pub fn bad_packet(seed: u64, list: &[Vec<u8>], refusal: u8) -> Vec<u8> {
     if dice.below(4) == 0 {
         packet.extend_from_slice(&faulty_end(&mut dice));
     }
-    packet
+    (packet, told.behind(start))
 }
 
 fn any_number(dice: &mut Dice) -> u64 {
@@ -64,12 +71,17 @@ fn bad_number(dice: &mut Dice) -> u64 {
 }
 
 /// A body that is refused with 3 or 4.
-pub fn bad_body(seed: u64, refusal: u8) -> Vec<u8> {
+pub fn bad_body(seed: u64, number: u8) -> Vec<u8> {
+    told_body(seed, number).0
+}
+
+/// The same, and the refusal with its offset in the body.
+pub fn told_body(seed: u64, number: u8) -> (Vec<u8>, Refusal) {
     let mut dice = Dice::new(seed);
     let mut body = good_body(&mut dice);
-    if refusal == 4 {
-        spoil_fields(&mut dice, &mut body);
-        return body;
+    if number == 4 {
+        let earliest = spoil_fields(&mut dice, &mut body);
+        return (body, Refusal::at(4, earliest));
     }
     if dice.below(2) == 0 {
         spoil_fields(&mut dice, &mut body);
@@ -91,43 +103,79 @@ pub fn bad_body(seed: u64, refusal: u8) -> Vec<u8> {
         },
         _ => body.push(dice.bits() as u8),
     }
-    body
+    (body, Refusal::at(3, 0))
 }
 
-/// Put one to three judged fields out of range, in a message that has such fields: any but System Time.
-fn spoil_fields(dice: &mut Dice, body: &mut Vec<u8>) {
+/// Put one to three judged fields out of range, in a message that has such fields: any but System Time. The
+/// lowest of their offsets is answered.
+fn spoil_fields(dice: &mut Dice, body: &mut Vec<u8>) -> usize {
     while body[0] == SYSTEM_TIME {
         *body = good_body(dice);
     }
+    let mut earliest = body.len();
     for _ in 0..dice.between(1, 3) {
-        match (dice.below(3), body[0]) {
-            (0, _) => set_timestamp(body, bad_nanoseconds(dice)),
-            (_, SYMBOL_UPDATE) => match dice.below(2) {
-                0 => body[21] = dice.pick(b"ynEX\0 "),
-                _ => body[41] = dice.pick(b"DEFGORSTah@[\0 "),
+        let at = some_field(dice, body[0]);
+        spoil_field(dice, body, at);
+        earliest = earliest.min(at);
+    }
+    earliest
+}
+
+/// The offset of a judged field of a type: the Timestamp one time in three, or where it is the only one.
+fn some_field(dice: &mut Dice, kind: u8) -> usize {
+    match (dice.below(3), kind) {
+        (0, _) => 1,
+        (_, SYMBOL_UPDATE) => match dice.below(2) {
+            0 => 21,
+            _ => 41,
+        },
+        (_, kind) => match price_offset(kind) {
+            None => 1,
+            Some(at) => match (dice.below(3), kind) {
+                (0, ADD_ORDER) => 17,
+                (1, _) => at + 8,
+                _ => at,
             },
-            (_, kind) => match price_offset(kind) {
-                Some(at) => spoil_order(dice, body, at),
-                None => set_timestamp(body, bad_nanoseconds(dice)),
-            },
-        }
+        },
     }
 }
 
-/// Put a price, the size behind it, or the side of an Add out of range.
-fn spoil_order(dice: &mut Dice, body: &mut [u8], at: usize) {
-    match (dice.below(3), body[0]) {
-        (0, ADD_ORDER) => body[17] = dice.pick(b"bsXACRT\0 "),
-        (1, _) => body[at + 8..at + 12].fill(0),
-        _ => {
+/// Puts the judged field at this offset of a body out of range.
+pub fn spoil_field(dice: &mut Dice, body: &mut [u8], at: usize) {
+    match (body[0], at) {
+        (_, 1) => set_timestamp(body, bad_nanoseconds(dice)),
+        (SYMBOL_UPDATE, 21) => body[at] = dice.pick(b"ynEX\0 "),
+        (SYMBOL_UPDATE, 41) => body[at] = dice.pick(b"DEFGORSTah@[\0 "),
+        (ADD_ORDER, 17) => body[at] = dice.pick(b"bsXACRT\0 "),
+        (kind, _) if size_offset(kind) == Some(at) => body[at..at + 4].fill(0),
+        (kind, _) if price_offset(kind) == Some(at) => {
             let price = dice.pick(&[0, HIGHEST_PRICE + 1, 1 << 50, 1 << 63, u64::MAX]);
             body[at..at + 8].copy_from_slice(&price.to_le_bytes());
         }
+        (kind, _) => panic!("type {kind} has no judged field at {at}"),
     }
 }
 
-/// A whole record that is refused with 5, 3 or 4, perhaps with lesser faults too.
-fn faulty_record(dice: &mut Dice, refusal: u8) -> Vec<u8> {
+/// Puts the judged field at this offset of a body into its range.
+pub fn mend_field(body: &mut [u8], at: usize) {
+    match (body[0], at) {
+        (_, 1) => set_timestamp(body, 0),
+        (SYMBOL_UPDATE, 21) => body[at] = b'N',
+        (SYMBOL_UPDATE, 41) => body[at] = b'H',
+        (ADD_ORDER, 17) => body[at] = b'B',
+        (kind, _) if size_offset(kind) == Some(at) => {
+            body[at..at + 4].copy_from_slice(&1_u32.to_le_bytes());
+        }
+        (kind, _) if price_offset(kind) == Some(at) => {
+            body[at..at + 8].copy_from_slice(&1_u64.to_le_bytes());
+        }
+        (kind, _) => panic!("type {kind} has no judged field at {at}"),
+    }
+}
+
+/// A whole record that is refused with 5, 3 or 4, perhaps with lesser faults too, and its refusal with the
+/// offset in the record.
+pub fn told_record(dice: &mut Dice, refusal: u8) -> (Vec<u8>, Refusal) {
     if refusal == 5 {
         let number = bad_number(dice);
         let body = match dice.below(3) {
@@ -135,10 +183,11 @@ fn faulty_record(dice: &mut Dice, refusal: u8) -> Vec<u8> {
             1 => bad_body(dice.bits(), 3),
             _ => bad_body(dice.bits(), 4),
         };
-        return record(number, &body);
+        return (record(number, &body), Refusal::at(5, 0));
     }
     let number = dice.between(1, LAST_NUMBER);
-    record(number, &bad_body(dice.bits(), refusal))
+    let (body, told) = told_body(dice.bits(), refusal);
+    (record(number, &body), told.behind(HEADER_BYTES))
 }
 
 /// A good packet as the tap fault of request 6 makes it, with "1,000,000,000 in a Timestamp": the first
@@ -158,7 +207,7 @@ pub fn with_tap_fault(good: &[u8]) -> Vec<u8> {
 }
 
 /// A packet's end that is refused with 2, perhaps with lesser faults too.
-fn faulty_end(dice: &mut Dice) -> Vec<u8> {
+pub fn faulty_end(dice: &mut Dice) -> Vec<u8> {
     let number = any_number(dice);
     let body = match dice.below(3) {
         0 => good_body(dice),

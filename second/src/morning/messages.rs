@@ -303,18 +303,28 @@ pub fn body_telling(dice: &mut Dice, kind: u8, told: Told) -> Vec<u8> {
 
 /// Any good body.
 pub fn good_body(dice: &mut Dice) -> Vec<u8> {
+    let told = anything(dice);
+    let (kind, _) = dice.pick(&TYPES_AND_LENGTHS);
+    body_telling(dice, kind, told)
+}
+
+/// Any good body of this type.
+pub fn good_body_of(dice: &mut Dice, kind: u8) -> Vec<u8> {
+    let told = anything(dice);
+    body_telling(dice, kind, told)
+}
+
+fn anything(dice: &mut Dice) -> Told {
     let symbol = dice.below(10) as u32;
     let order = dice.below(100);
     let nanoseconds = good_nanoseconds(dice);
     let price = dice.between(1, HIGHEST_PRICE);
     let size = dice.between(1, u32::MAX as u64) as u32;
-    let told = Told {
+    Told {
         nanoseconds,
         symbol,
         order,
         price,
         size,
-    };
-    let (kind, _) = dice.pick(&TYPES_AND_LENGTHS);
-    body_telling(dice, kind, told)
+    }
 }

@@ -3,6 +3,7 @@
 
 mod callers;
 mod mornings;
+mod offsets;
 mod packets;
 mod pieces;
 mod timestamps;
@@ -27,7 +28,7 @@ const fn scenario(
     Scenario { name, weight, run }
 }
 
-pub const SCENARIOS: [Scenario; 18] = [
+pub const SCENARIOS: [Scenario; 19] = [
     scenario("morning", 60, mornings::morning),
     scenario("rules", 60, mornings::rules),
     scenario("small-tables", 50, mornings::small_tables),
@@ -44,6 +45,7 @@ pub const SCENARIOS: [Scenario; 18] = [
     scenario("refused", 50, packets::refused),
     scenario("garbage", 30, packets::garbage),
     scenario("timestamps", 20, timestamps::timestamps),
+    scenario("offsets", 20, offsets::offsets),
     scenario("pieces", 40, pieces::pieces),
     scenario("long-pieces", 1, pieces::long_pieces),
 ];

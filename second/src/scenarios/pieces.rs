@@ -62,7 +62,7 @@ pub(super) fn long_pieces(dice: &mut Dice, twins: &mut Twins) -> Outcome {
 }
 
 /// Pieces cut anywhere, of no bytes to thousands.
-fn cut<'a>(dice: &mut Dice, bytes: &'a [u8]) -> Vec<&'a [u8]> {
+pub(super) fn cut<'a>(dice: &mut Dice, bytes: &'a [u8]) -> Vec<&'a [u8]> {
     let mut pieces = Vec::new();
     let mut rest = bytes;
     while !rest.is_empty() {
@@ -99,11 +99,13 @@ fn refused_piece(dice: &mut Dice, twins: &mut Twins, chunk: &[u8]) -> Outcome {
     Ok(())
 }
 
-/// Any count of bytes held and to pass over, counts near the largest number, other bytes held.
+/// Any count of bytes held and to pass over, counts near the largest number, any number and offset of a last
+/// refused packet, other bytes held; and bits that do not count.
 fn alter_stream(dice: &mut Dice, twins: &mut Twins) {
-    let (choice, few) = (dice.below(4), dice.below(4));
+    let (choice, few) = (dice.below(5), dice.below(4));
     let (byte, to_pass) = (dice.bits() as u8, dice.below(3_000));
     let held = dice.below(twins.hold.len() as u64 + 1);
+    let offset = dice.bits() >> dice.below(64);
     twins.alter_stream(|stream, hold| match choice {
         0 => stream.held = held,
         1 => stream.to_pass = to_pass,
@@ -111,6 +113,10 @@ fn alter_stream(dice: &mut Dice, twins: &mut Twins) {
             stream.bad = u64::MAX - few;
             stream.totals = [u64::MAX - few; 5];
         }
+        3 => (stream.last_number, stream.last_offset) = (byte, offset),
         _ => hold[few as usize] = byte,
     });
+    if dice.chance(500) {
+        twins.set_idle_bits_of_stream(dice.bits());
+    }
 }

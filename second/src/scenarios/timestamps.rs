@@ -71,7 +71,10 @@ fn next_message(dice: &mut Dice, twins: &mut Twins, kind: u8, nanoseconds: u32) 
     if good(kind, nanoseconds) {
         return comes_to(twins, &packet(&records), Ok((all, 0)));
     }
-    comes_to(twins, &packet(&records), Err(4))?;
+    // Each System Time before it takes 15 bytes; its own Timestamp lies behind 10 of header and its type.
+    let before = records.iter().take_while(|(number, _)| *number != NEXT);
+    let told = Refusal::at(4, 15 * before.count() + 11);
+    comes_to(twins, &packet(&records), Err(told))?;
     comes_to(twins, &record(all, &system_time(9)), Ok((NEXT, 0)))?;
     for (number, body) in &mut records {
         if *number == NEXT {
@@ -108,7 +111,7 @@ fn example(twins: &mut Twins) -> Outcome {
 }
 
 /// A packet that must come to this next number and stop, or to this refusal.
-fn comes_to(twins: &mut Twins, packet: &[u8], wanted: Result<(u64, u8), u8>) -> Outcome {
+fn comes_to(twins: &mut Twins, packet: &[u8], wanted: Result<(u64, u8), Refusal>) -> Outcome {
     let answer = twins.receive(packet)?;
     if answer.map(|answer| (answer.next, answer.stop)) == wanted {
         return Ok(());

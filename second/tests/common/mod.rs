@@ -9,7 +9,7 @@ pub use second::desk::Desk;
 use second::examples::example_list;
 use second::morning::{add_order, delete_order, modify_order, numbered, order_execution, packet};
 use second::morning::{symbol_clear, symbol_update, system_time};
-use second::packet::read_body;
+use second::packet::{read_body, Refusal};
 use second::receiver::{slot_mut, Answer};
 use second::tables::{row, ENTRY_BYTES, ROW_NUMBERS};
 use std::path::PathBuf;
@@ -26,8 +26,13 @@ pub trait Tried: Sized {
     fn next(&mut self, body: Vec<u8>) -> Answer;
     fn row(&self, place: usize) -> &[u64];
     fn slot(&mut self, number: u64) -> &mut [u8];
-    /// A packet that must be refused with this number, and change nothing.
+    /// A packet that must be refused with this number, whatever its offset, and change nothing.
     fn refuses(&mut self, number: u8, packet: &[u8]);
+}
+
+/// A refusal's number without its offset, which tests/offsets.rs has.
+pub fn by_number<T>(answer: Result<T, Refusal>) -> Result<T, u8> {
+    answer.map_err(|refusal| refusal.number)
 }
 
 impl Tried for Desk {
@@ -63,9 +68,24 @@ impl Tried for Desk {
 
     fn refuses(&mut self, number: u8, packet: &[u8]) {
         let before = self.clone();
-        assert_eq!(self.give(packet), Err(number));
+        assert_eq!(by_number(self.give(packet)), Err(number));
         assert_eq!(*self, before);
     }
+}
+
+/// Each of these tests, of the second program and of the proved library. (Written for a test file that has
+/// this module by `#[macro_use]`, and both receivers by their names.)
+#[allow(unused_macros)]
+macro_rules! of_both {
+    ($($test:ident)*) => {
+        mod of_the_second_program {
+            $(#[test] fn $test() { super::$test::<super::Desk>(); })*
+        }
+        #[cfg(linked)]
+        mod of_the_proved_library {
+            $(#[test] fn $test() { super::$test::<super::Proved>(); })*
+        }
+    };
 }
 
 /// A file of examples/.

@@ -4,7 +4,7 @@
 
 use super::{all_seeds, seeds, well_formed, Desk, Reference};
 use second::morning::*;
-use second::packet::read_packet;
+use second::packet::{read_packet, Refusal};
 #[cfg(linked)]
 use second::proved::Proved;
 use second::receiver::{Answer, State};
@@ -17,7 +17,7 @@ pub trait Receiver: Clone + Debug + PartialEq {
     /// Started, with these capacities.
     fn started(rows: usize, entries: usize) -> Self;
     /// A packet's answer, or its refusal.
-    fn hear(&mut self, packet: &[u8]) -> Result<Answer, u8>;
+    fn hear(&mut self, packet: &[u8]) -> Result<Answer, Refusal>;
     fn state(&self) -> State;
     fn three(&self) -> Three;
 }
@@ -27,7 +27,7 @@ impl Receiver for Desk {
         Desk::new(rows, entries)
     }
 
-    fn hear(&mut self, packet: &[u8]) -> Result<Answer, u8> {
+    fn hear(&mut self, packet: &[u8]) -> Result<Answer, Refusal> {
         self.give(packet)
     }
 
@@ -46,8 +46,8 @@ impl Receiver for Proved {
         Proved::new(rows, entries).expect("capacities in the limits")
     }
 
-    fn hear(&mut self, packet: &[u8]) -> Result<Answer, u8> {
-        self.receive(packet).map_err(|refusal| refusal.number())
+    fn hear(&mut self, packet: &[u8]) -> Result<Answer, Refusal> {
+        self.receive(packet)
     }
 
     fn state(&self) -> State {
@@ -90,9 +90,9 @@ impl<'a, R: Receiver> Watched<'a, R> {
     fn give(&mut self, packet: &[u8]) {
         let before = self.receiver.clone();
         match self.receiver.hear(packet) {
-            Err(number) => {
+            Err(refusal) => {
                 let seed = self.seed;
-                assert_eq!(read_packet(packet), Err(number), "seed {seed}");
+                assert_eq!(read_packet(packet), Err(refusal), "seed {seed}");
                 assert_eq!(self.receiver, before, "seed {seed}");
             }
             Ok(answer) => {
