@@ -180,9 +180,10 @@ uint32_t rimeheath_receive(uint64_t *orders, size_t orders_len, uint8_t *symbols
 uint8_t rimeheath_open(const uint64_t state[3], uint64_t stream[13]);
 
 /* Gives the next chunk of a recording, of any length, cut anywhere. Every packet that ends in it is given to the receiver; one that is
- * refused is counted as bad and passed over, and the stream keeps its number and offset until the next. stream, tables and shelf become what they are after it; in hold stand the bytes of the
- * unfinished packet and zeros behind them: lend the same hold to the next call. However a recording is cut, it comes to the same in the
- * end. Refused by 6 alone: also where stream says that more bytes are held than hold has. */
+ * refused is counted as bad and passed over, and the stream keeps its number and offset until the next. stream, tables and shelf become
+ * what they are after it; in hold stand the bytes of the unfinished packet and zeros behind them: lend the same hold to the next call.
+ * However a recording is cut, it comes to the same in the end. Refused by 6 alone: also where stream says that more bytes are held than
+ * hold has. */
 uint8_t rimeheath_feed(uint64_t *orders, size_t orders_len, uint8_t *symbols, size_t symbols_len, uint8_t *shelf, size_t shelf_len,
                        uint8_t *hold, size_t hold_len, uint64_t stream[13], const uint8_t *chunk, size_t chunk_len);
 

@@ -209,7 +209,12 @@ fn turn(
         return Outcome::End(s);
     }
     let n = io::count(got, block);
-    match recording::feed(orders, symbols, shelf, hold, s, &block[..n]) {
+    told(recording::feed(orders, symbols, shelf, hold, s, &block[..n]))
+}
+
+// What a block came to.
+fn told(f: Fed) -> Outcome {
+    match f {
         Fed::Took(t) => Outcome::More(t),
         Fed::Refused(_) => Outcome::Refused,
     }
