@@ -159,8 +159,8 @@ static bool recording(FILE *file) {
             return false;
     if (ferror(file)) return false;
     if (stream[RIMEHEATH_STREAM_BAD] > 0)
-        printf("the last bad packet is refused with %" PRIu64 ", offset %" PRIu64 "\n", stream[RIMEHEATH_STREAM_LAST_NUMBER],
-               stream[RIMEHEATH_STREAM_LAST_OFFSET]);
+        refused_at("the last bad packet",
+                   (uint32_t)(stream[RIMEHEATH_STREAM_LAST_NUMBER] + 256 * stream[RIMEHEATH_STREAM_LAST_OFFSET]));
     printf("records taken %" PRIu64 ", repeated %" PRIu64 "\n", stream[RIMEHEATH_STREAM_TAKEN], stream[RIMEHEATH_STREAM_REPEATED]);
 
     /* The stream begins with the receiver's state, so it can stand for one. */

@@ -21,7 +21,8 @@
  *
  * WHICH BYTE. The four calls that read a packet, a record or a body (rimeheath_receive, rimeheath_packet, rimeheath_record, rimeheath_body)
  * answer 32 bits: the number in the low 8, and above it the offset of the first byte at fault in what they were given, packet, record or
- * body. RIMEHEATH_NUMBER and RIMEHEATH_OFFSET take them apart. Refusals 2 to 5 have an offset; it is 0 for RIMEHEATH_DONE, 1 and 6.
+ * body. RIMEHEATH_NUMBER and RIMEHEATH_OFFSET take them apart: compare RIMEHEATH_NUMBER(answer) with the refusals below, and not the
+ * answer itself. Refusals 2 to 5 have an offset; it is 0 for RIMEHEATH_DONE, 1 and 6.
  *
  * POINTERS. What the types of C cannot say, the caller must see to:
  *   - a pointer points to as many elements as its length says, and an array has the size that is written here;

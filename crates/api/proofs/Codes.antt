@@ -1,6 +1,6 @@
 -- Number and offset of an answer, taken apart as the header's macros do: a refusal's number is below 256, so the low 8 bits are the number and those above them the offset.
 -- Assumes nothing.
-use Prim.Native.Nat.{ℕ, _*_, _+_, _/_, _%_, _≤_, _<_}
+use Prim.Native.Nat.{ℕ, _/_, _%_, _<_}
 use mathlib.Core.Path.{_≡_, ap, _∙_}
 use mathlib.Core.List.{List}
 use native.Mathlib.Omega.{arith}

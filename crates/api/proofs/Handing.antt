@@ -8,7 +8,7 @@ use lib.IntN.{ℤ}
 use mir.Syntax.{w64}
 use mir.Val.{SFits, toZ, ofZ}
 use mir.ValLaws.{toZ-ofZ}
-use Rattle.kinds.specs.Table.{typeOf, kindOf}
+use Rattle.kinds.specs.Table.{typeOf}
 use Rattle.kinds.specs.declared.Kind.{Kind}
 use Rattle.fields.specs.Fields.{decoded, bodyNumber}
 use Rattle.fields.specs.declared.Fault.{Fault}
@@ -30,7 +30,7 @@ use Rattle.receiver.specs.Lent.{stateNumbers, Begun, begun, lent, Handled, hand
 use Rattle.answer_sheet.specs.declared.SheetAnswer.{SheetAnswer}
 use Rattle.answer_sheet.specs.Sheet.{Sheet, sheetAnd}
 use Rattle.api.specs.Calls.{withOffset, accountNumbers, startAnswer, receiveCall, receiveAnswer, ladderAnswer, call, bitsOf, spreadAnswer, countsAnswer, packetAnswer, recordAnswer, sheetAnswer}
-use Rattle.api.specs.Messages.{typed, kindIn, fieldsOf, bodyAnswer}
+use Rattle.api.specs.Messages.{typed, kindIn, bodyAnswer}
 use Rattle.api.proofs.Types.{type-told}
 
 -- x is the answer and k its case; g puts it beside what was lent, and f hands that on
@@ -99,11 +99,11 @@ module _ (b l : List ℕ) (r : Judged) (e : r ≡ judgeBody b) where
   body-refused f q n g = ap (λ (y : ℕ). call y l) g ∙ ap (λ (y : Judged). bodyAnswer y (readBody b) b l) (sym q ∙ e)
 
   -- told by the type t that the body starts with, m being what was decoded
-  pub body-told : r ≡ Judged.Good → (t : ℕ) → t ≡ getD b 0 0 → (k : Kind) → k ≡ kindOf t → (m : Body) → m ≡ decoded k b → (w : List ℕ) → w ≡ typed t m b → call 0 w ≡ bodyAnswer (judgeBody b) (readBody b) b l
+  pub body-told : (k : Kind) → r ≡ Judged.Good k → (t : ℕ) → t ≡ getD b 0 0 → (m : Body) → m ≡ decoded k b → (w : List ℕ) → w ≡ typed t m b → call 0 w ≡ bodyAnswer (judgeBody b) (readBody b) b l
   unfolding bodyAnswer readBody message
-  body-told q t h k i m d w g =
-      let good : judgeBody b ≡ Judged.Good = sym e ∙ q in
-      let same : readBody b ≡ m = ap (λ (y : Judged). message y b) good ∙ (ap (λ (y : Kind). decoded y b) (sym (i ∙ ap kindOf h)) ∙ sym d) in
+  body-told k q t h m d w g =
+      let good : judgeBody b ≡ Judged.Good k = sym e ∙ q in
+      let same : readBody b ≡ m = ap (λ (y : Judged). message y b) good ∙ sym d in
       let none : bodyNumber (readBody b) ≡ 0 = sym (judge-number b) ∙ ap judgedNumber good in
       let type-is : t ≡ typeOf (kindIn (readBody b)) = h ∙ sym (type-told (readBody b) b (read-sound b) none) in
       ap (call 0) (g ∙ (λ j. typed (type-is j) (sym same j) b)) ∙ ap (λ (y : Judged). bodyAnswer y (readBody b) b l) (sym good)

@@ -99,5 +99,5 @@ fieldsOf m b = typed (typeOf (kindIn m)) m b
 
 -- how a body was judged, and what was read of it: a refusal leaves what is lent as it is
 unfoldable pub bodyAnswer : Judged → Body → List ℕ → List ℕ → Call
-bodyAnswer Judged.Good m b l = call 0 (fieldsOf m b)
+bodyAnswer (Judged.Good k) m b l = call 0 (fieldsOf m b)
 bodyAnswer (Judged.Bad f) m b l = call (withOffset f) l

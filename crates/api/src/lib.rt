@@ -475,10 +475,9 @@ pub extern "C" fn rimeheath_body(b: &[u8], numbers: &mut [u64; 8]) -> u32
 {
     match body::judge_body(b) {
         Judged::Bad(f) => with_offset(f),
-        Judged::Good => {
-            let t = wire::u8_at(b, 0);
-            let m = fields::decode(kinds::kind_of(t), b);
-            *numbers = fields_of(t as u64, m, b);
+        Judged::Good(k) => {
+            let m = fields::decode(k, b);
+            *numbers = fields_of(wire::u8_at(b, 0) as u64, m, b);
             0
         }
     }

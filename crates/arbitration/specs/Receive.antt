@@ -162,7 +162,7 @@ module _ (S : Store) (E : Engine) where
         stopped = stop end;
       }
 
-  -- a packet: "Each refusal returns its number alone; tables, output and state keep every byte"
+  -- a packet: "tables, output and state keep every byte"
   unfoldable pub worked : {Q : Type 0} → Frames Q → State → State
   worked (bad q) r = r
   worked (records cs) r = run cs r

@@ -25,7 +25,7 @@ use Rattle.body.specs.Ranges.{nanosOk, oneOf, sideOk, priceOk, sizeOk, t
 use Rattle.body.specs.Faults.{Tests, tests, faultFrom, faultOf}
 use Rattle.fields.specs.declared.Fault.{Fault}
 use Rattle.body.specs.Read.{framed, ranged, judgeBody, judgedNumber, message, readBody, goodBody}
-use Rattle.body.specs.Places.{FirstBad, BadField, BadBody}
+use Rattle.body.specs.Places.{FirstBad, BadBody}
 use Rattle.body.specs.declared.Judged.{Judged}
 
 -- every test of a run holds
@@ -152,18 +152,17 @@ pub read-framed : (k : Kind) (b : List ℕ) → Framed k b → readBody b ≡ ju
 unfolding readBody message ranged
 read-framed k b w =
     ap (λ (x : Judged). message x b) (judge-framed k b w)
-    ∙ (pick-map (λ (x : Judged). message x b) (eqb (faultOf k b) 0) Judged.Good (Judged.Bad (badAt 4 (faultOf k b)))
-    ∙ ap (λ (x : Kind). pick (eqb (faultOf k b) 0) (decoded x b) (Body.Bad (badAt 4 (faultOf k b)))) (ap kindOf (w .type-is) ∙ type-kind k))
+    ∙ pick-map (λ (x : Judged). message x b) (eqb (faultOf k b) 0) (Judged.Good k) (Judged.Bad (badAt 4 (faultOf k b)))
 
 -- so two bodies of a kind with the same fault are judged alike, by number and offset
 pub judge-by-fault : (k : Kind) (b c : List ℕ) → Framed k b → Framed k c → faultOf k c ≡ faultOf k b → judgeBody c ≡ judgeBody b
 unfolding ranged
-judge-by-fault k b c w v e = judge-framed k c v ∙ (ap (λ (n : ℕ). pick (eqb n 0) Judged.Good (Judged.Bad (badAt 4 n))) e ∙ sym (judge-framed k b w))
+judge-by-fault k b c w v e = judge-framed k c v ∙ (ap (λ (n : ℕ). pick (eqb n 0) (Judged.Good k) (Judged.Bad (badAt 4 n))) e ∙ sym (judge-framed k b w))
 
 -- ---- what was judged
--- a good body's fields are all in range; a bad one is bad where it is said to be
+-- a good body is of the kind that its type byte decides, and its fields are all in range; a bad one is bad where it is said to be
 abbrev pub JudgedAs : Judged → List ℕ → Type 0
-JudgedAs Judged.Good b = (framed b ≡ true) × AllHold (shapes (kindOf (getD b 0 0))) (tests (kindOf (getD b 0 0))) (fieldsIn (kindOf (getD b 0 0)) b)
+JudgedAs (Judged.Good k) b = (k ≡ kindOf (getD b 0 0)) × Framed k b × AllHold (shapes k) (tests k) (fieldsIn k b)
 JudgedAs (Judged.Bad f) b = BadBody b f
 
 pub judge-sound : (b : List ℕ) → JudgedAs (judgeBody b) b
@@ -172,8 +171,8 @@ judge-sound b =
     let k : Kind = kindOf (getD b 0 0) in
     pick-ind (λ r. JudgedAs r b) (framed b) (ranged k b) (Judged.Bad (badAt 3 0))
     (λ e.
-    pick-ind (λ r. JudgedAs r b) (eqb (faultOf k b) 0) Judged.Good (Judged.Bad (badAt 4 (faultOf k b)))
-    (λ z. (e, held k b (eqb-true (faultOf k b) 0 z)))
+    pick-ind (λ r. JudgedAs r b) (eqb (faultOf k b) 0) (Judged.Good k) (Judged.Bad (badAt 4 (faultOf k b)))
+    (λ z. (refl, framed-is b e, held k b (eqb-true (faultOf k b) 0 z)))
     (λ z. inr (refl, record { whole = e; first = fault-first (shapes k) (tests k) (fieldsIn k b) 1 (eqb-false (faultOf k b) 0 z) })))
     (λ e. inl (refl, refl, e))
 
@@ -183,7 +182,7 @@ unfolding readBody message
 read-sound b = go (judgeBody b) (judge-sound b)
   where
     go : (r : Judged) → JudgedAs r b → Sound (message r b) b
-    go Judged.Good h = decoded-sound (kindOf (getD b 0 0)) b (framed-is b (h .0)) (h .1)
+    go (Judged.Good k) h = decoded-sound k b (h .1) (h .2)
     go (Judged.Bad f) h = h
 
 -- what is decoded of a framed body is no refusal
@@ -208,7 +207,7 @@ unfolding readBody message
 judge-number b = go (judgeBody b) (judge-sound b)
   where
     go : (r : Judged) → JudgedAs r b → judgedNumber r ≡ bodyNumber (message r b)
-    go Judged.Good h = sym (decoded-none (kindOf (getD b 0 0)) b (framed-is b (h .0)))
+    go (Judged.Good k) h = sym (decoded-none k b (h .1))
     go (Judged.Bad f) h = refl
 
 -- a length that is above 0 and 0 is none
@@ -228,9 +227,14 @@ pub record BodyFits (b : List ℕ) : Type 0 where
   pub most : length b ≤ entrySize
   pub of-type : length b ≡ lengthOf (getD b 0 0)
 
+-- a body of a kind is framed
+is-framed : (k : Kind) (b : List ℕ) → Framed k b → framed b ≡ true
+unfolding framed both kindLength
+is-framed k b w = rw (lt-ltb 0 (length b) (w .some), w .type-is, eq-eqb (length b) (lengthOf (typeOf k)) (w .length-is))
+
 -- a body that is not refused is framed
 good-judged : (r : Judged) (b : List ℕ) → JudgedAs r b → judgedNumber r ≡ 0 → framed b ≡ true
-good-judged Judged.Good b h z = h .0
+good-judged (Judged.Good k) b h z = is-framed k b (h .1)
 good-judged (Judged.Bad f) b (inl h) z = absurd (omega (arith, h .0))
 good-judged (Judged.Bad f) b (inr h) z = absurd (omega (arith, h .0))
 
@@ -251,7 +255,7 @@ good-fits b h =
 
 -- what is judged is good, or bad by 3 or 4
 pub data Judgement (b : List ℕ) : Type 0 where
-  good : judgeBody b ≡ Judged.Good → goodBody b ≡ true → bodyNumber (readBody b) ≡ 0 → Judgement b
+  good : (k : Kind) → judgeBody b ≡ Judged.Good k → goodBody b ≡ true → bodyNumber (readBody b) ≡ 0 → Judgement b
   bad : (f : Fault) → judgeBody b ≡ Judged.Bad f → goodBody b ≡ false → BadBody b f → Judgement b
 
 pub judgement : (b : List ℕ) → Judgement b
@@ -259,7 +263,7 @@ unfolding goodBody
 judgement b = go (judgeBody b) refl (judge-sound b)
   where
     go : (r : Judged) → judgeBody b ≡ r → JudgedAs r b → Judgement b
-    go Judged.Good e h = good e (rw e refl) (sym (judge-number b) ∙ ap judgedNumber e)
+    go (Judged.Good k) e h = good k e (rw e refl) (sym (judge-number b) ∙ ap judgedNumber e)
     go (Judged.Bad f) e (inl h) = bad f e (rw (e, h .0) refl) (inl h)
     go (Judged.Bad f) e (inr h) = bad f e (rw (e, h .0) refl) (inr h)
 
@@ -276,6 +280,6 @@ pub good-or-refused : (b : List ℕ) → ((goodBody b ≡ true) × (bodyNumber (
 good-or-refused b = go (judgement b)
   where
     go : Judgement b → ((goodBody b ≡ true) × (bodyNumber (readBody b) ≡ 0)) ⊎ ((goodBody b ≡ false) × ((bodyNumber (readBody b) ≡ 3) ⊎ (bodyNumber (readBody b) ≡ 4)))
-    go (good e g z) = inl (g, z)
+    go (good k e g z) = inl (g, z)
     go (bad f e g (inl h)) = inr (g, inl (sym (judge-number b) ∙ (ap judgedNumber e ∙ h .0)))
     go (bad f e g (inr h)) = inr (g, inr (sym (judge-number b) ∙ (ap judgedNumber e ∙ h .0)))

@@ -16,7 +16,7 @@ use Rattle.layout.specs.Layout.{shapes}
 use Rattle.layout.proofs.Laws.{cut-behind}
 use Rattle.kinds.specs.Table.{kindOf}
 use Rattle.kinds.specs.declared.Kind.{Kind}
-use Rattle.fields.specs.Fields.{badAt, decoded}
+use Rattle.fields.specs.Fields.{badAt}
 use Rattle.fields.specs.declared.Body.{Body}
 use Rattle.body.specs.Ranges.{nanosOk}
 use Rattle.body.specs.Faults.{Tests, tests, faultFrom, faultOf}

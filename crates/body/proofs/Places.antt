@@ -60,7 +60,7 @@ field-within b n f =
     let r = within (shapes k) (tests k) (fieldsIn k b) 1 n (all-wide k) (f .first) in
     (r .0, omega (arith, r .1, t, w .length-is))
 
--- 3 and 4 lie at the body's start or within it
+-- 3 and 4 lie at the body's start or within it, so at its end at most
 pub body-within : (b : List ℕ) (f : Fault) → BadBody b f → f .at ≤ length b
 body-within b f (inl h) = omega (arith, h .1)
 body-within b f (inr h) = omega (arith, field-within b (f .at) (h .1) .1)

@@ -18,7 +18,7 @@ framed b = both (ltb 0 (length b)) (eqb (length b) (lengthOf (getD b 0 0)))
 
 -- else 4, "a field out of range": at "the first byte of the earliest bad field by offset"
 unfoldable pub ranged : Kind → List ℕ → Judged
-ranged k b = pick (eqb (faultOf k b) 0) Judged.Good (Judged.Bad (badAt 4 (faultOf k b)))
+ranged k b = pick (eqb (faultOf k b) 0) (Judged.Good k) (Judged.Bad (badAt 4 (faultOf k b)))
 
 -- 3, at "the body's start or, for an empty body, the place where it would start"; then 4
 unfoldable pub judgeBody : List ℕ → Judged
@@ -26,12 +26,12 @@ judgeBody b = pick (framed b) (ranged (kindOf (getD b 0 0)) b) (Judged.Bad (badA
 
 -- document 01's number of each, 0 for a good body
 abbrev pub judgedNumber : Judged → ℕ
-judgedNumber Judged.Good = 0
+judgedNumber (Judged.Good k) = 0
 judgedNumber (Judged.Bad f) = f .number
 
--- what is judged good is decoded, and nothing else is
+-- what is judged good is decoded as its kind, and nothing else is
 unfoldable pub message : Judged → List ℕ → Body
-message Judged.Good b = decoded (kindOf (getD b 0 0)) b
+message (Judged.Good k) b = decoded k b
 message (Judged.Bad f) b = Body.Bad f
 
 -- the message, or 3, then 4

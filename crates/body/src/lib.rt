@@ -11,9 +11,9 @@ ghost use Rattle.body.specs.Ranges.{nanosOk, sideOk, priceOk, sizeOk, te
 ghost use Rattle.body.specs.Faults.{faultOf};
 ghost use Rattle.body.specs.Read.{judgeBody, readBody};
 
-// A good body, or why and where it is bad.
+// A good body of a kind, or why and where it is bad.
 pub enum Judged {
-    Good,
+    Good(Kind),
     Bad(Fault),
 }
 
@@ -141,9 +141,10 @@ pub fn judge_body(b: &[u8]) -> Judged
     if b.len() != kinds::length_of(t) {
         return Judged::Bad(Fault { number: 3, at: 0 });
     }
-    let at = fault(kinds::kind_of(t), b);
+    let k = kinds::kind_of(t);
+    let at = fault(k, b);
     if at == 0 {
-        Judged::Good
+        Judged::Good(k)
     } else {
         Judged::Bad(Fault { number: 4, at })
     }
@@ -155,6 +156,6 @@ pub fn read_body(b: &[u8]) -> Body
 {
     match judge_body(b) {
         Judged::Bad(f) => Body::Bad(f),
-        Judged::Good => fields::decode(kinds::kind_of(wire::u8_at(b, 0)), b),
+        Judged::Good(k) => fields::decode(k, b),
     }
 }

@@ -50,7 +50,7 @@ unfolding messages.numbered messages.systemTime pick both either le toLe field
     packet.before packet.behind packet.framesFrom packet.framing packet.told packet.readPacket
 end-told = refl
 
--- "for 5 the number's start", whatever its body is
+-- "for 5 the number's start", before its empty body
 pub number-told : packet.readPacket (second 0 []) ≡ Packet.Bad (badAt 5 15)
 unfolding messages.numbered messages.systemTime pick both either le toLe field
     kinds.table kinds.lookup kinds.lengthOf kinds.kindOf

@@ -101,7 +101,8 @@ pub struct Refusal {
     pub number: u8,
 }
 
-// Why bytes that were read are refused, by 2 to 5: the number, and the offset of the first byte at fault in what was read.
+// Why bytes that were read are refused: the number, 2 to 5, and the offset of the first byte at fault in what was read. A stream keeps
+// its last refusal so too, with offset 0 where the number stands alone.
 pub struct Fault {
     pub number: u8,
     pub at: usize,

@@ -1,4 +1,4 @@
--- What those above know of a packet: its records one after the other, each good and within the packet, or why it is refused: 1 alone, or one of 2 to 5 at a place within it.
+-- What those above know of a packet: its records one after the other, each good and within the packet, or why it is refused: 1 alone, or one of 2 to 5 at a place within it or at its end.
 -- Assumes nothing.
 use mathlib.Core.Path.{_≡_, refl, ap, sym, subst, _∙_}
 use mathlib.Core.List.{List, [], _∷_}
@@ -18,7 +18,7 @@ use Rattle.fields.specs.Fields.{refusal}
 use Rattle.fields.specs.declared.Refusal.{Refusal}
 use Rattle.fields.specs.declared.Fault.{Fault}
 use Rattle.packet.specs.Record.{headOf, recOf, readRecord, recordNumber}
-use Rattle.packet.specs.Packet.{Why, alone, placed, later, Framing, before, behind, framesFrom, framing, told, readPacket, packetNumber}
+use Rattle.packet.specs.Packet.{alone, placed, Framing, before, behind, framesFrom, framing, told, readPacket, packetNumber}
 use Rattle.packet.specs.declared.Head.{Head}
 use Rattle.packet.specs.declared.Record.{Record}
 use Rattle.packet.specs.declared.Packet.{Packet}

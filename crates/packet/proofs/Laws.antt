@@ -3,7 +3,7 @@
 use mathlib.Core.Path.{_≡_, refl, ap, sym, _∙_, subst}
 use mathlib.Core.List.{List, []}
 use mathlib.Core.Bool.{true, false}
-use mathlib.Core.Logic.{_⊎_, inl, inr}
+use mathlib.Core.Logic.{inl, inr}
 use Prim.Native.Nat.{ℕ, zero, suc, _+_, _-_, _≤_, _<_}
 use native.Mathlib.Nat.{add-sub-cancel-left, add-zero, zero-add, add-assoc}
 use native.Mathlib.Omega.{arith}
@@ -103,7 +103,7 @@ module _ (t : List ℕ) (h : Head) (e : h ≡ headOf t) (a : 10 ≤ length t) wh
         let j : r ≡ judgeBody (bodyOf t) = q ∙ ap judgeBody (body-cut t (h .len) len-is) in
         simp (le-ltb (length t) 10 a, ← len-is, le-ltb _ _ b, ← number-is, o, ← j)
 
-    -- a place in it lies within what is left
+    -- a place in it lies within what is left, or at its end
     pub judged-inside : (f : Fault) → Judged.Bad f ≡ judgeBody (take (10 + h .len - 10) (drop 10 t)) → 10 + f .at ≤ length t
     judged-inside f q = omega (arith, judged-within (take (10 + h .len - 10) (drop 10 t)) f q, length-take-le (10 + h .len - 10) (drop 10 t) (rw length-drop (omega arith)))
 
@@ -124,7 +124,7 @@ unfolding numberOk bodyJudged
 judged-held t w o = go (judgement (bodyOf t))
   where
     go : Judgement (bodyOf t) → Held (bodyJudged (judgeBody (bodyOf t)) (headOf t)) t
-    go (good e g z) =
+    go (good k e g z) =
         let r = both-true {a = leb 1 (field t 0 8)} {b = leb (field t 0 8) lastNumber} o in
         rw e (
           refl,
@@ -217,7 +217,7 @@ module _ (p : List ℕ) (at i : ℕ) (r : Record) (in-p : at < length p) (read :
       frames-step (length p) (drop at p) (rw length-drop (omega arith)) (rw length-drop (omega arith))
       ∙ ap (behind (framesFrom (length p)) (drop at p)) here
 
-  -- a bad one lies within the packet, and its fault is the packet's, `at` bytes further on
+  -- a bad one is bad within the packet or at its end, and its fault is the packet's, `at` bytes further on
   pub at-bad : (f : Fault) → r ≡ Record.Bad f → (at + f .at ≤ length p) × (more at i (told (framesFrom (length p) (drop at p))) ≡ Packet.Bad (shifted at f))
   unfolding behind told more
   at-bad f e =

@@ -12,7 +12,7 @@ use Rattle.packet.specs.Front.{Reached}
 
 -- why and where the record at the front of t is bad: by the first of 2, 5, 3, 4 that is so
 pub data BadRecord (t : List ℕ) : Fault → Type 0 where
-  -- 2, at "the record's start": the header or the body runs past the end (a length that is not there counts as 0)
+  -- 2, at "the record's start": the header or the body runs past the end (a byte of the length that is not there counts as 0)
   no-room : length t < 10 + headOf t .len → BadRecord t (badAt 2 0)
   -- 5, at "the number's start"
   bad-number : 10 + headOf t .len ≤ length t → numberOk (headOf t .number) ≡ false → BadRecord t (badAt 5 0)

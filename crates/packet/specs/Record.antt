@@ -40,7 +40,7 @@ badRecord n = Record.Bad (badAt n 0)
 
 -- 3 or 4, as the body's judge says, or the record; a body starts behind 10 bytes
 unfoldable pub bodyJudged : Judged → Head → Record
-bodyJudged Judged.Good h = Record.Good h
+bodyJudged (Judged.Good k) h = Record.Good h
 bodyJudged (Judged.Bad f) h = Record.Bad (shifted 10 f)
 
 -- each record is judged by 2, 5, 3, 4

@@ -80,7 +80,7 @@ pub fn read_record(t: &[u8]) -> Record
         return Record::Bad(Fault { number: 5, at: 0 });
     }
     match body::judge_body(&t[10..10 + n]) {
-        Judged::Good => Record::Good(h),
+        Judged::Good(_) => Record::Good(h),
         Judged::Bad(f) => Record::Bad(Fault {
             number: f.number,
             at: 10 + f.at,

@@ -10,7 +10,6 @@ use Rattle.facts.specs.Pick.{pick, both}
 use Rattle.facts.proofs.Picks.{both-true, pick-ind}
 use Rattle.wire.specs.Records.{Rec, bad, records}
 use Rattle.fields.specs.Fields.{refusal}
-use Rattle.fields.specs.declared.Refusal.{Refusal}
 use Rattle.body.proofs.Laws.{good-fits}
 use Rattle.packet.specs.Packet.{Framing, framing}
 use Rattle.packet.proofs.Laws.{GoodRec}

@@ -15,7 +15,7 @@ ghost use Rattle.recording.specs.Stream.{more as atMost, added, heard, s
 ghost use Rattle.recording.specs.Steps.{missing, WholeAt, Passed, Pushed, Stepped, Ran};
 
 // What a stream keeps between chunks, beside its buffer: the receiver, how many bytes of an unfinished packet are in the buffer, how many
-// of an over-long one are still to come, how many packets were refused and why the last of them was, and the counts.
+// of an over-long one are still to come, how many packets were refused and why the last of them was (0 and 0 before the first), and the counts.
 pub struct Stream {
     pub receiver: State,
     pub held: usize,

@@ -17,17 +17,14 @@ enum-known-f c = search needs
 with-offset-requires : tie.Need-with-offset-requires
 with-offset-requires c κs = omega (arith, judged-small (c .before .before .before .before .before .args .b .now) _ (sym (c .before .f .given .1) ∙ c .before .before .before .judge-body .ensures))
 
-enum-told : tie.Need-enum-told
-enum-told c = search needs
-
-u8-at-requires : tie.Need-u8-at-requires
-u8-at-requires c κs = search needs
-
-kind-of-requires : tie.Need-kind-of-requires
-kind-of-requires c κs = search needs
+enum-known-k : tie.Need-enum-known-k
+enum-known-k c = search needs
 
 decode-requires : tie.Need-decode-requires
 decode-requires c κs = search needs
+
+u8-at-requires : tie.Need-u8-at-requires
+u8-at-requires c κs = search needs
 
 cast-fields-of : tie.Need-cast-fields-of
 cast-fields-of c = search needs
@@ -39,7 +36,7 @@ returns : tie.Need-returns
 returns c = body-refused _ _ _ (c .before .before .before .before .judge-body .ensures) _ (c .before .before .f .given .1) _ (c .with-offset .ensures)
 
 returns-2 : tie.Need-returns-2
-returns-2 c = body-told _ _ _ (c .before .before .before .before .before .before .judge-body .ensures) (c .before .before .before .before .enum-told .given .1) _ (c .before .before .before .u8-at .ensures) _ (c .before .before .kind-of .ensures) _ (c .before .decode .ensures) _ (c .fields-of .ensures)
+returns-2 c = body-told _ _ _ (c .before .before .before .before .before .before .judge-body .ensures) _ (c .before .before .before .before .k .given .1) _ (c .before .u8-at .ensures) _ (c .before .before .decode .ensures) _ (c .fields-of .ensures)
 
 pub rimeheath-body-spec : {M : Type 1} → statement M
 rimeheath-body-spec =
@@ -48,10 +45,9 @@ rimeheath-body-spec =
     judge-body-requires
     enum-known-f
     with-offset-requires
-    enum-told
-    u8-at-requires
-    kind-of-requires
+    enum-known-k
     decode-requires
+    u8-at-requires
     cast-fields-of
     fields-of-requires
     returns

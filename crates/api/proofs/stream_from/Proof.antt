@@ -1,4 +1,4 @@
--- The first three numbers are a receiver's state; the others are themselves.
+-- The first three numbers are a receiver's state; of the last refusal's number the low 8 bits count; the others are themselves.
 -- Assumes nothing.
 use borrow.Author.Needs.{needs}
 use Rattle.api.proofs.stream_from.Statement.{statement}
