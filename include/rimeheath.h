@@ -1,4 +1,4 @@
-/* Rimeheath for C: the order book of the MIAX Pearl Equities Depth of Market feed (DoM 1.3.b), kept in memory that the caller lends.
+/* Rimeheath for C: the order book of the MIAX Pearl Equities Depth of Market feed (DoM 1.3.b, and 1.3 of 2020), kept in memory that the caller lends.
  *
  * The calls are proved functions of the crate `api`; what each does is stated there as an equation. tools/archive writes the archive to
  * link, target/staticlib/libapi.a, for x86-64 Linux, and examples/first.c is a first program:
@@ -9,6 +9,12 @@
  * 8 bytes, the body's length in 2, the body. A packet is 1 to 1,500 bytes of records, back to back. A recording is packets, each behind
  * its length in 2 bytes. All numbers are unsigned and little-endian, the lowest byte first. Packets may come late, twice or never, from
  * several lines: messages are applied in the order of their numbers, and those that came too early wait on the shelf.
+ *
+ * EDITIONS. Recordings of version 1.3 have the Security Type, 'E' or 'F', in byte 20 of a Symbol Update; from 1.3.a on that byte is
+ * reserved, and nothing else differs for reading. The edition is chosen at the start, by a number, and kept in the receiver's state: every
+ * call that is lent a state or a stream goes by it, and the readers are told it. The number is RIMEHEATH_EDITION_1_3 for 1.3; any other
+ * number means 1.3.a and 1.3.b, as RIMEHEATH_EDITION_1_3_B does. Whoever changes the number in a state between calls has altered it: what
+ * follows is worked by the edition that is found, and waits on the shelf or stands in the table as the other one let it in.
  *
  * THE WAY THROUGH. rimeheath_start; then rimeheath_receive for each packet, or rimeheath_open and rimeheath_feed for a recording in chunks
  * of any size; then views (rimeheath_ladder, rimeheath_spread, rimeheath_counts) and rimeheath_sheet, whenever they are wanted.
@@ -57,13 +63,20 @@ enum {
     RIMEHEATH_SHEET_MOST = 1500000 /* a buffer of this many bytes holds any sheet whole */
 };
 
+/* ---- editions of the feed's specification; any other number means 1.3.a and 1.3.b too ---- */
+enum {
+    RIMEHEATH_EDITION_1_3_B = 0, /* 1.3.a and 1.3.b: byte 20 of a Symbol Update is reserved and not judged */
+    RIMEHEATH_EDITION_1_3 = 1    /* 1.3, of 2020: byte 20 of a Symbol Update is its Security Type, 'E' or 'F', else 4 */
+};
+
 /* ---- answers of the calls ---- */
 enum {
     RIMEHEATH_DONE = 0,
     RIMEHEATH_REFUSED_PACKET = 1, /* a packet of 0 bytes, or of more than RIMEHEATH_PACKET_MOST */
     RIMEHEATH_REFUSED_RECORD = 2, /* fewer than 10 bytes are left for a record's header, or its body runs past the end */
     RIMEHEATH_REFUSED_BODY = 3,   /* no such type, an empty body, or not that type's length */
-    RIMEHEATH_REFUSED_FIELD = 4,  /* a field out of range: nanoseconds (999,999,999 at most), side, price, size, test indicator, market */
+    RIMEHEATH_REFUSED_FIELD = 4,  /* a field out of range: nanoseconds (999,999,999 at most), side, price, size, security type (in 1.3),
+                                   * test indicator, market */
     RIMEHEATH_REFUSED_NUMBER = 5, /* a sequence number of 0 or above 10^12 */
     RIMEHEATH_REFUSED_SIZE = 6,   /* a table or buffer whose size is not as said above, or a next number outside 1 to 10^12 + 1 */
     RIMEHEATH_REFUSED_SYMBOL = 30 /* a view of a symbol that no entry in use has */
@@ -77,11 +90,12 @@ enum {
 #define RIMEHEATH_NUMBER(answer) ((uint8_t)((answer) & 0xff))
 #define RIMEHEATH_OFFSET(answer) ((uint32_t)(answer) >> 8)
 
-/* ---- the receiver's state, three numbers; a start makes it ---- */
+/* ---- the receiver's state, four numbers; a start makes it ---- */
 enum {
-    RIMEHEATH_STATE_NEXT,   /* the number of the message that is applied next */
-    RIMEHEATH_STATE_SECOND, /* the second that the last System Time told; the low 32 bits count */
-    RIMEHEATH_STATE_STOP,   /* why the message next, which has come, is not applied: one of the stops; the low 8 bits count */
+    RIMEHEATH_STATE_NEXT,    /* the number of the message that is applied next */
+    RIMEHEATH_STATE_SECOND,  /* the second that the last System Time told; the low 32 bits count */
+    RIMEHEATH_STATE_STOP,    /* why the message next, which has come, is not applied: one of the stops; the low 8 bits count */
+    RIMEHEATH_STATE_EDITION, /* the edition that was chosen at the start; any number but RIMEHEATH_EDITION_1_3 means 1.3.a and 1.3.b */
     RIMEHEATH_STATE_SIZE
 };
 
@@ -113,13 +127,14 @@ enum {
     RIMEHEATH_ACCOUNT_SIZE
 };
 
-/* ---- a stream, thirteen numbers: a recording that is read in chunks ----
- * The first three are the receiver's state, so that a stream may be lent wherever a state is read. A count that would
+/* ---- a stream, fourteen numbers: a recording that is read in chunks ----
+ * The first four are the receiver's state, so that a stream may be lent wherever a state is read. A count that would
  * pass 2^64 - 1 stays there. */
 enum {
     RIMEHEATH_STREAM_NEXT,
     RIMEHEATH_STREAM_SECOND,
     RIMEHEATH_STREAM_STOP,
+    RIMEHEATH_STREAM_EDITION,
     RIMEHEATH_STREAM_HELD,  /* bytes of an unfinished length and packet that stand in the buffer */
     RIMEHEATH_STREAM_SKIP,  /* bytes of an over-long packet (above RIMEHEATH_PACKET_MOST) that are still to be passed over */
     RIMEHEATH_STREAM_BAD,   /* packets that were refused, over-long ones included once their last byte has come */
@@ -152,7 +167,8 @@ enum {
     RIMEHEATH_ENTRY_NANOS = 1,    /* 4 bytes: nanoseconds since the second */
     RIMEHEATH_ENTRY_SYMBOL = 5,   /* 4 bytes: symbol ID */
     RIMEHEATH_ENTRY_TICKER = 9,   /* 11 bytes: the name, with spaces behind it */
-    RIMEHEATH_ENTRY_TEST = 21,    /* 1 byte: 'Y' for a test security, 'N' for any other (20 and 22 are reserved) */
+    RIMEHEATH_ENTRY_SECURITY = 20, /* 1 byte: the Security Type in 1.3, 'E' or 'F'; reserved from 1.3.a on */
+    RIMEHEATH_ENTRY_TEST = 21,    /* 1 byte: 'Y' for a test security, 'N' for any other (22 is reserved) */
     RIMEHEATH_ENTRY_LOT = 23,     /* 2 bytes: round lot in shares */
     RIMEHEATH_ENTRY_OPENING = 25, /* 8 bytes, as 09:30:00 */
     RIMEHEATH_ENTRY_CLOSING = 33, /* 8 bytes, as 16:00:00 */
@@ -162,23 +178,23 @@ enum {
 
 /* ---- receiving ---- */
 
-/* Starts a receiver: zeroes the three tables; state becomes 1, 0, 0. A small table is filled sooner: RIMEHEATH_MOST_ROWS rows and
+/* Starts a receiver of an edition: zeroes the three tables; state becomes 1, 0, 0 and the edition's number. A small table is filled sooner: RIMEHEATH_MOST_ROWS rows and
  * RIMEHEATH_MOST_ENTRIES entries are what the program `sheet` uses. Refused by 6. */
-uint8_t rimeheath_start(uint64_t *orders, size_t orders_len, uint8_t *symbols, size_t symbols_len, uint8_t *shelf, size_t shelf_len,
-                        uint64_t state[3]);
+uint8_t rimeheath_start(uint64_t edition, uint64_t *orders, size_t orders_len, uint8_t *symbols, size_t symbols_len, uint8_t *shelf,
+                        size_t shelf_len, uint64_t state[4]);
 
 /* Gives a packet to a receiver: state, tables and shelf become what they are after it, and account what is said above. A packet whose
  * messages stop the receiver is accepted all the same: look at the stop. Refused by 6, 1, 2, 5, 3, 4, and for the last four with the offset
  * in the packet. */
 uint32_t rimeheath_receive(uint64_t *orders, size_t orders_len, uint8_t *symbols, size_t symbols_len, uint8_t *shelf, size_t shelf_len,
-                           uint64_t state[3], const uint8_t *packet, size_t packet_len, uint64_t account[9]);
+                           uint64_t state[4], const uint8_t *packet, size_t packet_len, uint64_t account[9]);
 
 /* ---- a recording in chunks ---- */
 
 /* Opens a stream over a receiver: stream becomes its state and ten zeros. From here on the stream has the receiver's state, and the
- * three numbers that it was opened with are not written again. Always answers RIMEHEATH_DONE: a bad next number is refused when the stream
+ * four numbers that it was opened with are not written again. Always answers RIMEHEATH_DONE: a bad next number is refused when the stream
  * is fed. */
-uint8_t rimeheath_open(const uint64_t state[3], uint64_t stream[13]);
+uint8_t rimeheath_open(const uint64_t state[4], uint64_t stream[14]);
 
 /* Gives the next chunk of a recording, of any length, cut anywhere. Every packet that ends in it is given to the receiver; one that is
  * refused is counted as bad and passed over, and the stream keeps its number and offset until the next. stream, tables and shelf become
@@ -186,10 +202,10 @@ uint8_t rimeheath_open(const uint64_t state[3], uint64_t stream[13]);
  * However a recording is cut, it comes to the same in the end. Refused by 6 alone: also where stream says that more bytes are held than
  * hold has. */
 uint8_t rimeheath_feed(uint64_t *orders, size_t orders_len, uint8_t *symbols, size_t symbols_len, uint8_t *shelf, size_t shelf_len,
-                       uint8_t *hold, size_t hold_len, uint64_t stream[13], const uint8_t *chunk, size_t chunk_len);
+                       uint8_t *hold, size_t hold_len, uint64_t stream[14], const uint8_t *chunk, size_t chunk_len);
 
 /* Whether a recording that ends here is cut: it ends inside a length or a packet. That last piece is dropped and is not counted as bad. */
-bool rimeheath_cut(const uint64_t stream[13]);
+bool rimeheath_cut(const uint64_t stream[14]);
 
 /* ---- views ---- */
 
@@ -215,24 +231,25 @@ uint8_t rimeheath_counts(const uint64_t *orders, size_t orders_len, const uint8_
  * above text_len, the sheet did not fit and its first text_len bytes stand in text. RIMEHEATH_SHEET_MOST bytes always hold it whole.
  * Refused by 6. */
 uint8_t rimeheath_sheet(uint8_t *text, size_t text_len, const uint64_t *orders, size_t orders_len, const uint8_t *symbols,
-                        size_t symbols_len, const uint64_t state[3], uint64_t bad, bool cut, uint64_t length[1]);
+                        size_t symbols_len, const uint64_t state[4], uint64_t bad, bool cut, uint64_t length[1]);
 
 /* ---- reading ---- */
 
-/* Judges a packet: records[0] becomes the number of its records. Refused by 1, 2, 5, 3, 4, and for the last four with the offset in the
+/* Judges a packet of an edition: records[0] becomes the number of its records. Refused by 1, 2, 5, 3, 4, and for the last four with the offset in the
  * packet. */
-uint32_t rimeheath_packet(const uint8_t *packet, size_t packet_len, uint64_t records[1]);
+uint32_t rimeheath_packet(uint64_t edition, const uint8_t *packet, size_t packet_len, uint64_t records[1]);
 
-/* Judges the first record of what is left of a packet: head becomes its number and the length of its body, which stands behind 10 bytes.
+/* Judges the first record of what is left of a packet of an edition: head becomes its number and the length of its body, which stands behind 10 bytes.
  * The next record starts behind that body. With nothing left the answer is 2, as with any part of a header, and never 1: a caller stops by
  * itself at the packet's end. Refused by 2, 5, 3, 4, with the offset in what is left: 0, or 10 and the offset in the body. */
-uint32_t rimeheath_record(const uint8_t *rest, size_t rest_len, uint64_t head[2]);
+uint32_t rimeheath_record(uint64_t edition, const uint8_t *rest, size_t rest_len, uint64_t head[2]);
 
-/* Judges a body and reads its numbers. fields[0] becomes the type; behind it stand the numbers of the message in the order of their places,
+/* Judges a body of an edition and reads its numbers. fields[0] becomes the type; behind it stand the numbers of the message in the order of their places,
  * then zeros. Letters are their codes; of an attributable ID, four letters, the first is the lowest byte. Refused by 3, 4, with
  * the offset in the body.
  *    49 System Time              second
- *     1 Symbol Update            symbol, lot, market (left out: the others of RIMEHEATH_ENTRY_.., which are its offsets in the body)
+ *     1 Symbol Update            symbol, lot, market, and in 1.3 the security type behind them (left out: the others of
+ *                                RIMEHEATH_ENTRY_.., which are its offsets in the body)
  *    83 System State             nanoseconds, session, status (left out, and in the body: the version, 8 bytes at 5)
  *     4 Security Trading Status  nanoseconds, symbol, trading status, market, short sale restriction
  *     5 Symbol Clear             nanoseconds, symbol
@@ -243,7 +260,7 @@ uint32_t rimeheath_record(const uint8_t *rest, size_t rest_len, uint64_t head[2]
  *    10 Trade                    nanoseconds, symbol, trade, correction, price, size, flags
  *    11 Trade Cancel             nanoseconds, symbol, trade, correction, price, size
  */
-uint32_t rimeheath_body(const uint8_t *body, size_t body_len, uint64_t fields[8]);
+uint32_t rimeheath_body(uint64_t edition, const uint8_t *body, size_t body_len, uint64_t fields[8]);
 
 #ifdef __cplusplus
 }
