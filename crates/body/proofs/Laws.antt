@@ -12,6 +12,7 @@ use borrow.Author.Tests.{eq-eqb, ne-eqb, eqb-true, eqb-false, leb-true, lt-ltb, 
 use Rattle.facts.specs.Limits.{mostPrice, mostNanos, entrySize}
 use Rattle.facts.specs.Pick.{pick, both, either}
 use Rattle.facts.proofs.Picks.{pick-ind, pick-cases, pick-map, both-true, either-true, either-none}
+use Rattle.editions.specs.declared.Edition.{Edition}
 use Rattle.layout.specs.Shape.{Shape, width, Values}
 use Rattle.layout.specs.Layout.{shapes, fieldsIn}
 use Rattle.layout.specs.Message.{readAs}
@@ -21,7 +22,7 @@ use Rattle.kinds.proofs.Laws.{Lengths, lengths, no-length, type-kind}
 use Rattle.fields.specs.Fields.{statusOf, clearOf, addOf, modifyOf, deleteOf, executionOf, tradeOf, cancelOf, badAt, decoded, bodyNumber}
 use Rattle.fields.specs.Messages.{systemTime, symbolUpdate, systemState}
 use Rattle.fields.specs.declared.Body.{Body}
-use Rattle.body.specs.Ranges.{nanosOk, oneOf, sideOk, priceOk, sizeOk, testOk, marketOk}
+use Rattle.body.specs.Ranges.{nanosOk, oneOf, sideOk, priceOk, sizeOk, securityOk, testOk, marketOk}
 use Rattle.body.specs.Faults.{Tests, tests, faultFrom, faultOf}
 use Rattle.fields.specs.declared.Fault.{Fault}
 use Rattle.body.specs.Read.{framed, ranged, judgeBody, judgedNumber, message, readBody, goodBody}
@@ -83,44 +84,44 @@ pub record Framed (k : Kind) (b : List ℕ) : Type 0 where
   pub most : length b ≤ entrySize
 
 -- what an answer says: the body is framed, the message is what its layout reads there, and the fields that it shows are in range
-abbrev pub Sound : Body → List ℕ → Type 0
-Sound (Body.SystemTime n) b = Framed Kind.SystemTime b × (n ≡ readAs systemTime b)
-Sound Body.SymbolUpdate b = Framed Kind.SymbolUpdate b × (testOk (readAs symbolUpdate b .test) ≡ true) × (marketOk (readAs symbolUpdate b .market) ≡ true) × (readAs symbolUpdate b .nanos ≤ mostNanos)
-Sound Body.SystemState b = Framed Kind.SystemState b × (readAs systemState b .nanos ≤ mostNanos)
-Sound (Body.TradingStatus m) b = Framed Kind.TradingStatus b × (m ≡ statusOf b) × (m .nanos ≤ mostNanos)
-Sound (Body.SymbolClear m) b = Framed Kind.SymbolClear b × (m ≡ clearOf b) × (m .nanos ≤ mostNanos)
-Sound (Body.Add m) b = Framed Kind.Add b × (m ≡ addOf b) × (sideOk (m .side) ≡ true) × Deal (m .price) (m .size) × (m .nanos ≤ mostNanos)
-Sound (Body.Modify m) b = Framed Kind.Modify b × (m ≡ modifyOf b) × Deal (m .price) (m .size) × (m .nanos ≤ mostNanos)
-Sound (Body.Delete m) b = Framed Kind.Delete b × (m ≡ deleteOf b) × (m .nanos ≤ mostNanos)
-Sound (Body.Execution m) b = Framed Kind.Execution b × (m ≡ executionOf b) × Deal (m .price) (m .size) × (m .nanos ≤ mostNanos)
-Sound (Body.Trade m) b = Framed Kind.Trade b × (m ≡ tradeOf b) × Deal (m .price) (m .size) × (m .nanos ≤ mostNanos)
-Sound (Body.TradeCancel m) b = Framed Kind.TradeCancel b × (m ≡ cancelOf b) × Deal (m .price) (m .size) × (m .nanos ≤ mostNanos)
-Sound (Body.Bad f) b = BadBody b f
+abbrev pub Sound : (ed : Edition) → Body → List ℕ → Type 0
+Sound ed (Body.SystemTime n) b = Framed Kind.SystemTime b × (n ≡ readAs systemTime b)
+Sound ed Body.SymbolUpdate b = Framed Kind.SymbolUpdate b × (testOk (readAs symbolUpdate b .test) ≡ true) × (marketOk (readAs symbolUpdate b .market) ≡ true) × (readAs symbolUpdate b .nanos ≤ mostNanos) × (securityOk ed (readAs symbolUpdate b .security) ≡ true)
+Sound ed Body.SystemState b = Framed Kind.SystemState b × (readAs systemState b .nanos ≤ mostNanos)
+Sound ed (Body.TradingStatus m) b = Framed Kind.TradingStatus b × (m ≡ statusOf b) × (m .nanos ≤ mostNanos)
+Sound ed (Body.SymbolClear m) b = Framed Kind.SymbolClear b × (m ≡ clearOf b) × (m .nanos ≤ mostNanos)
+Sound ed (Body.Add m) b = Framed Kind.Add b × (m ≡ addOf b) × (sideOk (m .side) ≡ true) × Deal (m .price) (m .size) × (m .nanos ≤ mostNanos)
+Sound ed (Body.Modify m) b = Framed Kind.Modify b × (m ≡ modifyOf b) × Deal (m .price) (m .size) × (m .nanos ≤ mostNanos)
+Sound ed (Body.Delete m) b = Framed Kind.Delete b × (m ≡ deleteOf b) × (m .nanos ≤ mostNanos)
+Sound ed (Body.Execution m) b = Framed Kind.Execution b × (m ≡ executionOf b) × Deal (m .price) (m .size) × (m .nanos ≤ mostNanos)
+Sound ed (Body.Trade m) b = Framed Kind.Trade b × (m ≡ tradeOf b) × Deal (m .price) (m .size) × (m .nanos ≤ mostNanos)
+Sound ed (Body.TradeCancel m) b = Framed Kind.TradeCancel b × (m ≡ cancelOf b) × Deal (m .price) (m .size) × (m .nanos ≤ mostNanos)
+Sound ed (Body.Bad f) b = BadBody ed b f
 
 -- every field of the kind holds its test
-held : (k : Kind) (b : List ℕ) → faultOf k b ≡ 0 → AllHold (shapes k) (tests k) (fieldsIn k b)
+held : (ed : Edition) (k : Kind) (b : List ℕ) → faultOf ed k b ≡ 0 → AllHold (shapes k) (tests ed k) (fieldsIn k b)
 unfolding faultOf
-held k b f = no-fault (shapes k) (tests k) (fieldsIn k b) 1 (omega arith) f
+held ed k b f = no-fault (shapes k) (tests ed k) (fieldsIn k b) 1 (omega arith) f
 
 -- and no body is of none
 no-kind : (b : List ℕ) → Framed Kind.Unknown b → ⊥
 unfolding kindLength lengthOf lookup table pick
 no-kind b w = let e : length b ≡ 0 = w .length-is in omega (arith, w .some)
 
-decoded-sound : (k : Kind) (b : List ℕ) → Framed k b → AllHold (shapes k) (tests k) (fieldsIn k b) → Sound (decoded k b) b
+decoded-sound : (ed : Edition) (k : Kind) (b : List ℕ) → Framed k b → AllHold (shapes k) (tests ed k) (fieldsIn k b) → Sound ed (decoded k b) b
 unfolding decoded
-decoded-sound Kind.SystemTime b w h = (w, refl)
-decoded-sound Kind.SymbolUpdate b w h = (w, h .1 .1 .1 .1 .0, h .1 .1 .1 .1 .1 .1 .1 .1 .1 .0, in-time (readAs symbolUpdate b .nanos) (h .0))
-decoded-sound Kind.SystemState b w h = (w, in-time (readAs systemState b .nanos) (h .0))
-decoded-sound Kind.TradingStatus b w h = (w, refl, in-time (statusOf b .nanos) (h .0))
-decoded-sound Kind.SymbolClear b w h = (w, refl, in-time (clearOf b .nanos) (h .0))
-decoded-sound Kind.Add b w h = (w, refl, h .1 .1 .1 .0, deal (addOf b .price) (addOf b .size) (h .1 .1 .1 .1 .0) (h .1 .1 .1 .1 .1 .0), in-time (addOf b .nanos) (h .0))
-decoded-sound Kind.Modify b w h = (w, refl, deal (modifyOf b .price) (modifyOf b .size) (h .1 .1 .1 .0) (h .1 .1 .1 .1 .0), in-time (modifyOf b .nanos) (h .0))
-decoded-sound Kind.Delete b w h = (w, refl, in-time (deleteOf b .nanos) (h .0))
-decoded-sound Kind.Execution b w h = (w, refl, deal (executionOf b .price) (executionOf b .size) (h .1 .1 .1 .1 .0) (h .1 .1 .1 .1 .1 .0), in-time (executionOf b .nanos) (h .0))
-decoded-sound Kind.Trade b w h = (w, refl, deal (tradeOf b .price) (tradeOf b .size) (h .1 .1 .1 .1 .0) (h .1 .1 .1 .1 .1 .0), in-time (tradeOf b .nanos) (h .0))
-decoded-sound Kind.TradeCancel b w h = (w, refl, deal (cancelOf b .price) (cancelOf b .size) (h .1 .1 .1 .1 .0) (h .1 .1 .1 .1 .1 .0), in-time (cancelOf b .nanos) (h .0))
-decoded-sound Kind.Unknown b w h = absurd (no-kind b w)
+decoded-sound ed Kind.SystemTime b w h = (w, refl)
+decoded-sound ed Kind.SymbolUpdate b w h = (w, h .1 .1 .1 .1 .0, h .1 .1 .1 .1 .1 .1 .1 .1 .1 .0, in-time (readAs symbolUpdate b .nanos) (h .0), h .1 .1 .1 .0)
+decoded-sound ed Kind.SystemState b w h = (w, in-time (readAs systemState b .nanos) (h .0))
+decoded-sound ed Kind.TradingStatus b w h = (w, refl, in-time (statusOf b .nanos) (h .0))
+decoded-sound ed Kind.SymbolClear b w h = (w, refl, in-time (clearOf b .nanos) (h .0))
+decoded-sound ed Kind.Add b w h = (w, refl, h .1 .1 .1 .0, deal (addOf b .price) (addOf b .size) (h .1 .1 .1 .1 .0) (h .1 .1 .1 .1 .1 .0), in-time (addOf b .nanos) (h .0))
+decoded-sound ed Kind.Modify b w h = (w, refl, deal (modifyOf b .price) (modifyOf b .size) (h .1 .1 .1 .0) (h .1 .1 .1 .1 .0), in-time (modifyOf b .nanos) (h .0))
+decoded-sound ed Kind.Delete b w h = (w, refl, in-time (deleteOf b .nanos) (h .0))
+decoded-sound ed Kind.Execution b w h = (w, refl, deal (executionOf b .price) (executionOf b .size) (h .1 .1 .1 .1 .0) (h .1 .1 .1 .1 .1 .0), in-time (executionOf b .nanos) (h .0))
+decoded-sound ed Kind.Trade b w h = (w, refl, deal (tradeOf b .price) (tradeOf b .size) (h .1 .1 .1 .1 .0) (h .1 .1 .1 .1 .1 .0), in-time (tradeOf b .nanos) (h .0))
+decoded-sound ed Kind.TradeCancel b w h = (w, refl, deal (cancelOf b .price) (cancelOf b .size) (h .1 .1 .1 .1 .0) (h .1 .1 .1 .1 .1 .0), in-time (cancelOf b .nanos) (h .0))
+decoded-sound ed Kind.Unknown b w h = absurd (no-kind b w)
 
 -- a framed body has a type of the table, and that type's length
 pub framed-is : (b : List ℕ) → framed b ≡ true → Framed (kindOf (getD b 0 0)) b
@@ -140,49 +141,49 @@ framed-is b h = go (lengths (getD b 0 0))
         record { type-is = r .of-type; length-is = len ∙ r .of-kind; some = omega arith; most = omega arith }
 
 -- a framed body is judged as one of its kind
-pub judge-framed : (k : Kind) (b : List ℕ) → Framed k b → judgeBody b ≡ ranged k b
+pub judge-framed : (ed : Edition) (k : Kind) (b : List ℕ) → Framed k b → judgeBody ed b ≡ ranged ed k b
 unfolding judgeBody framed pick both kindLength
-judge-framed k b w = rw (lt-ltb 0 (length b) (w .some), w .type-is, eq-eqb (length b) (lengthOf (typeOf k)) (w .length-is), type-kind k)
+judge-framed ed k b w = rw (lt-ltb 0 (length b) (w .some), w .type-is, eq-eqb (length b) (lengthOf (typeOf k)) (w .length-is), type-kind k)
 
 -- what is read of it: decoded where no field is bad
-abbrev pub judged : Kind → List ℕ → Body
-judged k b = pick (eqb (faultOf k b) 0) (decoded k b) (Body.Bad (badAt 4 (faultOf k b)))
+abbrev pub judged : (ed : Edition) → Kind → List ℕ → Body
+judged ed k b = pick (eqb (faultOf ed k b) 0) (decoded k b) (Body.Bad (badAt 4 (faultOf ed k b)))
 
-pub read-framed : (k : Kind) (b : List ℕ) → Framed k b → readBody b ≡ judged k b
+pub read-framed : (ed : Edition) (k : Kind) (b : List ℕ) → Framed k b → readBody ed b ≡ judged ed k b
 unfolding readBody message ranged
-read-framed k b w =
-    ap (λ (x : Judged). message x b) (judge-framed k b w)
-    ∙ pick-map (λ (x : Judged). message x b) (eqb (faultOf k b) 0) (Judged.Good k) (Judged.Bad (badAt 4 (faultOf k b)))
+read-framed ed k b w =
+    ap (λ (x : Judged). message x b) (judge-framed ed k b w)
+    ∙ pick-map (λ (x : Judged). message x b) (eqb (faultOf ed k b) 0) (Judged.Good k) (Judged.Bad (badAt 4 (faultOf ed k b)))
 
 -- so two bodies of a kind with the same fault are judged alike, by number and offset
-pub judge-by-fault : (k : Kind) (b c : List ℕ) → Framed k b → Framed k c → faultOf k c ≡ faultOf k b → judgeBody c ≡ judgeBody b
+pub judge-by-fault : (ed : Edition) (k : Kind) (b c : List ℕ) → Framed k b → Framed k c → faultOf ed k c ≡ faultOf ed k b → judgeBody ed c ≡ judgeBody ed b
 unfolding ranged
-judge-by-fault k b c w v e = judge-framed k c v ∙ (ap (λ (n : ℕ). pick (eqb n 0) (Judged.Good k) (Judged.Bad (badAt 4 n))) e ∙ sym (judge-framed k b w))
+judge-by-fault ed k b c w v e = judge-framed ed k c v ∙ (ap (λ (n : ℕ). pick (eqb n 0) (Judged.Good k) (Judged.Bad (badAt 4 n))) e ∙ sym (judge-framed ed k b w))
 
 -- ---- what was judged
 -- a good body is of the kind that its type byte decides, and its fields are all in range; a bad one is bad where it is said to be
-abbrev pub JudgedAs : Judged → List ℕ → Type 0
-JudgedAs (Judged.Good k) b = (k ≡ kindOf (getD b 0 0)) × Framed k b × AllHold (shapes k) (tests k) (fieldsIn k b)
-JudgedAs (Judged.Bad f) b = BadBody b f
+abbrev pub JudgedAs : (ed : Edition) → Judged → List ℕ → Type 0
+JudgedAs ed (Judged.Good k) b = (k ≡ kindOf (getD b 0 0)) × Framed k b × AllHold (shapes k) (tests ed k) (fieldsIn k b)
+JudgedAs ed (Judged.Bad f) b = BadBody ed b f
 
-pub judge-sound : (b : List ℕ) → JudgedAs (judgeBody b) b
+pub judge-sound : (ed : Edition) (b : List ℕ) → JudgedAs ed (judgeBody ed b) b
 unfolding judgeBody ranged faultOf
-judge-sound b =
+judge-sound ed b =
     let k : Kind = kindOf (getD b 0 0) in
-    pick-ind (λ r. JudgedAs r b) (framed b) (ranged k b) (Judged.Bad (badAt 3 0))
+    pick-ind (λ r. JudgedAs ed r b) (framed b) (ranged ed k b) (Judged.Bad (badAt 3 0))
     (λ e.
-    pick-ind (λ r. JudgedAs r b) (eqb (faultOf k b) 0) (Judged.Good k) (Judged.Bad (badAt 4 (faultOf k b)))
-    (λ z. (refl, framed-is b e, held k b (eqb-true (faultOf k b) 0 z)))
-    (λ z. inr (refl, record { whole = e; first = fault-first (shapes k) (tests k) (fieldsIn k b) 1 (eqb-false (faultOf k b) 0 z) })))
+    pick-ind (λ r. JudgedAs ed r b) (eqb (faultOf ed k b) 0) (Judged.Good k) (Judged.Bad (badAt 4 (faultOf ed k b)))
+    (λ z. (refl, framed-is b e, held ed k b (eqb-true (faultOf ed k b) 0 z)))
+    (λ z. inr (refl, record { whole = e; first = fault-first (shapes k) (tests ed k) (fieldsIn k b) 1 (eqb-false (faultOf ed k b) 0 z) })))
     (λ e. inl (refl, refl, e))
 
 -- ---- what was read
-pub read-sound : (b : List ℕ) → Sound (readBody b) b
+pub read-sound : (ed : Edition) (b : List ℕ) → Sound ed (readBody ed b) b
 unfolding readBody message
-read-sound b = go (judgeBody b) (judge-sound b)
+read-sound ed b = go (judgeBody ed b) (judge-sound ed b)
   where
-    go : (r : Judged) → JudgedAs r b → Sound (message r b) b
-    go (Judged.Good k) h = decoded-sound k b (h .1) (h .2)
+    go : (r : Judged) → JudgedAs ed r b → Sound ed (message r b) b
+    go (Judged.Good k) h = decoded-sound ed k b (h .1) (h .2)
     go (Judged.Bad f) h = h
 
 -- what is decoded of a framed body is no refusal
@@ -202,11 +203,11 @@ decoded-none Kind.TradeCancel b w = refl
 decoded-none Kind.Unknown b w = absurd (no-kind b w)
 
 -- so judging and reading tell one number
-pub judge-number : (b : List ℕ) → judgedNumber (judgeBody b) ≡ bodyNumber (readBody b)
+pub judge-number : (ed : Edition) (b : List ℕ) → judgedNumber (judgeBody ed b) ≡ bodyNumber (readBody ed b)
 unfolding readBody message
-judge-number b = go (judgeBody b) (judge-sound b)
+judge-number ed b = go (judgeBody ed b) (judge-sound ed b)
   where
-    go : (r : Judged) → JudgedAs r b → judgedNumber r ≡ bodyNumber (message r b)
+    go : (r : Judged) → JudgedAs ed r b → judgedNumber r ≡ bodyNumber (message r b)
     go (Judged.Good k) h = sym (decoded-none k b (h .1))
     go (Judged.Bad f) h = refl
 
@@ -217,9 +218,9 @@ no-such zero = refl
 no-such (suc n) = rw (lt-ltb 0 (suc n) (omega arith), ne-eqb (suc n) 0 (λ e. omega arith)) refl
 
 -- "giving the message kind or refusal 3": where the type byte gives 3, the body is refused so, whatever its length
-pub type-refused : (b : List ℕ) → refusalOf (kindOf (getD b 0 0)) ≡ 3 → readBody b ≡ Body.Bad (badAt 3 0)
+pub type-refused : (ed : Edition) (b : List ℕ) → refusalOf (kindOf (getD b 0 0)) ≡ 3 → readBody ed b ≡ Body.Bad (badAt 3 0)
 unfolding readBody judgeBody message framed pick
-type-refused b h = rw (no-length (getD b 0 0) h, no-such (length b))
+type-refused ed b h = rw (no-length (getD b 0 0) h, no-such (length b))
 
 -- a good body has 1 byte or more and at most as many as an entry: those that its type has
 pub record BodyFits (b : List ℕ) : Type 0 where
@@ -233,19 +234,19 @@ unfolding framed both kindLength
 is-framed k b w = rw (lt-ltb 0 (length b) (w .some), w .type-is, eq-eqb (length b) (lengthOf (typeOf k)) (w .length-is))
 
 -- a body that is not refused is framed
-good-judged : (r : Judged) (b : List ℕ) → JudgedAs r b → judgedNumber r ≡ 0 → framed b ≡ true
-good-judged (Judged.Good k) b h z = is-framed k b (h .1)
-good-judged (Judged.Bad f) b (inl h) z = absurd (omega (arith, h .0))
-good-judged (Judged.Bad f) b (inr h) z = absurd (omega (arith, h .0))
+good-judged : (ed : Edition) (r : Judged) (b : List ℕ) → JudgedAs ed r b → judgedNumber r ≡ 0 → framed b ≡ true
+good-judged ed (Judged.Good k) b h z = is-framed k b (h .1)
+good-judged ed (Judged.Bad f) b (inl h) z = absurd (omega (arith, h .0))
+good-judged ed (Judged.Bad f) b (inr h) z = absurd (omega (arith, h .0))
 
-pub good-framed : (b : List ℕ) → goodBody b ≡ true → framed b ≡ true
+pub good-framed : (ed : Edition) (b : List ℕ) → goodBody ed b ≡ true → framed b ≡ true
 unfolding goodBody
-good-framed b h = good-judged (judgeBody b) b (judge-sound b) (eqb-true (judgedNumber (judgeBody b)) 0 h)
+good-framed ed b h = good-judged ed (judgeBody ed b) b (judge-sound ed b) (eqb-true (judgedNumber (judgeBody ed b)) 0 h)
 
-pub good-fits : (b : List ℕ) → goodBody b ≡ true → BodyFits b
+pub good-fits : (ed : Edition) (b : List ℕ) → goodBody ed b ≡ true → BodyFits b
 unfolding framed
-good-fits b h =
-    let e = good-framed b h in
+good-fits ed b h =
+    let e = good-framed ed b h in
     let w = framed-is b e in
     record {
       some = w .some;
@@ -254,32 +255,32 @@ good-fits b h =
     }
 
 -- what is judged is good, or bad by 3 or 4
-pub data Judgement (b : List ℕ) : Type 0 where
-  good : (k : Kind) → judgeBody b ≡ Judged.Good k → goodBody b ≡ true → bodyNumber (readBody b) ≡ 0 → Judgement b
-  bad : (f : Fault) → judgeBody b ≡ Judged.Bad f → goodBody b ≡ false → BadBody b f → Judgement b
+pub data Judgement (ed : Edition) (b : List ℕ) : Type 0 where
+  good : (k : Kind) → judgeBody ed b ≡ Judged.Good k → goodBody ed b ≡ true → bodyNumber (readBody ed b) ≡ 0 → Judgement ed b
+  bad : (f : Fault) → judgeBody ed b ≡ Judged.Bad f → goodBody ed b ≡ false → BadBody ed b f → Judgement ed b
 
-pub judgement : (b : List ℕ) → Judgement b
+pub judgement : (ed : Edition) (b : List ℕ) → Judgement ed b
 unfolding goodBody
-judgement b = go (judgeBody b) refl (judge-sound b)
+judgement ed b = go (judgeBody ed b) refl (judge-sound ed b)
   where
-    go : (r : Judged) → judgeBody b ≡ r → JudgedAs r b → Judgement b
-    go (Judged.Good k) e h = good k e (rw e refl) (sym (judge-number b) ∙ ap judgedNumber e)
+    go : (r : Judged) → judgeBody ed b ≡ r → JudgedAs ed r b → Judgement ed b
+    go (Judged.Good k) e h = good k e (rw e refl) (sym (judge-number ed b) ∙ ap judgedNumber e)
     go (Judged.Bad f) e (inl h) = bad f e (rw (e, h .0) refl) (inl h)
     go (Judged.Bad f) e (inr h) = bad f e (rw (e, h .0) refl) (inr h)
 
-pub number-good : (b : List ℕ) → bodyNumber (readBody b) ≡ 0 → goodBody b ≡ true
+pub number-good : (ed : Edition) (b : List ℕ) → bodyNumber (readBody ed b) ≡ 0 → goodBody ed b ≡ true
 unfolding goodBody
-number-good b e = eq-eqb (judgedNumber (judgeBody b)) 0 (judge-number b ∙ e)
+number-good ed b e = eq-eqb (judgedNumber (judgeBody ed b)) 0 (judge-number ed b ∙ e)
 
-pub bad-number : (b : List ℕ) → goodBody b ≡ false → bodyNumber (readBody b) ≡ 0 → ⊥
+pub bad-number : (ed : Edition) (b : List ℕ) → goodBody ed b ≡ false → bodyNumber (readBody ed b) ≡ 0 → ⊥
 unfolding goodBody
-bad-number b h e = eqb-false (judgedNumber (judgeBody b)) 0 h (judge-number b ∙ e)
+bad-number ed b h e = eqb-false (judgedNumber (judgeBody ed b)) 0 h (judge-number ed b ∙ e)
 
 -- any bytes are a good body or refused by 3 or 4, and never both
-pub good-or-refused : (b : List ℕ) → ((goodBody b ≡ true) × (bodyNumber (readBody b) ≡ 0)) ⊎ ((goodBody b ≡ false) × ((bodyNumber (readBody b) ≡ 3) ⊎ (bodyNumber (readBody b) ≡ 4)))
-good-or-refused b = go (judgement b)
+pub good-or-refused : (ed : Edition) (b : List ℕ) → ((goodBody ed b ≡ true) × (bodyNumber (readBody ed b) ≡ 0)) ⊎ ((goodBody ed b ≡ false) × ((bodyNumber (readBody ed b) ≡ 3) ⊎ (bodyNumber (readBody ed b) ≡ 4)))
+good-or-refused ed b = go (judgement ed b)
   where
-    go : Judgement b → ((goodBody b ≡ true) × (bodyNumber (readBody b) ≡ 0)) ⊎ ((goodBody b ≡ false) × ((bodyNumber (readBody b) ≡ 3) ⊎ (bodyNumber (readBody b) ≡ 4)))
+    go : Judgement ed b → ((goodBody ed b ≡ true) × (bodyNumber (readBody ed b) ≡ 0)) ⊎ ((goodBody ed b ≡ false) × ((bodyNumber (readBody ed b) ≡ 3) ⊎ (bodyNumber (readBody ed b) ≡ 4)))
     go (good k e g z) = inl (g, z)
-    go (bad f e g (inl h)) = inr (g, inl (sym (judge-number b) ∙ (ap judgedNumber e ∙ h .0)))
-    go (bad f e g (inr h)) = inr (g, inr (sym (judge-number b) ∙ (ap judgedNumber e ∙ h .0)))
+    go (bad f e g (inl h)) = inr (g, inl (sym (judge-number ed b) ∙ (ap judgedNumber e ∙ h .0)))
+    go (bad f e g (inr h)) = inr (g, inr (sym (judge-number ed b) ∙ (ap judgedNumber e ∙ h .0)))

@@ -12,6 +12,7 @@ use borrow.Author.Tests.{leb-true}
 use Rattle.facts.specs.Limits.{entrySize}
 use Rattle.facts.specs.Pick.{both}
 use Rattle.facts.proofs.Picks.{both-true}
+use Rattle.editions.specs.declared.Edition.{Edition}
 use Rattle.layout.specs.Shape.{Shape, width, total, Values}
 use Rattle.layout.specs.Layout.{shapes, fieldsIn}
 use Rattle.layout.proofs.Laws.{tiles}
@@ -52,26 +53,26 @@ within (s ∷ ss) ts vs at n w (inr f) =
     let r = within ss (ts .1) (vs .1) (at + width s) n (both-true {a = leb 1 (width s)} w .1) (f .1) in
     (omega (arith, r .0), omega (arith, r .1))
 
-pub field-within : (b : List ℕ) (n : ℕ) → BadField b n → (1 ≤ n) × (n < length b)
-field-within b n f =
+pub field-within : (ed : Edition) (b : List ℕ) (n : ℕ) → BadField ed b n → (1 ≤ n) × (n < length b)
+field-within ed b n f =
     let k : Kind = kindOf (getD b 0 0) in
     let w : Framed k b = framed-is b (f .whole) in
     let t = tiles k (omega (arith, w .some, w .length-is)) in
-    let r = within (shapes k) (tests k) (fieldsIn k b) 1 n (all-wide k) (f .first) in
+    let r = within (shapes k) (tests ed k) (fieldsIn k b) 1 n (all-wide k) (f .first) in
     (r .0, omega (arith, r .1, t, w .length-is))
 
 -- 3 and 4 lie at the body's start or within it, so at its end at most
-pub body-within : (b : List ℕ) (f : Fault) → BadBody b f → f .at ≤ length b
-body-within b f (inl h) = omega (arith, h .1)
-body-within b f (inr h) = omega (arith, field-within b (f .at) (h .1) .1)
+pub body-within : (ed : Edition) (b : List ℕ) (f : Fault) → BadBody ed b f → f .at ≤ length b
+body-within ed b f (inl h) = omega (arith, h .1)
+body-within ed b f (inr h) = omega (arith, field-within ed b (f .at) (h .1) .1)
 
 -- and no body of the table is long
-pub body-small : (b : List ℕ) (f : Fault) → BadBody b f → f .at ≤ entrySize
-body-small b f (inl h) = omega (arith, h .1)
-body-small b f (inr h) = omega (arith, field-within b (f .at) (h .1) .1, framed-is b (h .1 .whole) .most)
+pub body-small : (ed : Edition) (b : List ℕ) (f : Fault) → BadBody ed b f → f .at ≤ entrySize
+body-small ed b f (inl h) = omega (arith, h .1)
+body-small ed b f (inr h) = omega (arith, field-within ed b (f .at) (h .1) .1, framed-is b (h .1 .whole) .most)
 
-pub judged-within : (b : List ℕ) (f : Fault) → Judged.Bad f ≡ judgeBody b → f .at ≤ length b
-judged-within b f e = body-within b f (subst (λ (r : Judged). JudgedAs r b) (sym e) (judge-sound b))
+pub judged-within : (ed : Edition) (b : List ℕ) (f : Fault) → Judged.Bad f ≡ judgeBody ed b → f .at ≤ length b
+judged-within ed b f e = body-within ed b f (subst (λ (r : Judged). JudgedAs ed r b) (sym e) (judge-sound ed b))
 
-pub judged-small : (b : List ℕ) (f : Fault) → Judged.Bad f ≡ judgeBody b → f .at ≤ entrySize
-judged-small b f e = body-small b f (subst (λ (r : Judged). JudgedAs r b) (sym e) (judge-sound b))
+pub judged-small : (ed : Edition) (b : List ℕ) (f : Fault) → Judged.Bad f ≡ judgeBody ed b → f .at ≤ entrySize
+judged-small ed b f e = body-small ed b f (subst (λ (r : Judged). JudgedAs ed r b) (sym e) (judge-sound ed b))

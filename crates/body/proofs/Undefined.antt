@@ -10,6 +10,7 @@ use lib.ListN.{length, getD, set, length-set}
 use lib.Seq.{getD-set-same, getD-set-other, set-getD}
 use lib.Dec.{eqb}
 use Rattle.facts.specs.Pick.{pick}
+use Rattle.editions.specs.declared.Edition.{Edition}
 use Rattle.wire.specs.Le.{field}
 use Rattle.wire.proofs.Laws.{field-same}
 use Rattle.kinds.specs.declared.Kind.{Kind}
@@ -27,7 +28,7 @@ use Rattle.body.proofs.Laws.{Framed, Sound, read-framed, read-sound, ju
 modify-long : (b : List ℕ) → Framed Kind.Modify b → 29 < length b
 modify-long b w = omega (arith, w .length-is, tiles Kind.Modify (rw (w .length-is) at (w .some)))
 
-module _ (b : List ℕ) (x : ℕ) where
+module _ (ed : Edition) (b : List ℕ) (x : ℕ) where
   -- a field before the flags
   before : (at w : ℕ) → at + w ≤ 29 → field (flagged b x) at w ≡ field b at w
   before at w l = field-same (flagged b x) b at w (λ k h m. getD-set-other b 29 k x 0 (λ e. omega arith))
@@ -42,7 +43,7 @@ module _ (b : List ℕ) (x : ℕ) where
         most = rw n (w .most);
       }
 
-  fault-kept : faultOf Kind.Modify (flagged b x) ≡ faultOf Kind.Modify b
+  fault-kept : faultOf ed Kind.Modify (flagged b x) ≡ faultOf ed Kind.Modify b
   unfolding faultOf faultFrom pick
   fault-kept i = pick (nanosOk (before 1 4 (omega arith) i)) (pick (priceOk (before 17 8 (omega arith) i)) (pick (sizeOk (before 25 4 (omega arith) i)) 0 25) 17) 1
 
@@ -58,26 +59,26 @@ module _ (b : List ℕ) (x : ℕ) where
       }
 
   -- "the field range for flags is struck out": whatever they are, a body of that type and length is good, or bad by the same number at the same place
-  pub flags-unjudged : Framed Kind.Modify b → judgeBody (flagged b x) ≡ judgeBody b
-  flags-unjudged w = judge-by-fault Kind.Modify b (flagged b x) w (flagged-framed w) fault-kept
+  pub flags-unjudged : Framed Kind.Modify b → judgeBody ed (flagged b x) ≡ judgeBody ed b
+  flags-unjudged w = judge-by-fault ed Kind.Modify b (flagged b x) w (flagged-framed w) fault-kept
 
   -- and a good one is the same message but for them
-  pub any-flags : (m : ModifyOrder) → readBody b ≡ Body.Modify m → readBody (flagged b x) ≡ Body.Modify (withFlags m x)
+  pub any-flags : (m : ModifyOrder) → readBody ed b ≡ Body.Modify m → readBody ed (flagged b x) ≡ Body.Modify (withFlags m x)
   unfolding decoded pick
-  any-flags m h = go (eqb (faultOf Kind.Modify b) 0) refl
+  any-flags m h = go (eqb (faultOf ed Kind.Modify b) 0) refl
     where
-      w : Sound (Body.Modify m) b
-      w = rw h at (read-sound b)
+      w : Sound ed (Body.Modify m) b
+      w = rw h at (read-sound ed b)
 
-      go : (t : Bool) → eqb (faultOf Kind.Modify b) 0 ≡ t → readBody (flagged b x) ≡ Body.Modify (withFlags m x)
-      go true e = read-framed Kind.Modify (flagged b x) (flagged-framed (w .0)) ∙ rw (fault-kept, e, fields-kept (modify-long b (w .0)), w .1) refl
+      go : (t : Bool) → eqb (faultOf ed Kind.Modify b) 0 ≡ t → readBody ed (flagged b x) ≡ Body.Modify (withFlags m x)
+      go true e = read-framed ed Kind.Modify (flagged b x) (flagged-framed (w .0)) ∙ rw (fault-kept, e, fields-kept (modify-long b (w .0)), w .1) refl
       go false e =
-          let q : Body.Bad (badAt 4 (faultOf Kind.Modify b)) ≡ Body.Modify m = sym (rw e at (read-framed Kind.Modify b (w .0))) ∙ h in
+          let q : Body.Bad (badAt 4 (faultOf ed Kind.Modify b)) ≡ Body.Modify m = sym (rw e at (read-framed ed Kind.Modify b (w .0))) ∙ h in
           cc
 
 -- the flags of a good Modify are its byte 29
-flags-at : (b : List ℕ) (m : ModifyOrder) → readBody b ≡ Body.Modify m → m .flags ≡ getD b 29 0
-flags-at b m h = let w : Sound (Body.Modify m) b = rw h at (read-sound b) in ap (λ (x : ModifyOrder). x .flags) (w .1)
+flags-at : (ed : Edition) (b : List ℕ) (m : ModifyOrder) → readBody ed b ≡ Body.Modify m → m .flags ≡ getD b 29 0
+flags-at ed b m h = let w : Sound ed (Body.Modify m) b = rw h at (read-sound ed b) in ap (λ (x : ModifyOrder). x .flags) (w .1)
 
 set-twice : (l : List ℕ) (i x y : ℕ) → set (set l i x) i y ≡ set l i y
 set-twice [] i x y = refl
@@ -85,25 +86,25 @@ set-twice (a ∷ l) zero x y = refl
 set-twice (a ∷ l) (suc i) x y = ap (λ (t : List ℕ). a ∷ t) (set-twice l i x y)
 
 -- ---- two that differ in undefined bits alone
-module _ (b c : List ℕ) (o : OnlyBits b c) where
+module _ (ed : Edition) (b c : List ℕ) (o : OnlyBits ed b c) where
   -- the second is good too
-  pub bits-read : readBody c ≡ Body.Modify (withFlags (o .modify) (o .flags))
-  bits-read = ap readBody (o .second) ∙ any-flags b (o .flags) (o .modify) (o .first)
+  pub bits-read : readBody ed c ≡ Body.Modify (withFlags (o .modify) (o .flags))
+  bits-read = ap (readBody ed) (o .second) ∙ any-flags ed b (o .flags) (o .modify) (o .first)
 
-  pub bits-good : (goodBody b ≡ true) × (goodBody c ≡ true)
-  bits-good = (number-good b (ap bodyNumber (o .first)), number-good c (ap bodyNumber bits-read))
+  pub bits-good : (goodBody ed b ≡ true) × (goodBody ed c ≡ true)
+  bits-good = (number-good ed b (ap bodyNumber (o .first)), number-good ed c (ap bodyNumber bits-read))
 
   -- and they are not the same bytes
   pub bits-apart : b ≢ c
   bits-apart e =
-      let old : o .modify .flags ≡ getD b 29 0 = flags-at b (o .modify) (o .first) in
-      let new : getD c 29 0 ≡ o .flags = sym (flags-at c (withFlags (o .modify) (o .flags)) bits-read) in
+      let old : o .modify .flags ≡ getD b 29 0 = flags-at ed b (o .modify) (o .first) in
+      let new : getD c 29 0 ≡ o .flags = sym (flags-at ed c (withFlags (o .modify) (o .flags)) bits-read) in
       o .differ (sym (old ∙ ap (λ (l : List ℕ). getD l 29 0) e ∙ new))
 
   -- nor does it matter which of them is called the first
-  pub bits-turned : OnlyBits c b
+  pub bits-turned : OnlyBits ed c b
   bits-turned =
-      let back : flagged b (o .modify .flags) ≡ b = ap (flagged b) (flags-at b (o .modify) (o .first)) ∙ set-getD b 29 0 in
+      let back : flagged b (o .modify .flags) ≡ b = ap (flagged b) (flags-at ed b (o .modify) (o .first)) ∙ set-getD b 29 0 in
       record {
         modify = withFlags (o .modify) (o .flags);
         flags = o .modify .flags;

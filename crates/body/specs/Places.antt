@@ -5,6 +5,7 @@ use mathlib.Core.Bool.{true, false}
 use mathlib.Core.List.{List, [], _∷_}
 use mathlib.Core.Logic.{_⊎_}
 use lib.ListN.{getD}
+use Rattle.editions.specs.declared.Edition.{Edition}
 use Rattle.layout.specs.Shape.{Shape, width, Values}
 use Rattle.layout.specs.Layout.{shapes, fieldsIn}
 use Rattle.kinds.specs.Table.{kindOf}
@@ -18,10 +19,10 @@ FirstBad [] ts vs at n = ⊥
 FirstBad (s ∷ ss) ts vs at n = ((ts .0 (vs .0) ≡ false) × (n ≡ at)) ⊎ ((ts .0 (vs .0) ≡ true) × FirstBad ss (ts .1) (vs .1) (at + width s) n)
 
 -- a body of its type's length whose earliest bad field lies at n
-pub record BadField (b : List ℕ) (n : ℕ) : Type 0 where
+pub record BadField (ed : Edition) (b : List ℕ) (n : ℕ) : Type 0 where
   pub whole : framed b ≡ true
-  pub first : FirstBad (shapes (kindOf (getD b 0 0))) (tests (kindOf (getD b 0 0))) (fieldsIn (kindOf (getD b 0 0)) b) 1 n
+  pub first : FirstBad (shapes (kindOf (getD b 0 0))) (tests ed (kindOf (getD b 0 0))) (fieldsIn (kindOf (getD b 0 0)) b) 1 n
 
 -- why and where a body is bad: 3 "the body's start or, for an empty body, the place where it would start", 4 the field
-abbrev pub BadBody : List ℕ → Fault → Type 0
-BadBody b f = ((f .number ≡ 3) × (f .at ≡ 0) × (framed b ≡ false)) ⊎ ((f .number ≡ 4) × BadField b (f .at))
+abbrev pub BadBody : Edition → List ℕ → Fault → Type 0
+BadBody ed b f = ((f .number ≡ 3) × (f .at ≡ 0) × (framed b ≡ false)) ⊎ ((f .number ≡ 4) × BadField ed b (f .at))

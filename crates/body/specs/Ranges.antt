@@ -1,10 +1,12 @@
--- The field ranges of document 01, "Message bodies": "Field ranges: ..". Flags have none: "the field range for flags is struck out" (request 2). Timestamps have that of request 6.
+-- The field ranges of document 01, "Message bodies": "Field ranges: ..". Flags have none: "the field range for flags is struck out" (request 2). Timestamps have that of request 6, and byte 20 of a
+-- Symbol Update that of its edition (request 10).
 use Prim.Native.Nat.{ℕ}
-use mathlib.Core.Bool.{Bool, false}
+use mathlib.Core.Bool.{Bool, true, false}
 use mathlib.Core.List.{List, [], _∷_}
 use lib.Dec.{eqb, leb}
 use Rattle.facts.specs.Limits.{mostPrice, mostNanos}
 use Rattle.facts.specs.Pick.{both, either}
+use Rattle.editions.specs.declared.Edition.{Edition}
 
 -- one of the listed bytes
 unfoldable pub oneOf : ℕ → List ℕ → Bool
@@ -26,6 +28,11 @@ priceOk n = both (leb 1 n) (leb n mostPrice)
 -- "sizes, the executed size included, 1 or more"
 unfoldable pub sizeOk : ℕ → Bool
 sizeOk n = leb 1 n
+
+-- "version 1.3, where byte 20 of a Symbol Update is Security Type, `E` or `F`; from 1.3.a it is reserved" (request 10), and "Nothing else is judged: not .. reserved bytes". All that differs between the editions
+unfoldable pub securityOk : Edition → ℕ → Bool
+securityOk Edition.V13 x = oneOf x (69 ∷ 70 ∷ [])
+securityOk Edition.V13b x = true
 
 -- "test indicator `Y` or `N`"
 unfoldable pub testOk : ℕ → Bool

@@ -5,6 +5,7 @@ use mathlib.Core.Bool.{Bool}
 use lib.ListN.{length, getD}
 use lib.Dec.{eqb, ltb}
 use Rattle.facts.specs.Pick.{pick, both}
+use Rattle.editions.specs.declared.Edition.{Edition}
 use Rattle.kinds.specs.Table.{lengthOf, kindOf}
 use Rattle.kinds.specs.declared.Kind.{Kind}
 use Rattle.fields.specs.Fields.{badAt, decoded}
@@ -17,12 +18,12 @@ unfoldable pub framed : List ℕ → Bool
 framed b = both (ltb 0 (length b)) (eqb (length b) (lengthOf (getD b 0 0)))
 
 -- else 4, "a field out of range": at "the first byte of the earliest bad field by offset"
-unfoldable pub ranged : Kind → List ℕ → Judged
-ranged k b = pick (eqb (faultOf k b) 0) (Judged.Good k) (Judged.Bad (badAt 4 (faultOf k b)))
+unfoldable pub ranged : Edition → Kind → List ℕ → Judged
+ranged ed k b = pick (eqb (faultOf ed k b) 0) (Judged.Good k) (Judged.Bad (badAt 4 (faultOf ed k b)))
 
 -- 3, at "the body's start or, for an empty body, the place where it would start"; then 4
-unfoldable pub judgeBody : List ℕ → Judged
-judgeBody b = pick (framed b) (ranged (kindOf (getD b 0 0)) b) (Judged.Bad (badAt 3 0))
+unfoldable pub judgeBody : Edition → List ℕ → Judged
+judgeBody ed b = pick (framed b) (ranged ed (kindOf (getD b 0 0)) b) (Judged.Bad (badAt 3 0))
 
 -- document 01's number of each, 0 for a good body
 abbrev pub judgedNumber : Judged → ℕ
@@ -35,9 +36,9 @@ message (Judged.Good k) b = decoded k b
 message (Judged.Bad f) b = Body.Bad f
 
 -- the message, or 3, then 4
-unfoldable pub readBody : List ℕ → Body
-readBody b = message (judgeBody b) b
+unfoldable pub readBody : Edition → List ℕ → Body
+readBody ed b = message (judgeBody ed b) b
 
 -- a good body is one that is not refused
-unfoldable pub goodBody : List ℕ → Bool
-goodBody b = eqb (judgedNumber (judgeBody b)) 0
+unfoldable pub goodBody : Edition → List ℕ → Bool
+goodBody ed b = eqb (judgedNumber (judgeBody ed b)) 0

@@ -4,6 +4,7 @@ use mathlib.Core.Path.{_≡_}
 use mathlib.Core.List.{List}
 use mathlib.Core.Logic.{_≢_, _⊎_}
 use lib.ListN.{set}
+use Rattle.editions.specs.declared.Edition.{Edition}
 use Rattle.fields.specs.declared.ModifyOrder.{ModifyOrder}
 use Rattle.fields.specs.declared.Body.{Body}
 use Rattle.body.specs.Read.{readBody}
@@ -16,14 +17,14 @@ abbrev pub withFlags : ModifyOrder → ℕ → ModifyOrder
 withFlags m x = record { nanos = m .nanos; symbol = m .symbol; order = m .order; price = m .price; size = m .size; flags = x }
 
 -- "Two copies that differ only in those bits": a good Modify b, and c, which has other flags with the same bit 0
-pub record OnlyBits (b c : List ℕ) : Type 0 where
+pub record OnlyBits (ed : Edition) (b c : List ℕ) : Type 0 where
   pub modify : ModifyOrder
   pub flags : ℕ
-  pub first : readBody b ≡ Body.Modify modify
+  pub first : readBody ed b ≡ Body.Modify modify
   pub second : c ≡ flagged b flags
   pub bit-0 : flags % 2 ≡ modify .flags % 2
   pub differ : flags ≢ modify .flags
 
 -- the same bytes, but for those bits
-abbrev pub ButForBits : List ℕ → List ℕ → Type 0
-ButForBits b c = (b ≡ c) ⊎ OnlyBits b c
+abbrev pub ButForBits : Edition → List ℕ → List ℕ → Type 0
+ButForBits ed b c = (b ≡ c) ⊎ OnlyBits ed b c

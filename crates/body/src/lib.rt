@@ -1,13 +1,15 @@
-// Judges one message body and reads it, in two calls: the table frames it and the ranges judge it; a good one is decoded.
+// Judges one message body and reads it, in two calls: the table frames it and the ranges of its edition judge it; a good one is decoded.
+use editions::Edition;
 use fields::Body;
 use fields::Fault;
 use kinds::Kind;
 ghost use mathlib.Core.Path.{_≡_};
 ghost use Prim.Native.Nat.{_+_};
 ghost use lib.Dec.{leb};
+ghost use lib.ListN.{getD};
 ghost use Rattle.facts.specs.Pick.{pick, both};
 ghost use Rattle.wire.specs.Le.{field};
-ghost use Rattle.body.specs.Ranges.{nanosOk, sideOk, priceOk, sizeOk, testOk, marketOk};
+ghost use Rattle.body.specs.Ranges.{nanosOk, sideOk, priceOk, sizeOk, securityOk, testOk, marketOk};
 ghost use Rattle.body.specs.Faults.{faultOf};
 ghost use Rattle.body.specs.Read.{judgeBody, readBody};
 
@@ -39,6 +41,16 @@ pub fn size_ok(n: u32) -> bool
     ensures { λ r. ⌜ r ≡ sizeOk n ⌝ }
 {
     1 <= n
+}
+
+// What differs between the editions: byte 20 of a Symbol Update is its Security Type in 1.3, and reserved from 1.3.a on.
+pub fn security_ok(e: Edition, x: u8) -> bool
+    ensures { λ r. ⌜ r ≡ securityOk e x ⌝ }
+{
+    match e {
+        Edition::V13 => x == b'E' || x == b'F',
+        Edition::V13b => true,
+    }
 }
 
 pub fn test_ok(x: u8) -> bool
@@ -88,16 +100,25 @@ fn deal_fault(b: &[u8], at: u8) -> usize
     fault_at(price_ok(wire::u64_at(b, i)), i, size)
 }
 
-fn symbol_fault(b: &[u8]) -> usize
-    ensures { λ r. ⌜ r ≡ faultOf Kind.SymbolUpdate (now (b .entry)) ⌝ }
+// The Security Type, then what is found behind it.
+fn security_fault(e: Edition, b: &[u8], behind: usize) -> usize
+    ensures { λ r. ⌜ r ≡ pick (securityOk e (getD (now (b .entry)) 20 0)) behind 20 ⌝ }
+{
+    fault_at(security_ok(e, wire::u8_at(b, 20)), 20, behind)
+}
+
+fn symbol_fault(e: Edition, b: &[u8]) -> usize
+    ensures { λ r. ⌜ r ≡ faultOf e Kind.SymbolUpdate (now (b .entry)) ⌝ }
 {
     let test = test_ok(wire::u8_at(b, 21));
     let market = market_ok(wire::u8_at(b, 41));
-    stamp_fault(b, fault_at(test, 21, fault_at(market, 41, 0)))
+    let behind = fault_at(test, 21, fault_at(market, 41, 0));
+    stamp_fault(b, security_fault(e, b, behind))
 }
 
+// An Add is judged alike in every edition.
 fn add_fault(b: &[u8]) -> usize
-    ensures { λ r. ⌜ r ≡ faultOf Kind.Add (now (b .entry)) ⌝ }
+    ensures { λ r. ⌜ ((e : Edition) → r ≡ faultOf e Kind.Add (now (b .entry))) ⌝ }
 {
     let side = side_ok(wire::u8_at(b, 17));
     stamp_fault(b, fault_at(side, 17, deal_fault(b, 18)))
@@ -111,12 +132,12 @@ fn stamped_deal_fault(b: &[u8], at: u8) -> usize
 }
 
 // The first byte of the earliest field out of range, 0 for none (no field starts at 0).
-fn fault(k: Kind, b: &[u8]) -> usize
-    ensures { λ r. ⌜ r ≡ faultOf k (now (b .entry)) ⌝ }
+fn fault(e: Edition, k: Kind, b: &[u8]) -> usize
+    ensures { λ r. ⌜ r ≡ faultOf e k (now (b .entry)) ⌝ }
 {
     match k {
         Kind::SystemTime => 0,
-        Kind::SymbolUpdate => symbol_fault(b),
+        Kind::SymbolUpdate => symbol_fault(e, b),
         Kind::SystemState => stamp_fault(b, 0),
         Kind::TradingStatus => stamp_fault(b, 0),
         Kind::SymbolClear => stamp_fault(b, 0),
@@ -130,9 +151,9 @@ fn fault(k: Kind, b: &[u8]) -> usize
     }
 }
 
-// Judges a body, and decodes nothing: 3 at its start, then 4 at the earliest field out of range.
-pub fn judge_body(b: &[u8]) -> Judged
-    ensures { λ r. ⌜ r ≡ judgeBody (now (b .entry)) ⌝ }
+// Judges a body of an edition, and decodes nothing: 3 at its start, then 4 at the earliest field out of range.
+pub fn judge_body(e: Edition, b: &[u8]) -> Judged
+    ensures { λ r. ⌜ r ≡ judgeBody e (now (b .entry)) ⌝ }
 {
     if b.len() == 0 {
         return Judged::Bad(Fault { number: 3, at: 0 });
@@ -142,7 +163,7 @@ pub fn judge_body(b: &[u8]) -> Judged
         return Judged::Bad(Fault { number: 3, at: 0 });
     }
     let k = kinds::kind_of(t);
-    let at = fault(k, b);
+    let at = fault(e, k, b);
     if at == 0 {
         Judged::Good(k)
     } else {
@@ -151,10 +172,10 @@ pub fn judge_body(b: &[u8]) -> Judged
 }
 
 // The message that a good body says, or why and where it is bad.
-pub fn read_body(b: &[u8]) -> Body
-    ensures { λ r. ⌜ r ≡ readBody (now (b .entry)) ⌝ }
+pub fn read_body(e: Edition, b: &[u8]) -> Body
+    ensures { λ r. ⌜ r ≡ readBody e (now (b .entry)) ⌝ }
 {
-    match judge_body(b) {
+    match judge_body(e, b) {
         Judged::Bad(f) => Body::Bad(f),
         Judged::Good(k) => fields::decode(k, b),
     }

@@ -23,7 +23,7 @@ stamp-fault-requires c κs = search needs
 
 returns : tie.Need-returns
 unfolding faultOf faultFrom pick
-returns c = cc
+returns c ed = cc
 
 pub add-fault-spec : {M : Type 1} → statement M
 add-fault-spec =

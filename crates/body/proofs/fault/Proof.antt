@@ -93,7 +93,7 @@ unfolding faultOf faultFrom pick
 returns-5 c = rw (c .before .enum-told5 .given .1) (c .stamp-fault3 .ensures)
 
 returns-6 : tie.Need-returns-6
-returns-6 c = rw (c .before .enum-told6 .given .1) (c .add-fault .ensures)
+returns-6 c = rw (c .before .enum-told6 .given .1) (c .add-fault .ensures (c .before .before .before .before .args .e))
 
 returns-7 : tie.Need-returns-7
 unfolding faultOf faultFrom pick

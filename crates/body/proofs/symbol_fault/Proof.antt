@@ -32,15 +32,18 @@ fault-at-requires-2 c κs = search needs
 stamp-fault-requires : tie.Need-stamp-fault-requires
 stamp-fault-requires c κs = search needs
 
+security-fault-requires : tie.Need-security-fault-requires
+security-fault-requires c κs = search needs
+
 returns : tie.Need-returns
 unfolding faultOf faultFrom pick
 returns c =
-    let l : List ℕ = c .before .before .before .before .before .before .before .before .args .b .now in
-    let market : _≡_ {A = ℕ} (c .before .before .fault-at .result) (pick (c .before .before .before .market-ok .result) 0 41) = c .before .before .fault-at .ensures in
-    let test : _≡_ {A = ℕ} (c .before .fault-at2 .result) (pick (c .before .before .before .before .before .test-ok .result) (c .before .before .fault-at .result) 21) = c .before .fault-at2 .ensures in
-    let market-is : c .before .before .before .market-ok .result ≡ marketOk (getD l 41 0) = c .before .before .before .market-ok .ensures ∙ ap marketOk (c .before .before .before .before .u8-at2 .ensures) in
-    let test-is : c .before .before .before .before .before .test-ok .result ≡ testOk (getD l 21 0) = c .before .before .before .before .before .test-ok .ensures ∙ ap testOk (c .before .before .before .before .before .before .u8-at .ensures) in
-    rw (← market-is, ← test-is, ← market, ← test) (c .stamp-fault .ensures)
+    let l : List ℕ = c .before .before .before .before .before .before .before .before .before .args .b .now in
+    let market : _≡_ {A = ℕ} (c .before .before .before .fault-at .result) (pick (c .before .before .before .before .market-ok .result) 0 41) = c .before .before .before .fault-at .ensures in
+    let test : _≡_ {A = ℕ} (c .before .before .fault-at2 .result) (pick (c .before .before .before .before .before .before .test-ok .result) (c .before .before .before .fault-at .result) 21) = c .before .before .fault-at2 .ensures in
+    let market-is : c .before .before .before .before .market-ok .result ≡ marketOk (getD l 41 0) = c .before .before .before .before .market-ok .ensures ∙ ap marketOk (c .before .before .before .before .before .u8-at2 .ensures) in
+    let test-is : c .before .before .before .before .before .before .test-ok .result ≡ testOk (getD l 21 0) = c .before .before .before .before .before .before .test-ok .ensures ∙ ap testOk (c .before .before .before .before .before .before .before .u8-at .ensures) in
+    rw (← market-is, ← test-is, ← market, ← test, ← c .before .security-fault .ensures) (c .stamp-fault .ensures)
 
 pub symbol-fault-spec : {M : Type 1} → statement M
 symbol-fault-spec =
@@ -52,5 +55,6 @@ symbol-fault-spec =
     market-ok-requires
     fault-at-requires
     fault-at-requires-2
+    security-fault-requires
     stamp-fault-requires
     returns)
