@@ -14,6 +14,7 @@ use lib.Dec.{ltb, leb}
 use Rattle.facts.specs.Limits.{lastNumber, packetMost}
 use Rattle.facts.specs.Pick.{pick, both}
 use Rattle.facts.proofs.Picks.{pick-ind, both-true}
+use Rattle.editions.specs.declared.Edition.{Edition}
 use Rattle.wire.specs.Le.{field}
 use Rattle.wire.proofs.Laws.{field-past}
 use Rattle.wire.specs.Records.{Rec, bad, records}
@@ -76,54 +77,54 @@ later-none (alone r) = refl
 later-none (placed f) = ap placed (shift-none f)
 
 -- ---- a record is judged by 2, 5, 3, 4: each is told whatever stands behind it
-pub short-header : (t : List ℕ) → length t < 10 → badRecord 2 ≡ readRecord t
+pub short-header : (ed : Edition) (t : List ℕ) → length t < 10 → badRecord 2 ≡ readRecord ed t
 unfolding readRecord pick
-short-header t a = simp (lt-ltb (length t) 10 a)
+short-header ed t a = simp (lt-ltb (length t) 10 a)
 
-module _ (t : List ℕ) (h : Head) (e : h ≡ headOf t) (a : 10 ≤ length t) where
+module _ (ed : Edition) (t : List ℕ) (h : Head) (e : h ≡ headOf t) (a : 10 ≤ length t) where
   len-is : h .len ≡ field t 8 2
   len-is = ap (λ x. x .len) e
 
   number-is : h .number ≡ field t 0 8
   number-is = ap (λ x. x .number) e
 
-  pub short-body : length t - 10 < h .len → badRecord 2 ≡ readRecord t
+  pub short-body : length t - 10 < h .len → badRecord 2 ≡ readRecord ed t
   unfolding readRecord pick
   short-body b = simp (le-ltb (length t) 10 a, ← len-is, lt-ltb _ _ b)
 
   module _ (b : h .len ≤ length t - 10) where
-    pub wrong-number : numberOk (h .number) ≡ false → badRecord 5 ≡ readRecord t
+    pub wrong-number : numberOk (h .number) ≡ false → badRecord 5 ≡ readRecord ed t
     unfolding readRecord pick
     wrong-number o = simp (le-ltb (length t) 10 a, ← len-is, le-ltb _ _ b, ← number-is, o)
 
     -- 3 and 4 are the body's
-    pub record-judged : numberOk (h .number) ≡ true → (r : Judged) → r ≡ judgeBody (take (10 + h .len - 10) (drop 10 t)) → bodyJudged r h ≡ readRecord t
+    pub record-judged : numberOk (h .number) ≡ true → (r : Judged) → r ≡ judgeBody ed (take (10 + h .len - 10) (drop 10 t)) → bodyJudged r h ≡ readRecord ed t
     unfolding readRecord pick
     record-judged o r q =
-        let j : r ≡ judgeBody (bodyOf t) = q ∙ ap judgeBody (body-cut t (h .len) len-is) in
+        let j : r ≡ judgeBody ed (bodyOf t) = q ∙ ap (judgeBody ed) (body-cut t (h .len) len-is) in
         simp (le-ltb (length t) 10 a, ← len-is, le-ltb _ _ b, ← number-is, o, ← j)
 
     -- a place in it lies within what is left, or at its end
-    pub judged-inside : (f : Fault) → Judged.Bad f ≡ judgeBody (take (10 + h .len - 10) (drop 10 t)) → 10 + f .at ≤ length t
-    judged-inside f q = omega (arith, judged-within (take (10 + h .len - 10) (drop 10 t)) f q, length-take-le (10 + h .len - 10) (drop 10 t) (rw length-drop (omega arith)))
+    pub judged-inside : (f : Fault) → Judged.Bad f ≡ judgeBody ed (take (10 + h .len - 10) (drop 10 t)) → 10 + f .at ≤ length t
+    judged-inside f q = omega (arith, judged-within ed (take (10 + h .len - 10) (drop 10 t)) f q, length-take-le (10 + h .len - 10) (drop 10 t) (rw length-drop (omega arith)))
 
 -- what is known of a good record: its number is in range, and its body good
-pub record GoodRec (c : Rec) : Type 0 where
+pub record GoodRec (ed : Edition) (c : Rec) : Type 0 where
   pub number-from : 1 ≤ c .number
   pub number-to : c .number ≤ lastNumber
-  pub body-good : goodBody (c .body) ≡ true
+  pub body-good : goodBody ed (c .body) ≡ true
 
 -- what reading the first record of t says: a good one lies within t, and a bad one is bad where it is said to be
-abbrev pub Held : Record → List ℕ → Type 0
-Held (Record.Good h) t = (h ≡ headOf t) × (10 + h .len ≤ length t) × GoodRec (recOf t)
-Held (Record.Bad f) t = BadRecord t f
+abbrev pub Held : (ed : Edition) → Record → List ℕ → Type 0
+Held ed (Record.Good h) t = (h ≡ headOf t) × (10 + h .len ≤ length t) × GoodRec ed (recOf t)
+Held ed (Record.Bad f) t = BadRecord ed t f
 
 -- a record whose body has come whole, with a good number: the body decides
-judged-held : (t : List ℕ) → 10 + headOf t .len ≤ length t → numberOk (headOf t .number) ≡ true → Held (bodyJudged (judgeBody (bodyOf t)) (headOf t)) t
+judged-held : (ed : Edition) (t : List ℕ) → 10 + headOf t .len ≤ length t → numberOk (headOf t .number) ≡ true → Held ed (bodyJudged (judgeBody ed (bodyOf t)) (headOf t)) t
 unfolding numberOk bodyJudged
-judged-held t w o = go (judgement (bodyOf t))
+judged-held ed t w o = go (judgement ed (bodyOf t))
   where
-    go : Judgement (bodyOf t) → Held (bodyJudged (judgeBody (bodyOf t)) (headOf t)) t
+    go : Judgement ed (bodyOf t) → Held ed (bodyJudged (judgeBody ed (bodyOf t)) (headOf t)) t
     go (good k e g z) =
         let r = both-true {a = leb 1 (field t 0 8)} {b = leb (field t 0 8) lastNumber} o in
         rw e (
@@ -133,26 +134,26 @@ judged-held t w o = go (judgement (bodyOf t))
         )
     go (bad-judged f e g h) = rw e (bad-body f w o h)
 
-pub record-held : (t : List ℕ) → Held (readRecord t) t
+pub record-held : (ed : Edition) (t : List ℕ) → Held ed (readRecord ed t) t
 unfolding readRecord
-record-held t =
-    pick-ind (λ r. Held r t) (ltb (length t) 10) _ _ (λ a. no-room (omega (arith, ltb-true (length t) 10 a)))
-    (λ a. pick-ind (λ r. Held r t) (ltb (length t - 10) (field t 8 2)) _ _ (λ b. no-room (omega (arith, ltb-true (length t - 10) (field t 8 2) b)))
+record-held ed t =
+    pick-ind (λ r. Held ed r t) (ltb (length t) 10) _ _ (λ a. no-room (omega (arith, ltb-true (length t) 10 a)))
+    (λ a. pick-ind (λ r. Held ed r t) (ltb (length t - 10) (field t 8 2)) _ _ (λ b. no-room (omega (arith, ltb-true (length t - 10) (field t 8 2) b)))
     (λ b.
     let w : 10 + field t 8 2 ≤ length t = omega (arith, ltb-false (length t) 10 a, ltb-false (length t - 10) (field t 8 2) b) in
-    pick-ind (λ r. Held r t) (numberOk (field t 0 8)) _ _ (λ o. judged-held t w o) (λ o. bad-number w o)))
+    pick-ind (λ r. Held ed r t) (numberOk (field t 0 8)) _ _ (λ o. judged-held ed t w o) (λ o. bad-number w o)))
 
 -- the body of a record that is whole has the length that its header says
 pub body-length : (t : List ℕ) → 10 + headOf t .len ≤ length t → length (bodyOf t) ≡ headOf t .len
 unfolding bodyOf
 body-length t w = length-take-le (field t 8 2) (drop 10 t) (rw length-drop (omega arith))
 
-pub record-within : (t : List ℕ) (f : Fault) → BadRecord t f → (f .at ≤ length t) × (2 ≤ f .number) × (f .number ≤ 5)
-record-within t _ (no-room l) = (omega arith, omega arith, omega arith)
-record-within t _ (bad-number w o) = (omega arith, omega arith, omega arith)
-record-within t _ (bad-body f w o h) = (omega (arith, body-within (bodyOf t) f h, body-length t w), by-number h .0, by-number h .1)
+pub record-within : (ed : Edition) (t : List ℕ) (f : Fault) → BadRecord ed t f → (f .at ≤ length t) × (2 ≤ f .number) × (f .number ≤ 5)
+record-within ed t _ (no-room l) = (omega arith, omega arith, omega arith)
+record-within ed t _ (bad-number w o) = (omega arith, omega arith, omega arith)
+record-within ed t _ (bad-body f w o h) = (omega (arith, body-within ed (bodyOf t) f h, body-length t w), by-number h .0, by-number h .1)
   where
-    by-number : BadBody (bodyOf t) f → (2 ≤ f .number) × (f .number ≤ 5)
+    by-number : BadBody ed (bodyOf t) f → (2 ≤ f .number) × (f .number ≤ 5)
     by-number (inl h) = (omega (arith, h .0), omega (arith, h .0))
     by-number (inr h) = (omega (arith, h .0), omega (arith, h .0))
 
@@ -162,29 +163,29 @@ behind-cong F G t (Record.Good h) e = ap (before (10 + h .len) (recOf t)) (e (h 
 behind-cong F G t (Record.Bad f) e = refl
 
 -- more turns than there are bytes change nothing
-pub enough : (f g : ℕ) (t : List ℕ) → length t ≤ f → length t ≤ g → framesFrom f t ≡ framesFrom g t
+pub enough : (ed : Edition) (f g : ℕ) (t : List ℕ) → length t ≤ f → length t ≤ g → framesFrom ed f t ≡ framesFrom ed g t
 unfolding framesFrom pick
-enough zero zero t a b = refl
-enough zero (suc g) t a b = simp (le-ltb 0 (length t) a)
-enough (suc f) zero t a b = simp (le-ltb 0 (length t) b)
-enough (suc f) (suc g) t a b =
+enough ed zero zero t a b = refl
+enough ed zero (suc g) t a b = simp (le-ltb 0 (length t) a)
+enough ed (suc f) zero t a b = simp (le-ltb 0 (length t) b)
+enough ed (suc f) (suc g) t a b =
     ap (λ x. pick (ltb 0 (length t)) x (records []))
-    (behind-cong (framesFrom f) (framesFrom g) t (readRecord t)
-    (λ n. enough f g (drop (10 + n) t) (rw length-drop (omega arith)) (rw length-drop (omega arith))))
+    (behind-cong (framesFrom ed f) (framesFrom ed g) t (readRecord ed t)
+    (λ n. enough ed f g (drop (10 + n) t) (rw length-drop (omega arith)) (rw length-drop (omega arith))))
 
 -- one record
-pub frames-step : (f : ℕ) (t : List ℕ) → 0 < length t → length t ≤ f → framesFrom f t ≡ behind (framesFrom f) t (readRecord t)
+pub frames-step : (ed : Edition) (f : ℕ) (t : List ℕ) → 0 < length t → length t ≤ f → framesFrom ed f t ≡ behind (framesFrom ed f) t (readRecord ed t)
 unfolding framesFrom pick
-frames-step zero t a b = absurd (omega arith)
-frames-step (suc f) t a b =
+frames-step ed zero t a b = absurd (omega arith)
+frames-step ed (suc f) t a b =
     simp (lt-ltb 0 (length t) a)
-    (behind-cong (framesFrom f) (framesFrom (suc f)) t (readRecord t)
-    (λ n. enough f (suc f) (drop (10 + n) t) (rw length-drop (omega arith)) (rw length-drop (omega arith))))
+    (behind-cong (framesFrom ed f) (framesFrom ed (suc f)) t (readRecord ed t)
+    (λ n. enough ed f (suc f) (drop (10 + n) t) (rw length-drop (omega arith)) (rw length-drop (omega arith))))
 
-pub frames-end : (f : ℕ) (p : List ℕ) (at : ℕ) → length p ≤ at → framesFrom f (drop at p) ≡ records []
+pub frames-end : (ed : Edition) (f : ℕ) (p : List ℕ) (at : ℕ) → length p ≤ at → framesFrom ed f (drop at p) ≡ records []
 unfolding framesFrom pick
-frames-end zero p at h = refl
-frames-end (suc f) p at h = simp (le-ltb 0 (length (drop at p)) (rw length-drop (omega arith)))
+frames-end ed zero p at h = refl
+frames-end ed (suc f) p at h = simp (le-ltb 0 (length (drop at p)) (rw length-drop (omega arith)))
 
 -- an answer, with i records in n bytes before it
 unfoldable pub more : ℕ → ℕ → Packet → Packet
@@ -208,68 +209,68 @@ told-before n i m c (records cs) = ap Packet.Good (sum i (length cs))
     sum a b = omega arith
 
 -- a turn of the loop over a packet: i records lie before `at`, and r is what was read there
-module _ (p : List ℕ) (at i : ℕ) (r : Record) (in-p : at < length p) (read : r ≡ readRecord (take (length p - at) (drop at p))) where
-  pub here : readRecord (drop at p) ≡ r
-  here = sym (read ∙ ap readRecord (rest p at))
+module _ (ed : Edition) (p : List ℕ) (at i : ℕ) (r : Record) (in-p : at < length p) (read : r ≡ readRecord ed (take (length p - at) (drop at p))) where
+  pub here : readRecord ed (drop at p) ≡ r
+  here = sym (read ∙ ap (readRecord ed) (rest p at))
 
-  stepped : framesFrom (length p) (drop at p) ≡ behind (framesFrom (length p)) (drop at p) r
+  stepped : framesFrom ed (length p) (drop at p) ≡ behind (framesFrom ed (length p)) (drop at p) r
   stepped =
-      frames-step (length p) (drop at p) (rw length-drop (omega arith)) (rw length-drop (omega arith))
-      ∙ ap (behind (framesFrom (length p)) (drop at p)) here
+      frames-step ed (length p) (drop at p) (rw length-drop (omega arith)) (rw length-drop (omega arith))
+      ∙ ap (behind (framesFrom ed (length p)) (drop at p)) here
 
   -- a bad one is bad within the packet or at its end, and its fault is the packet's, `at` bytes further on
-  pub at-bad : (f : Fault) → r ≡ Record.Bad f → (at + f .at ≤ length p) × (more at i (told (framesFrom (length p) (drop at p))) ≡ Packet.Bad (shifted at f))
+  pub at-bad : (f : Fault) → r ≡ Record.Bad f → (at + f .at ≤ length p) × (more at i (told (framesFrom ed (length p) (drop at p))) ≡ Packet.Bad (shifted at f))
   unfolding behind told more
   at-bad f e =
-      let w : BadRecord (drop at p) f = subst (λ (x : Record). Held x (drop at p)) (here ∙ e) (record-held (drop at p)) in (
-        omega (arith, length-drop at p, record-within (drop at p) f w .0),
-        ap (λ x. more at i (told x)) (stepped ∙ ap (behind (framesFrom (length p)) (drop at p)) e),
+      let w : BadRecord ed (drop at p) f = subst (λ (x : Record). Held ed x (drop at p)) (here ∙ e) (record-held ed (drop at p)) in (
+        omega (arith, length-drop at p, record-within ed (drop at p) f w .0),
+        ap (λ x. more at i (told x)) (stepped ∙ ap (behind (framesFrom ed (length p)) (drop at p)) e),
       )
 
-  pub at-good : (h : Head) → r ≡ Record.Good h → (at + (10 + h .len) ≤ length p) × (more at i (told (framesFrom (length p) (drop at p))) ≡ more (at + (10 + h .len)) (i + 1) (told (framesFrom (length p) (drop (at + (10 + h .len)) p))))
+  pub at-good : (h : Head) → r ≡ Record.Good h → (at + (10 + h .len) ≤ length p) × (more at i (told (framesFrom ed (length p) (drop at p))) ≡ more (at + (10 + h .len)) (i + 1) (told (framesFrom ed (length p) (drop (at + (10 + h .len)) p))))
   unfolding behind
   at-good h e =
-      let w : 10 + h .len ≤ length (drop at p) = subst (λ (x : Record). Held x (drop at p)) (here ∙ e) (record-held (drop at p)) .1 in (
+      let w : 10 + h .len ≤ length (drop at p) = subst (λ (x : Record). Held ed x (drop at p)) (here ∙ e) (record-held ed (drop at p)) .1 in (
         omega (arith, length-drop at p, w),
-        ap (λ x. more at i (told x)) (stepped ∙ ap (behind (framesFrom (length p)) (drop at p)) e)
-            ∙ told-before at i (10 + h .len) (recOf (drop at p)) (framesFrom (length p) (drop (10 + h .len) (drop at p)))
-            ∙ ap (λ x. more (at + (10 + h .len)) (i + 1) (told (framesFrom (length p) x))) (drop-drop (10 + h .len) at p),
+        ap (λ x. more at i (told x)) (stepped ∙ ap (behind (framesFrom ed (length p)) (drop at p)) e)
+            ∙ told-before at i (10 + h .len) (recOf (drop at p)) (framesFrom ed (length p) (drop (10 + h .len) (drop at p)))
+            ∙ ap (λ x. more (at + (10 + h .len)) (i + 1) (told (framesFrom ed (length p) x))) (drop-drop (10 + h .len) at p),
       )
 
 -- "records from the front, each by 2, 5, 3, 4": what is wrong where good records lead to is what the packet is refused by, so many bytes further on
-reached-bad : (p : List ℕ) (at : ℕ) (w : Why) → Reached p at → framesFrom (length p) (drop at p) ≡ bad w → framesFrom (length p) p ≡ bad (later at w)
+reached-bad : (ed : Edition) (p : List ℕ) (at : ℕ) (w : Why) → Reached ed p at → framesFrom ed (length p) (drop at p) ≡ bad w → framesFrom ed (length p) p ≡ bad (later at w)
 unfolding behind before
-reached-bad p _ w at-front e = e ∙ ap bad (sym (later-none w))
-reached-bad p _ w (past-good at h r l g) e =
-    reached-bad p at (later (10 + h .len) w) r
-    (frames-step (length p) (drop at p) (rw length-drop (omega arith)) (rw length-drop (omega arith))
-    ∙ (ap (behind (framesFrom (length p)) (drop at p)) g ∙ ap (before (10 + h .len) (recOf (drop at p))) (ap (framesFrom (length p)) (drop-drop (10 + h .len) at p) ∙ e)))
+reached-bad ed p _ w at-front e = e ∙ ap bad (sym (later-none w))
+reached-bad ed p _ w (past-good at h r l g) e =
+    reached-bad ed p at (later (10 + h .len) w) r
+    (frames-step ed (length p) (drop at p) (rw length-drop (omega arith)) (rw length-drop (omega arith))
+    ∙ (ap (behind (framesFrom ed (length p)) (drop at p)) g ∙ ap (before (10 + h .len) (recOf (drop at p))) (ap (framesFrom ed (length p)) (drop-drop (10 + h .len) at p) ∙ e)))
     ∙ ap bad (later-later at (10 + h .len) w)
 
-pub first-bad : (p : List ℕ) (at : ℕ) (f : Fault) → length p ≤ packetMost → at < length p → Reached p at → readRecord (drop at p) ≡ Record.Bad f → framing p ≡ bad (placed (shifted at f))
+pub first-bad : (ed : Edition) (p : List ℕ) (at : ℕ) (f : Fault) → length p ≤ packetMost → at < length p → Reached ed p at → readRecord ed (drop at p) ≡ Record.Bad f → framing ed p ≡ bad (placed (shifted at f))
 unfolding framing behind pick both
-first-bad p at f m l w e =
+first-bad ed p at f m l w e =
     let some : 1 ≤ length p = omega arith in
     simp (le-leb 1 (length p) some, le-leb (length p) packetMost m)
-    (reached-bad p at (placed f) w
-    (frames-step (length p) (drop at p) (rw length-drop (omega arith)) (rw length-drop (omega arith)) ∙ ap (behind (framesFrom (length p)) (drop at p)) e))
+    (reached-bad ed p at (placed f) w
+    (frames-step ed (length p) (drop at p) (rw length-drop (omega arith)) (rw length-drop (omega arith)) ∙ ap (behind (framesFrom ed (length p)) (drop at p)) e))
 
 -- the loop's end: i records and no more
-pub at-end : (p : List ℕ) (at i : ℕ) → length p ≤ at → more at i (told (framesFrom (length p) (drop at p))) ≡ Packet.Good i
+pub at-end : (ed : Edition) (p : List ℕ) (at i : ℕ) → length p ≤ at → more at i (told (framesFrom ed (length p) (drop at p))) ≡ Packet.Good i
 unfolding told more
-at-end p at i h = ap (λ x. more at i (told x)) (frames-end (length p) p at h) ∙ ap Packet.Good (add-zero i)
+at-end ed p at i h = ap (λ x. more at i (told x)) (frames-end ed (length p) p at h) ∙ ap Packet.Good (add-zero i)
 
 -- a packet of a right size is its records; else 1
-pub packet-is : (p : List ℕ) → 1 ≤ length p → length p ≤ packetMost → readPacket p ≡ told (framesFrom (length p) p)
+pub packet-is : (ed : Edition) (p : List ℕ) → 1 ≤ length p → length p ≤ packetMost → readPacket ed p ≡ told (framesFrom ed (length p) p)
 unfolding readPacket framing pick both
-packet-is p a b = simp (le-leb 1 (length p) a, le-leb (length p) packetMost b)
+packet-is ed p a b = simp (le-leb 1 (length p) a, le-leb (length p) packetMost b)
 
-pub packet-long : (p : List ℕ) → packetMost < length p → Packet.Refused (refusal 1) ≡ readPacket p
+pub packet-long : (ed : Edition) (p : List ℕ) → packetMost < length p → Packet.Refused (refusal 1) ≡ readPacket ed p
 unfolding readPacket framing told pick both
-packet-long p a =
+packet-long ed p a =
     let b : 1 ≤ length p = omega arith in
     simp (le-leb 1 (length p) b, lt-leb (length p) packetMost a)
 
-pub packet-empty : (p : List ℕ) → length p < 1 → Packet.Refused (refusal 1) ≡ readPacket p
+pub packet-empty : (ed : Edition) (p : List ℕ) → length p < 1 → Packet.Refused (refusal 1) ≡ readPacket ed p
 unfolding readPacket framing told pick both
-packet-empty p a = simp (lt-leb 1 (length p) a)
+packet-empty ed p a = simp (lt-leb 1 (length p) a)

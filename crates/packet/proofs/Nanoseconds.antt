@@ -6,6 +6,7 @@ use mathlib.Core.Bool.{true, true≢false}
 use mathlib.Core.List.{List}
 use native.Mathlib.Omega.{arith}
 use lib.ListN.{length, drop, length-drop}
+use Rattle.editions.specs.declared.Edition.{Edition}
 use Rattle.wire.specs.Records.{Rec, bad}
 use Rattle.fields.specs.Fields.{badAt}
 use Rattle.body.specs.Read.{judgeBody}
@@ -19,21 +20,21 @@ use Rattle.packet.specs.Nanoseconds.{PastIn}
 use Rattle.packet.proofs.Laws.{GoodRec, body-cut, record-judged, first-bad}
 
 -- a record with nothing wrong before such a body
-past-record : (t : List ℕ) → 10 + headOf t .len ≤ length t → numberOk (headOf t .number) ≡ true → PastSecond (bodyOf t) → readRecord t ≡ Record.Bad (badAt 4 11)
+past-record : (ed : Edition) (t : List ℕ) → 10 + headOf t .len ≤ length t → numberOk (headOf t .number) ≡ true → PastSecond (bodyOf t) → readRecord ed t ≡ Record.Bad (badAt 4 11)
 unfolding bodyJudged
-past-record t w o p =
+past-record ed t w o p =
     let a : 10 ≤ length t = omega arith in
     let b : headOf t .len ≤ length t - 10 = omega arith in
-    let e : Judged.Bad (badAt 4 1) ≡ judgeBody _ = sym (ap judgeBody (body-cut t (headOf t .len) refl) ∙ past-judged (bodyOf t) p) in
-    sym (record-judged t (headOf t) refl a b o (Judged.Bad (badAt 4 1)) e)
+    let e : Judged.Bad (badAt 4 1) ≡ judgeBody ed _ = sym (ap (judgeBody ed) (body-cut t (headOf t .len) refl) ∙ past-judged ed (bodyOf t) p) in
+    sym (record-judged ed t (headOf t) refl a b o (Judged.Bad (badAt 4 1)) e)
 
 -- "Larger is refused with 4 and its offset": the packet whole, at the Timestamp
-pub past-packet : (p : List ℕ) (x : PastIn p) → framing p ≡ bad (placed (badAt 4 (x .at + 11)))
-past-packet p x =
+pub past-packet : (ed : Edition) (p : List ℕ) (x : PastIn ed p) → framing ed p ≡ bad (placed (badAt 4 (x .at + 11)))
+past-packet ed p x =
     let t : List ℕ = drop (x .at) p in
-    first-bad p (x .at) (badAt 4 11) (x .size) (omega (arith, x .inside)) (x .reached)
-    (past-record t (rw length-drop (omega (arith, x .inside))) (x .number-good) (x .past))
+    first-bad ed p (x .at) (badAt 4 11) (x .size) (omega (arith, x .inside)) (x .reached)
+    (past-record ed t (rw length-drop (omega (arith, x .inside))) (x .number-good) (x .past))
 
 -- and no record of an accepted one is such
-pub past-none : (c : Rec) → GoodRec c → PastSecond (c .body) → ⊥
-past-none c g p = true≢false (sym (g .body-good) ∙ past-bad (c .body) p)
+pub past-none : (ed : Edition) (c : Rec) → GoodRec ed c → PastSecond (c .body) → ⊥
+past-none ed c g p = true≢false (sym (g .body-good) ∙ past-bad ed (c .body) p)

@@ -7,6 +7,7 @@ use lib.Dec.{ltb, leb}
 use Rattle.facts.specs.Pick.{both}
 use Rattle.facts.specs.Limits.{packetMost}
 use Rattle.facts.proofs.Picks.{pick-ind}
+use Rattle.editions.specs.declared.Edition.{Edition}
 use Rattle.wire.specs.Le.{Bytes, field}
 use Rattle.wire.specs.Records.{Rec, bad, records}
 use Rattle.wire.proofs.Bytewise.{bytes-take, bytes-drop}
@@ -38,14 +39,14 @@ unfolding behind
 behind-bytes rest t (Record.Good x) h f = before-bytes (10 + x .len) (recOf t) (rest (drop (10 + x .len) t)) (body-bytes t h) (f (drop (10 + x .len) t) (bytes-drop (10 + x .len) t h))
 behind-bytes rest t (Record.Bad w) h f = tt
 
-frames-bytes : (f : ℕ) (t : List ℕ) → Bytes t → Bytewise (framesFrom f t)
+frames-bytes : (ed : Edition) (f : ℕ) (t : List ℕ) → Bytes t → Bytewise (framesFrom ed f t)
 unfolding framesFrom
-frames-bytes zero t h = tt
-frames-bytes (suc f) t h =
-    pick-ind Bytewise (ltb 0 (length t)) (behind (framesFrom f) t (readRecord t)) (records [])
-    (λ _. behind-bytes (framesFrom f) t (readRecord t) h (frames-bytes f))
+frames-bytes ed zero t h = tt
+frames-bytes ed (suc f) t h =
+    pick-ind Bytewise (ltb 0 (length t)) (behind (framesFrom ed f) t (readRecord ed t)) (records [])
+    (λ _. behind-bytes (framesFrom ed f) t (readRecord ed t) h (frames-bytes ed f))
     (λ _. tt)
 
-pub framing-bytes : (p : List ℕ) → Bytes p → Bytewise (framing p)
+pub framing-bytes : (ed : Edition) (p : List ℕ) → Bytes p → Bytewise (framing ed p)
 unfolding framing
-framing-bytes p h = pick-ind Bytewise (both (leb 1 (length p)) (leb (length p) packetMost)) (framesFrom (length p) p) (bad (alone (refusal 1))) (λ _. frames-bytes (length p) p h) (λ _. tt)
+framing-bytes ed p h = pick-ind Bytewise (both (leb 1 (length p)) (leb (length p) packetMost)) (framesFrom ed (length p) p) (bad (alone (refusal 1))) (λ _. frames-bytes ed (length p) p h) (λ _. tt)

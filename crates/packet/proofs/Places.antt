@@ -14,6 +14,7 @@ use borrow.Author.Tests.{ltb-true, leb-true}
 use Rattle.facts.specs.Limits.{packetMost, entrySize}
 use Rattle.facts.specs.Pick.{both}
 use Rattle.facts.proofs.Picks.{pick-cases, both-true}
+use Rattle.editions.specs.declared.Edition.{Edition}
 use Rattle.wire.specs.Records.{bad, records}
 use Rattle.fields.specs.declared.Fault.{Fault}
 use Rattle.body.specs.Places.{BadBody}
@@ -29,76 +30,76 @@ use Rattle.packet.proofs.Laws.{Held, record-held, body-length, shift-sh
 use Rattle.packet.proofs.Good.{bad-framing}
 
 -- what is wrong from `at` on, where good records have led
-record Found (p : List ℕ) (at : ℕ) (w : Why) : Type 0 where
+record Found (ed : Edition) (p : List ℕ) (at : ℕ) (w : Why) : Type 0 where
   fault : Fault
   why-is : w ≡ placed fault
-  place : BadPlace p (shifted at fault)
+  place : BadPlace ed p (shifted at fault)
 
 -- the records behind a good one; `again` is what is known of a packet's rest with one turn less
-module _ (f : ℕ) (p : List ℕ) (again : (at : ℕ) (w : Why) → Reached p at → framesFrom f (drop at p) ≡ bad w → Found p at w) (at : ℕ) (w : Why) (r : Reached p at) (l : at < length p) where
-  by-rest : (h : Head) → readRecord (drop at p) ≡ Record.Good h → (x : Framing) → framesFrom f (drop (10 + h .len) (drop at p)) ≡ x → before (10 + h .len) (recOf (drop at p)) x ≡ bad w → Found p at w
+module _ (ed : Edition) (f : ℕ) (p : List ℕ) (again : (at : ℕ) (w : Why) → Reached ed p at → framesFrom ed f (drop at p) ≡ bad w → Found ed p at w) (at : ℕ) (w : Why) (r : Reached ed p at) (l : at < length p) where
+  by-rest : (h : Head) → readRecord ed (drop at p) ≡ Record.Good h → (x : Framing) → framesFrom ed f (drop (10 + h .len) (drop at p)) ≡ x → before (10 + h .len) (recOf (drop at p)) x ≡ bad w → Found ed p at w
   unfolding before
   by-rest h g (records cs) x q = let z : _≡_ {A = ℕ} 0 1 = cc in absurd (omega arith)
   by-rest h g (bad v) x q =
       let n : ℕ = 10 + h .len in
-      let u : Found p (at + n) v = again (at + n) v (past-good at h r l g) (ap (framesFrom f) (sym (drop-drop n at p)) ∙ x) in
+      let u : Found ed p (at + n) v = again (at + n) v (past-good at h r l g) (ap (framesFrom ed f) (sym (drop-drop n at p)) ∙ x) in
       let y : later n v ≡ w = cc in
       record {
         fault = shifted n (u .fault);
         why-is = sym y ∙ ap (later n) (u .why-is);
-        place = subst (BadPlace p) (sym (shift-shift at n (u .fault))) (u .place);
+        place = subst (BadPlace ed p) (sym (shift-shift at n (u .fault))) (u .place);
       }
 
-  by-record : (c : Record) → readRecord (drop at p) ≡ c → Held c (drop at p) → behind (framesFrom f) (drop at p) c ≡ bad w → Found p at w
+  by-record : (c : Record) → readRecord ed (drop at p) ≡ c → Held ed c (drop at p) → behind (framesFrom ed f) (drop at p) c ≡ bad w → Found ed p at w
   unfolding behind
-  by-record (Record.Good h) g k q = by-rest h g (framesFrom f (drop (10 + h .len) (drop at p))) refl q
+  by-record (Record.Good h) g k q = by-rest h g (framesFrom ed f (drop (10 + h .len) (drop at p))) refl q
   by-record (Record.Bad a) g k q =
       let y : placed a ≡ w = cc in
       record { fault = a; why-is = sym y; place = record { start = at; reached = r; inside = l; fault = a; record-bad = k; place-is = refl } }
 
-found : (f : ℕ) (p : List ℕ) (at : ℕ) (w : Why) → Reached p at → framesFrom f (drop at p) ≡ bad w → Found p at w
+found : (ed : Edition) (f : ℕ) (p : List ℕ) (at : ℕ) (w : Why) → Reached ed p at → framesFrom ed f (drop at p) ≡ bad w → Found ed p at w
 unfolding framesFrom
-found zero p at w r e = let z : _≡_ {A = ℕ} 0 1 = cc in absurd (omega arith)
-found (suc f) p at w r e =
+found ed zero p at w r e = let z : _≡_ {A = ℕ} 0 1 = cc in absurd (omega arith)
+found ed (suc f) p at w r e =
     elim (pick-cases e) [
       | inl h ↦
           let l = ltb-true 0 (length (drop at p)) (h .0) in
-          by-record f p (found f p) at w r (omega (arith, length-drop at p, l)) (readRecord (drop at p)) refl (record-held (drop at p)) (h .1)
+          by-record ed f p (found ed f p) at w r (omega (arith, length-drop at p, l)) (readRecord ed (drop at p)) refl (record-held ed (drop at p)) (h .1)
       | inr h ↦ let q = h .1 in let z : _≡_ {A = ℕ} 0 1 = cc in absurd (omega arith)
     ]
 
 -- "Demand 1 reads "number and offset" for these four": all records before the one at fault are good, and that one is bad by that number at that byte
-pub bad-place : (p : List ℕ) (f : Fault) → readPacket p ≡ Packet.Bad f → BadPlace p f
+pub bad-place : (ed : Edition) (p : List ℕ) (f : Fault) → readPacket ed p ≡ Packet.Bad f → BadPlace ed p f
 unfolding framing
-bad-place p f e = elim (pick-cases (bad-framing p f e)) [ inl h ↦ at-start (found (length p) p 0 (placed f) at-front (h .1)) | inr h ↦ let q = h .1 in let z : _≡_ {A = ℕ} 0 1 = cc in absurd (omega arith) ]
+bad-place ed p f e = elim (pick-cases (bad-framing ed p f e)) [ inl h ↦ at-start (found ed (length p) p 0 (placed f) at-front (h .1)) | inr h ↦ let q = h .1 in let z : _≡_ {A = ℕ} 0 1 = cc in absurd (omega arith) ]
   where
-    at-start : Found p 0 (placed f) → BadPlace p f
+    at-start : Found ed p 0 (placed f) → BadPlace ed p f
     at-start u =
         let q = u .why-is in
         let y : u .fault ≡ f = cc in
-        subst (BadPlace p) (shift-none (u .fault) ∙ y) (u .place)
+        subst (BadPlace ed p) (shift-none (u .fault) ∙ y) (u .place)
 
 -- a packet that is refused with 4 has at that offset the first byte of a field out of range; all fields before it in that record are in range, and all records before that are good
-pub field-place : (p : List ℕ) (f : Fault) → readPacket p ≡ Packet.Bad f → f .number ≡ 4 → FieldPlace p (f .at)
-field-place p f e n = go (bad-place p f e)
+pub field-place : (ed : Edition) (p : List ℕ) (f : Fault) → readPacket ed p ≡ Packet.Bad f → f .number ≡ 4 → FieldPlace ed p (f .at)
+field-place ed p f e n = go (bad-place ed p f e)
   where
-    go : BadPlace p f → FieldPlace p (f .at)
+    go : BadPlace ed p f → FieldPlace ed p (f .at)
     go b = by-record (b .fault) (b .record-bad) (b .place-is)
       where
-        by-body : (g : Fault) → 10 + headOf (drop (b .start) p) .len ≤ length (drop (b .start) p) → numberOk (headOf (drop (b .start) p) .number) ≡ true → BadBody (bodyOf (drop (b .start) p)) g → f ≡ shifted (b .start) (shifted 10 g) → FieldPlace p (f .at)
+        by-body : (g : Fault) → 10 + headOf (drop (b .start) p) .len ≤ length (drop (b .start) p) → numberOk (headOf (drop (b .start) p) .number) ≡ true → BadBody ed (bodyOf (drop (b .start) p)) g → f ≡ shifted (b .start) (shifted 10 g) → FieldPlace ed p (f .at)
         by-body g w o (inl h) i = absurd (omega (arith, h .0, ap (λ (x : Fault). x .number) i, n))
         by-body g w o (inr h) i = record { start = b .start; reached = b .reached; whole = omega (arith, length-drop (b .start) p, b .inside, w); number-good = o; field-at = g .at; field-bad = h .1; place-is = ap (λ (x : Fault). x .at) i }
 
-        by-record : (a : Fault) → BadRecord (drop (b .start) p) a → f ≡ shifted (b .start) a → FieldPlace p (f .at)
+        by-record : (a : Fault) → BadRecord ed (drop (b .start) p) a → f ≡ shifted (b .start) a → FieldPlace ed p (f .at)
         by-record _ (no-room l) i = absurd (omega (arith, ap (λ (x : Fault). x .number) i, n))
         by-record _ (bad-number w o) i = absurd (omega (arith, ap (λ (x : Fault). x .number) i, n))
         by-record _ (bad-body g w o h) i = by-body g w o h i
 
 -- "the offset in the packet": below the packet's length, or equal to it just for an empty body at the end
-pub place-within : (p : List ℕ) (f : Fault) → readPacket p ≡ Packet.Bad f → (f .at < length p) ⊎ ((f .number ≡ 3) × EndPlace p (f .at))
-place-within p f e = go (bad-place p f e)
+pub place-within : (ed : Edition) (p : List ℕ) (f : Fault) → readPacket ed p ≡ Packet.Bad f → (f .at < length p) ⊎ ((f .number ≡ 3) × EndPlace ed p (f .at))
+place-within ed p f e = go (bad-place ed p f e)
   where
-    go : BadPlace p f → (f .at < length p) ⊎ ((f .number ≡ 3) × EndPlace p (f .at))
+    go : BadPlace ed p f → (f .at < length p) ⊎ ((f .number ≡ 3) × EndPlace ed p (f .at))
     go b = by-record (b .fault) (b .record-bad) (b .place-is)
       where
         t : List ℕ
@@ -107,7 +108,7 @@ place-within p f e = go (bad-place p f e)
         at-is : (a : Fault) → f ≡ shifted (b .start) a → f .at ≡ b .start + a .at
         at-is a i = ap (λ (x : Fault). x .at) i
 
-        at-body : (g : Fault) → 10 + headOf t .len ≤ length t → g .number ≡ 3 → g .at ≡ 0 → f ≡ shifted (b .start) (shifted 10 g) → Dec (f .at < length p) → (f .at < length p) ⊎ ((f .number ≡ 3) × EndPlace p (f .at))
+        at-body : (g : Fault) → 10 + headOf t .len ≤ length t → g .number ≡ 3 → g .at ≡ 0 → f ≡ shifted (b .start) (shifted 10 g) → Dec (f .at < length p) → (f .at < length p) ⊎ ((f .number ≡ 3) × EndPlace ed p (f .at))
         at-body g w n z i (yes l) = inl l
         at-body g w n z i (no l) =
             let s = at-is (shifted 10 g) i in
@@ -123,28 +124,28 @@ place-within p f e = go (bad-place p f e)
               },
             )
 
-        by-body : (g : Fault) → 10 + headOf t .len ≤ length t → BadBody (bodyOf t) g → f ≡ shifted (b .start) (shifted 10 g) → (f .at < length p) ⊎ ((f .number ≡ 3) × EndPlace p (f .at))
+        by-body : (g : Fault) → 10 + headOf t .len ≤ length t → BadBody ed (bodyOf t) g → f ≡ shifted (b .start) (shifted 10 g) → (f .at < length p) ⊎ ((f .number ≡ 3) × EndPlace ed p (f .at))
         by-body g w (inl h) i = at-body g w (h .0) (h .1) i (decLt (f .at) (length p))
-        by-body g w (inr h) i = inl (omega (arith, at-is (shifted 10 g) i, length-drop (b .start) p, b .inside, w, body-length t w, field-within (bodyOf t) (g .at) (h .1) .1))
+        by-body g w (inr h) i = inl (omega (arith, at-is (shifted 10 g) i, length-drop (b .start) p, b .inside, w, body-length t w, field-within ed (bodyOf t) (g .at) (h .1) .1))
 
-        by-record : (a : Fault) → BadRecord t a → f ≡ shifted (b .start) a → (f .at < length p) ⊎ ((f .number ≡ 3) × EndPlace p (f .at))
+        by-record : (a : Fault) → BadRecord ed t a → f ≡ shifted (b .start) a → (f .at < length p) ⊎ ((f .number ≡ 3) × EndPlace ed p (f .at))
         by-record a (no-room l) i = inl (omega (arith, at-is a i, b .inside))
         by-record a (bad-number w o) i = inl (omega (arith, at-is a i, b .inside))
         by-record _ (bad-body g w o h) i = by-body g w h i
 
 -- ---- an offset is a small number
-pub record-small : (t : List ℕ) (f : Fault) → Record.Bad f ≡ readRecord t → f .at ≤ 10 + entrySize
-record-small t f e = go f (subst (λ (r : Record). Held r t) (sym e) (record-held t))
+pub record-small : (ed : Edition) (t : List ℕ) (f : Fault) → Record.Bad f ≡ readRecord ed t → f .at ≤ 10 + entrySize
+record-small ed t f e = go f (subst (λ (r : Record). Held ed r t) (sym e) (record-held ed t))
   where
-    go : (f : Fault) → BadRecord t f → f .at ≤ 10 + entrySize
+    go : (f : Fault) → BadRecord ed t f → f .at ≤ 10 + entrySize
     go _ (no-room l) = omega arith
     go _ (bad-number w o) = omega arith
-    go _ (bad-body g w o h) = omega (arith, body-small (bodyOf t) g h)
+    go _ (bad-body g w o h) = omega (arith, body-small ed (bodyOf t) g h)
 
-pub packet-small : (p : List ℕ) (f : Fault) → readPacket p ≡ Packet.Bad f → f .at ≤ packetMost
+pub packet-small : (ed : Edition) (p : List ℕ) (f : Fault) → readPacket ed p ≡ Packet.Bad f → f .at ≤ packetMost
 unfolding framing
-packet-small p f e = elim (pick-cases (bad-framing p f e)) [ inl h ↦ within (h .0) (place-within p f e) | inr h ↦ let q = h .1 in let z : _≡_ {A = ℕ} 0 1 = cc in absurd (omega arith) ]
+packet-small ed p f e = elim (pick-cases (bad-framing ed p f e)) [ inl h ↦ within (h .0) (place-within ed p f e) | inr h ↦ let q = h .1 in let z : _≡_ {A = ℕ} 0 1 = cc in absurd (omega arith) ]
   where
-    within : both (leb 1 (length p)) (leb (length p) packetMost) ≡ true → (f .at < length p) ⊎ ((f .number ≡ 3) × EndPlace p (f .at)) → f .at ≤ packetMost
+    within : both (leb 1 (length p)) (leb (length p) packetMost) ≡ true → (f .at < length p) ⊎ ((f .number ≡ 3) × EndPlace ed p (f .at)) → f .at ≤ packetMost
     within t (inl l) = omega (arith, l, leb-true (length p) packetMost (both-true {a = leb 1 (length p)} t .1))
     within t (inr x) = omega (arith, x .1 .place-is, leb-true (length p) packetMost (both-true {a = leb 1 (length p)} t .1))

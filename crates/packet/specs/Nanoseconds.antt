@@ -5,14 +5,15 @@ use mathlib.Core.Bool.{true}
 use mathlib.Core.List.{List}
 use lib.ListN.{length, drop}
 use Rattle.facts.specs.Limits.{packetMost}
+use Rattle.editions.specs.declared.Edition.{Edition}
 use Rattle.body.specs.Nanoseconds.{PastSecond}
 use Rattle.packet.specs.Record.{numberOk, headOf, bodyOf}
 use Rattle.packet.specs.Front.{Reached}
 
 -- a packet of a good size with a record, behind good ones, that has nothing wrong before its body, and such a body
-pub record PastIn (p : List ℕ) : Type 0 where
+pub record PastIn (ed : Edition) (p : List ℕ) : Type 0 where
   pub at : ℕ
-  pub reached : Reached p at
+  pub reached : Reached ed p at
   pub inside : at + (10 + headOf (drop at p) .len) ≤ length p
   pub size : length p ≤ packetMost
   pub number-good : numberOk (headOf (drop at p) .number) ≡ true

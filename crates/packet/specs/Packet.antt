@@ -5,6 +5,7 @@ use lib.ListN.{length, drop}
 use lib.Dec.{ltb, leb}
 use Rattle.facts.specs.Limits.{packetMost}
 use Rattle.facts.specs.Pick.{pick, both}
+use Rattle.editions.specs.declared.Edition.{Edition}
 use Rattle.wire.specs.Records.{Rec, Frames, bad, records}
 use Rattle.fields.specs.Fields.{refusal}
 use Rattle.fields.specs.declared.Refusal.{Refusal}
@@ -38,13 +39,13 @@ behind rest t (Record.Good h) = before (10 + h .len) (recOf t) (rest (drop (10 +
 behind rest t (Record.Bad f) = bad (placed f)
 
 -- "records from the front", at most so many
-unfoldable pub framesFrom : ℕ → List ℕ → Framing
-framesFrom zero t = records []
-framesFrom (suc f) t = pick (ltb 0 (length t)) (behind (framesFrom f) t (readRecord t)) (records [])
+unfoldable pub framesFrom : Edition → ℕ → List ℕ → Framing
+framesFrom ed zero t = records []
+framesFrom ed (suc f) t = pick (ltb 0 (length t)) (behind (framesFrom ed f) t (readRecord ed t)) (records [])
 
 -- 1, then the records (no packet has more records than bytes)
-unfoldable pub framing : List ℕ → Framing
-framing p = pick (both (leb 1 (length p)) (leb (length p) packetMost)) (framesFrom (length p) p) (bad (alone (refusal 1)))
+unfoldable pub framing : Edition → List ℕ → Framing
+framing ed p = pick (both (leb 1 (length p)) (leb (length p) packetMost)) (framesFrom ed (length p) p) (bad (alone (refusal 1)))
 
 -- the answer to a packet: the number of its records, or why it is refused
 unfoldable pub told : Framing → Packet
@@ -52,8 +53,8 @@ told (bad (alone r)) = Packet.Refused r
 told (bad (placed f)) = Packet.Bad f
 told (records cs) = Packet.Good (length cs)
 
-unfoldable pub readPacket : List ℕ → Packet
-readPacket p = told (framing p)
+unfoldable pub readPacket : Edition → List ℕ → Packet
+readPacket ed p = told (framing ed p)
 
 -- document 01's number of each answer, 0 for a good packet
 abbrev pub packetNumber : Packet → ℕ

@@ -6,6 +6,7 @@ use lib.ListN.{length, take, drop}
 use lib.Dec.{ltb, leb}
 use Rattle.facts.specs.Limits.{lastNumber}
 use Rattle.facts.specs.Pick.{pick, both}
+use Rattle.editions.specs.declared.Edition.{Edition}
 use Rattle.wire.specs.Le.{field}
 use Rattle.wire.specs.Records.{Rec}
 use Rattle.fields.specs.Fields.{badAt}
@@ -44,12 +45,12 @@ bodyJudged (Judged.Good k) h = Record.Good h
 bodyJudged (Judged.Bad f) h = Record.Bad (shifted 10 f)
 
 -- each record is judged by 2, 5, 3, 4
-unfoldable pub readRecord : List ℕ → Record
-readRecord t =
+unfoldable pub readRecord : Edition → List ℕ → Record
+readRecord ed t =
     pick (ltb (length t) 10) (badRecord 2)
     (pick (ltb (length t - 10) (field t 8 2)) (badRecord 2)
     (pick (numberOk (field t 0 8))
-    (bodyJudged (judgeBody (bodyOf t)) (headOf t))
+    (bodyJudged (judgeBody ed (bodyOf t)) (headOf t))
     (badRecord 5)))
 
 -- document 01's number of each answer, 0 for a good record

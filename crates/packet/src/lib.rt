@@ -1,5 +1,6 @@
 // Reads a packet: records back to back, each judged by 2, 5, 3, 4 from the front, before anything is done with any of them.
 use body::Judged;
+use editions::Edition;
 use fields::Fault;
 use fields::Refusal;
 ghost use mathlib.Core.Path.{_≡_};
@@ -65,8 +66,8 @@ pub fn body_at(p: &[u8], at: usize) -> &[u8]
 }
 
 // Judges the first record of what is left: 2, 5, then what the body's judge says of its part.
-pub fn read_record(t: &[u8]) -> Record
-    ensures { λ r. ⌜ r ≡ readRecord (now (t .entry)) ⌝ }
+pub fn read_record(e: Edition, t: &[u8]) -> Record
+    ensures { λ r. ⌜ r ≡ readRecord e (now (t .entry)) ⌝ }
 {
     if t.len() < 10 {
         return Record::Bad(Fault { number: 2, at: 0 });
@@ -79,7 +80,7 @@ pub fn read_record(t: &[u8]) -> Record
     if !number_ok(h.number) {
         return Record::Bad(Fault { number: 5, at: 0 });
     }
-    match body::judge_body(&t[10..10 + n]) {
+    match body::judge_body(e, &t[10..10 + n]) {
         Judged::Good(_) => Record::Good(h),
         Judged::Bad(f) => Record::Bad(Fault {
             number: f.number,
@@ -88,9 +89,9 @@ pub fn read_record(t: &[u8]) -> Record
     }
 }
 
-// Judges a whole packet: 1, then its records from the front.
-pub fn read_packet(p: &[u8]) -> Packet
-    ensures { λ r. ⌜ r ≡ readPacket (now (p .entry)) ⌝ }
+// Judges a whole packet of an edition: 1, then its records from the front.
+pub fn read_packet(e: Edition, p: &[u8]) -> Packet
+    ensures { λ r. ⌜ r ≡ readPacket e (now (p .entry)) ⌝ }
 {
     if p.len() < 1 {
         return Packet::Refused(Refusal { number: 1 });
@@ -101,7 +102,7 @@ pub fn read_packet(p: &[u8]) -> Packet
     let mut at: usize = 0;
     let mut records: usize = 0;
     while at < p.len() {
-        match read_record(&p[at..]) {
+        match read_record(e, &p[at..]) {
             Record::Bad(f) => {
                 let fault = Fault {
                     number: f.number,

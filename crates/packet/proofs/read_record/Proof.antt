@@ -10,7 +10,7 @@ use Rattle.packet.proofs.read_record.Statement.{statement}
 use Rattle.packet.proofs.read_record.Tie as tie
 
 returns : tie.Need-returns
-returns c = short-header (c .before .before .args .t .now) (c .if1 .taken)
+returns c = short-header (c .before .before .args .e) (c .before .before .args .t .now) (c .if1 .taken)
 
 head-at-requires : tie.Need-head-at-requires
 head-at-requires c κs = search needs
@@ -19,13 +19,13 @@ sub-if2 : tie.Need-sub-if2
 sub-if2 c = search needs
 
 returns-2 : tie.Need-returns-2
-returns-2 c = short-body (c .before .before .before .before .args .t .now) (c .before .head-at .result) (c .before .head-at .ensures) (c .before .before .if1 .left) (c .if2 .taken)
+returns-2 c = short-body (c .before .before .before .before .args .e) (c .before .before .before .before .args .t .now) (c .before .head-at .result) (c .before .head-at .ensures) (c .before .before .if1 .left) (c .if2 .taken)
 
 number-ok-requires : tie.Need-number-ok-requires
 number-ok-requires c κs = search needs
 
 returns-3 : tie.Need-returns-3
-returns-3 c = wrong-number (c .before .before .before .before .before .before .args .t .now) (c .before .before .before .head-at .result) (c .before .before .before .head-at .ensures) (c .before .before .before .before .if1 .left) (c .before .before .if2 .left) (sym (c .before .number-ok .ensures) ∙ not-true (c .before .number-ok .result) (c .if3 .taken))
+returns-3 c = wrong-number (c .before .before .before .before .before .before .args .e) (c .before .before .before .before .before .before .args .t .now) (c .before .before .before .head-at .result) (c .before .before .before .head-at .ensures) (c .before .before .before .before .if1 .left) (c .before .before .if2 .left) (sym (c .before .number-ok .ensures) ∙ not-true (c .before .number-ok .result) (c .if3 .taken))
 
 add-judge-body : tie.Need-add-judge-body
 add-judge-body c = search needs
@@ -48,16 +48,16 @@ enum-told c = search needs
 enum-known-f : tie.Need-enum-known-f
 enum-known-f c = search needs
 
-add-t17 : tie.Need-add-t17
-add-t17 c = omega (arith, judged-inside (c .before .before .before .before .before .before .before .before .before .before .before .before .args .t .now) (c .before .before .before .before .before .before .before .before .before .head-at .result) (c .before .before .before .before .before .before .before .before .before .head-at .ensures) (c .before .before .before .before .before .before .before .before .before .before .if1 .left) (c .before .before .before .before .before .before .before .before .if2 .left) _ (sym (c .before .before .f .given .1) ∙ c .before .before .before .before .judge-body .ensures))
+add-t18 : tie.Need-add-t18
+add-t18 c = omega (arith, judged-inside (c .before .before .before .before .before .before .before .before .before .before .before .before .args .e) (c .before .before .before .before .before .before .before .before .before .before .before .before .args .t .now) (c .before .before .before .before .before .before .before .before .before .head-at .result) (c .before .before .before .before .before .before .before .before .before .head-at .ensures) (c .before .before .before .before .before .before .before .before .before .before .if1 .left) (c .before .before .before .before .before .before .before .before .if2 .left) _ (sym (c .before .before .f .given .1) ∙ c .before .before .before .before .judge-body .ensures))
 
 returns-4 : tie.Need-returns-4
 unfolding bodyJudged
-returns-4 c = record-judged (c .before .before .before .before .before .before .before .before .before .before .args .t .now) (c .before .before .before .before .before .before .before .head-at .result) (c .before .before .before .before .before .before .before .head-at .ensures) (c .before .before .before .before .before .before .before .before .if1 .left) (c .before .before .before .before .before .before .if2 .left) (sym (c .before .before .before .before .before .number-ok .ensures) ∙ not-false (c .before .before .before .before .before .number-ok .result) (c .before .before .before .before .if3 .left)) _ (sym (c .enum-told .given .1) ∙ c .before .before .judge-body .ensures)
+returns-4 c = record-judged (c .before .before .before .before .before .before .before .before .before .before .args .e) (c .before .before .before .before .before .before .before .before .before .before .args .t .now) (c .before .before .before .before .before .before .before .head-at .result) (c .before .before .before .before .before .before .before .head-at .ensures) (c .before .before .before .before .before .before .before .before .if1 .left) (c .before .before .before .before .before .before .if2 .left) (sym (c .before .before .before .before .before .number-ok .ensures) ∙ not-false (c .before .before .before .before .before .number-ok .result) (c .before .before .before .before .if3 .left)) _ (sym (c .enum-told .given .1) ∙ c .before .before .judge-body .ensures)
 
 returns-5 : tie.Need-returns-5
 unfolding bodyJudged
-returns-5 c = record-judged (c .before .before .before .before .before .before .before .before .before .before .before .before .args .t .now) (c .before .before .before .before .before .before .before .before .before .head-at .result) (c .before .before .before .before .before .before .before .before .before .head-at .ensures) (c .before .before .before .before .before .before .before .before .before .before .if1 .left) (c .before .before .before .before .before .before .before .before .if2 .left) (sym (c .before .before .before .before .before .before .before .number-ok .ensures) ∙ not-false (c .before .before .before .before .before .before .before .number-ok .result) (c .before .before .before .before .before .before .if3 .left)) _ (sym (c .before .before .f .given .1) ∙ c .before .before .before .before .judge-body .ensures)
+returns-5 c = record-judged (c .before .before .before .before .before .before .before .before .before .before .before .before .args .e) (c .before .before .before .before .before .before .before .before .before .before .before .before .args .t .now) (c .before .before .before .before .before .before .before .before .before .head-at .result) (c .before .before .before .before .before .before .before .before .before .head-at .ensures) (c .before .before .before .before .before .before .before .before .before .before .if1 .left) (c .before .before .before .before .before .before .before .before .if2 .left) (sym (c .before .before .before .before .before .before .before .number-ok .ensures) ∙ not-false (c .before .before .before .before .before .before .before .number-ok .result) (c .before .before .before .before .before .before .if3 .left)) _ (sym (c .before .before .f .given .1) ∙ c .before .before .before .before .judge-body .ensures)
 
 pub read-record-spec : {M : Type 1} → statement M
 read-record-spec =
@@ -76,6 +76,6 @@ read-record-spec =
     judge-body-requires
     enum-told
     enum-known-f
-    add-t17
+    add-t18
     returns-4
     returns-5)
