@@ -10,6 +10,7 @@ use lib.Dec.{eqb}
 use borrow.Author.Tests.{eqb-true}
 use Rattle.facts.specs.Pick.{pick}
 use Rattle.facts.specs.declared.Found.the-variants.{At}
+use Rattle.editions.specs.declared.Edition.{Edition}
 use Rattle.wire.specs.Le.{Bytes}
 use Rattle.fields.specs.declared.Body.{Body}
 use Rattle.body.specs.Read.{readBody}
@@ -113,38 +114,38 @@ under-own s own f = go (eqb own s) refl
     go true e = ap f (eqb-true own s e)
     go false e = refl
 
-module _ (s n : ℕ) (b : List ℕ) (k : Book) (ranked : 1 ≤ n) (bytes : Bytes b) (z : applied n b k .rule ≡ 0) where
+module _ (ed : Edition) (s n : ℕ) (b : List ℕ) (k : Book) (ranked : 1 ≤ n) (bytes : Bytes b) (z : applied ed n b k .rule ≡ 0) where
   abbrev before : ℕ
   before = liveShares s (rows (k .orders))
 
   abbrev after : ℕ
-  after = liveShares s (rows (applied n b k .after .orders))
+  after = liveShares s (rows (applied ed n b k .after .orders))
 
-  balance-by : {m : Body} {own : ℕ} → Names m own → readBody b ≡ m → Balanced s own before after (movedBy m (orderIn (orderOf m) (k .orders)) (liveShares own (rows (k .orders))))
+  balance-by : {m : Body} {own : ℕ} → Names m own → readBody ed b ≡ m → Balanced s own before after (movedBy m (orderIn (orderOf m) (k .orders)) (liveShares own (rows (k .orders))))
   unfolding movedBy rowFor
   balance-by (add m) e =
-      let q = add-shares s (rowFor m n) (k .orders) (applied n b k .after .orders) (add-entered m n b k e z) (row-live m n b bytes ranked (rw e at (read-sound b))) in
-      came-balanced s (m .symbol) before after (m .size) (q ∙ ap (λ x. before + under s x (m .size)) (row-symbol m n))
+      let q = add-shares s (rowFor m n) (k .orders) (applied ed n b k .after .orders) (add-entered ed m n b k e z) (row-live ed m n b bytes ranked (rw e at (read-sound ed b))) in
+      came-balanced s (m .symbol) before after (m .size) (q ∙ ap (λ x. before + under s x (m .size)) (row-symbol ed m n))
   balance-by (modify m) e =
-      let d = modify-done m n b k e z in
+      let d = modify-done ed m n b k e z in
       let q =
-      modify-shares s (m .order) (m .symbol) (m .price) (m .size) (moves (m .flags)) n (k .orders) (applied n b k .after .orders) d
-      (ap live (sym (d .became .here)) ∙ modify-live m n b k e z bytes ranked) in
+      modify-shares s (m .order) (m .symbol) (m .price) (m .size) (moves (m .flags)) n (k .orders) (applied ed n b k .after .orders) d
+      (ap live (sym (d .became .here)) ∙ modify-live ed m n b k e z bytes ranked) in
       rw (held-is (m .order) (k .orders) (d .place) (d .lowest-live)) (resized-balanced s (m .symbol) before after (d .place) (row (k .orders) (d .place)) (m .size) q)
   balance-by (delete m) e =
-      let d = delete-done m n b k e z in
-      let q = delete-shares s (m .order) (m .symbol) (k .orders) (applied n b k .after .orders) d in
+      let d = delete-done ed m n b k e z in
+      let q = delete-shares s (m .order) (m .symbol) (k .orders) (applied ed n b k .after .orders) d in
       rw (held-is (m .order) (k .orders) (d .place) (d .lowest-live))
       (resized-balanced s (m .symbol) before after (d .place) (row (k .orders) (d .place)) 0 (omega (arith, q, under-none s (m .symbol))))
   balance-by (execution m) e =
-      let d = execution-done m n b k e z in
+      let d = execution-done ed m n b k e z in
       gone-balanced s (m .symbol) before after (m .size) 0 (m .size) (omega arith)
-      (execute-shares s (m .order) (m .symbol) (m .size) (k .orders) (applied n b k .after .orders) d (execution-covered m n b k e z))
+      (execute-shares s (m .order) (m .symbol) (m .size) (k .orders) (applied ed n b k .after .orders) d (execution-covered ed m n b k e z))
   balance-by (clear m) e =
-      let q : after + under s (m .symbol) before ≡ before = rw (clear-done m n b k e z) (clear-shares s (m .symbol) (k .orders)) in
+      let q : after + under s (m .symbol) before ≡ before = rw (clear-done ed m n b k e z) (clear-shares s (m .symbol) (k .orders)) in
       gone-balanced s (m .symbol) before after 0 (liveShares (m .symbol) (rows (k .orders))) (liveShares (m .symbol) (rows (k .orders))) (omega arith)
       (rw (under-own s (m .symbol) (λ x. liveShares x (rows (k .orders)))) q)
 
   -- a message that names a symbol and applied
-  pub balance : (own : ℕ) → Names (readBody b) own → Balanced s own before after (movedBy (readBody b) (orderIn (orderOf (readBody b)) (k .orders)) (liveShares own (rows (k .orders))))
+  pub balance : (own : ℕ) → Names (readBody ed b) own → Balanced s own before after (movedBy (readBody ed b) (orderIn (orderOf (readBody ed b)) (k .orders)) (liveShares own (rows (k .orders))))
   balance own h = balance-by h refl

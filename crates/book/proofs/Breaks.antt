@@ -10,6 +10,7 @@ use Rattle.facts.specs.Pick.{pick}
 use Rattle.facts.proofs.Picks.{pick-cases}
 use Rattle.facts.specs.declared.Found.{Found}
 use Rattle.facts.specs.declared.Found.the-variants.{At, Nothing}
+use Rattle.editions.specs.declared.Edition.{Edition}
 use Rattle.fields.specs.declared.Body.{Body}
 use Rattle.fields.specs.declared.AddOrder.{AddOrder}
 use Rattle.fields.specs.declared.ModifyOrder.{ModifyOrder}
@@ -110,10 +111,10 @@ module _ (n : ℕ) (b : List ℕ) (c : Clock) (f : Finds) (q : ℕ) where
   group-breaks (refused r) h = subst (Breaks (Body.Bad r)) (same-stop h) (no-body r)
 
 -- "Each rule is tried in the order given, and the first broken one counts": a message that breaks one breaks one of its own
-pub breaks : (n : ℕ) (b : List ℕ) (k : Book) → (applied n b k .rule ≡ 0 → ⊥) → Breaks (readBody b) (applied n b k .rule)
+pub breaks : (ed : Edition) (n : ℕ) (b : List ℕ) (k : Book) → (applied ed n b k .rule ≡ 0 → ⊥) → Breaks (readBody ed b) (applied ed n b k .rule)
 unfolding applied planned carried
-breaks n b k h = go (planned n b k) refl h
+breaks ed n b k h = go (planned ed n b k) refl h
   where
-    go : (p : Plan) → planned n b k ≡ p → (carried p b k .rule ≡ 0 → ⊥) → Breaks (readBody b) (carried p b k .rule)
-    go (Stop q) e h = group-breaks n b (k .clock) (scans k) q (group-of (readBody b)) e
+    go : (p : Plan) → planned ed n b k ≡ p → (carried p b k .rule ≡ 0 → ⊥) → Breaks (readBody ed b) (carried p b k .rule)
+    go (Stop q) e h = group-breaks n b (k .clock) (scans k) q (group-of (readBody ed b)) e
     go (Go w) e h = absurd (h refl)

@@ -5,6 +5,7 @@ use mathlib.Core.List.{List}
 use Prim.Native.Nat.{ℕ, _≤_, _<_}
 use borrow.Author.Tests.{lt-ltb, le-ltb, eq-eqb, ne-eqb}
 use Rattle.facts.specs.Pick.{pick}
+use Rattle.editions.specs.declared.Edition.{Edition}
 use Rattle.fields.specs.declared.Body.{Body}
 use Rattle.fields.specs.declared.OrderExecution.{OrderExecution}
 use Rattle.body.specs.Read.{readBody}
@@ -50,13 +51,13 @@ module _ (c : Clock) (m : OrderExecution) (i : ℕ) (r : Row) where
   execute-is h = rw (le-ltb (r .size) (m .size) h) refl
 
 -- ---- a message by the case that reading its body gives
-pub planned-by : (m : Body) (n : ℕ) (b : List ℕ) (k : Book) → readBody b ≡ m → planBy m n b (k .clock) (scans k) ≡ planned n b k
+pub planned-by : (ed : Edition) (m : Body) (n : ℕ) (b : List ℕ) (k : Book) → readBody ed b ≡ m → planBy m n b (k .clock) (scans k) ≡ planned ed n b k
 unfolding planned
-planned-by m n b k e = ap (λ (x : Body). planBy x n b (k .clock) (scans k)) (sym e)
+planned-by ed m n b k e = ap (λ (x : Body). planBy x n b (k .clock) (scans k)) (sym e)
 
-pub carried-by : (p : Plan) (n : ℕ) (b : List ℕ) (k : Book) → planned n b k ≡ p → carried p b k ≡ applied n b k
+pub carried-by : (ed : Edition) (p : Plan) (n : ℕ) (b : List ℕ) (k : Book) → planned ed n b k ≡ p → carried p b k ≡ applied ed n b k
 unfolding applied
-carried-by p n b k e = ap (λ (x : Plan). carried x b k) (sym e)
+carried-by ed p n b k e = ap (λ (x : Plan). carried x b k) (sym e)
 
 -- ---- another search with the same results gives the same plan
 pub record Agree (f g : Finds) : Type 0 where

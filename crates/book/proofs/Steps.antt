@@ -11,6 +11,7 @@ use lib.ListN.{length}
 use Rattle.facts.specs.declared.Found.{Found}
 use Rattle.facts.specs.declared.Found.the-variants.{At, Nothing}
 use Rattle.facts.proofs.Picks.{upheld}
+use Rattle.editions.specs.declared.Edition.{Edition}
 use Rattle.fields.specs.Fields.{bodyNumber}
 use Rattle.fields.specs.declared.Body.{Body}
 use Rattle.fields.specs.declared.TradingStatus.{TradingStatus}
@@ -253,89 +254,89 @@ module _ (n : ℕ) (b : List ℕ) (c : Clock) (f : Finds) where
   group-clock (refused r) = inr refl
 
 -- ---- any message
-module _ (n : ℕ) (b : List ℕ) (k : Book) where
-  plan-ruled : Ruled (planned n b k)
+module _ (ed : Edition) (n : ℕ) (b : List ℕ) (k : Book) where
+  plan-ruled : Ruled (planned ed n b k)
   unfolding planned
-  plan-ruled = group-ruled n b (k .clock) (scans k) (group-of (readBody b))
+  plan-ruled = group-ruled n b (k .clock) (scans k) (group-of (readBody ed b))
 
   -- "the first broken one counts": and changes nothing
-  pub broken-keeps : (applied n b k .rule ≡ 0 → ⊥) → applied n b k .after ≡ k
+  pub broken-keeps : (applied ed n b k .rule ≡ 0 → ⊥) → applied ed n b k .after ≡ k
   unfolding applied
-  broken-keeps h = carried-broken b k (planned n b k) h
+  broken-keeps h = carried-broken b k (planned ed n b k) h
 
   -- a message that breaks none: each table by its work
-  pub went : applied n b k .rule ≡ 0
-      → (w : Works) × (planned n b k ≡ Go w) × (applied n b k .after ≡ book (committed (w .orders) (k .orders)) (entered (w .symbols) b (k .symbols)) (w .clock))
+  pub went : applied ed n b k .rule ≡ 0
+      → (w : Works) × (planned ed n b k ≡ Go w) × (applied ed n b k .after ≡ book (committed (w .orders) (k .orders)) (entered (w .symbols) b (k .symbols)) (w .clock))
   unfolding applied
-  went z = carried-went b k (planned n b k) plan-ruled z
+  went z = carried-went b k (planned ed n b k) plan-ruled z
 
-  pub lengths-kept : (length (applied n b k .after .orders) ≡ length (k .orders)) × (length (applied n b k .after .symbols) ≡ length (k .symbols))
+  pub lengths-kept : (length (applied ed n b k .after .orders) ≡ length (k .orders)) × (length (applied ed n b k .after .symbols) ≡ length (k .symbols))
   unfolding applied
-  lengths-kept = (carried-orders b k (planned n b k), carried-symbols b k (planned n b k))
+  lengths-kept = (carried-orders b k (planned ed n b k), carried-symbols b k (planned ed n b k))
 
   -- 0, or one of 20 to 27
-  pub rules : Numbered (applied n b k .rule)
+  pub rules : Numbered (applied ed n b k .rule)
   unfolding applied
   rules = carried-numbers b k plan-ruled
 
   -- "no good body stops with 27"
-  pub bad-body : goodBody b ≡ false → applied n b k .rule ≡ 27
+  pub bad-body : goodBody ed b ≡ false → applied ed n b k .rule ≡ 27
   unfolding carried
-  bad-body h = ap (λ o. o .rule) (sym (carried-by (Stop 27) n b k (sym (planned-by (readBody b) n b k refl) ∙ group-bad n b (k .clock) (scans k) (group-of (readBody b)) (bad-number b h))))
+  bad-body h = ap (λ o. o .rule) (sym (carried-by ed (Stop 27) n b k (sym (planned-by ed (readBody ed b) n b k refl) ∙ group-bad n b (k .clock) (scans k) (group-of (readBody ed b)) (bad-number ed b h))))
 
-  pub rule-good : applied n b k .rule ≡ 0 → goodBody b ≡ true
-  rule-good e = upheld (goodBody b) (λ g. omega (arith, bad-body g))
+  pub rule-good : applied ed n b k .rule ≡ 0 → goodBody ed b ≡ true
+  rule-good e = upheld (goodBody ed b) (λ g. omega (arith, bad-body g))
 
   -- ---- which part of the book a message may change
-  applied-all : applied n b k .after ≡ book (committed (rowsOf (planned n b k)) (k .orders)) (entered (entriesOf (planned n b k)) b (k .symbols)) (clockOf (k .clock) (planned n b k))
+  applied-all : applied ed n b k .after ≡ book (committed (rowsOf (planned ed n b k)) (k .orders)) (entered (entriesOf (planned ed n b k)) b (k .symbols)) (clockOf (k .clock) (planned ed n b k))
   unfolding applied
-  applied-all = carried-all (planned n b k) b k
+  applied-all = carried-all (planned ed n b k) b k
 
   -- it names a symbol, or the order table is as it was
-  pub orders-named : ((s : ℕ) × Names (readBody b) s) ⊎ (applied n b k .after .orders ≡ k .orders)
+  pub orders-named : ((s : ℕ) × Names (readBody ed b) s) ⊎ (applied ed n b k .after .orders ≡ k .orders)
   unfolding committed planned
   orders-named =
       ⊎-elim inl (λ e. inr (ap (λ x. x .orders) applied-all ∙ ap (λ w. committed w (k .orders)) e))
-      (group-rows n b (k .clock) (scans k) (group-of (readBody b)))
+      (group-rows n b (k .clock) (scans k) (group-of (readBody ed b)))
 
   -- it is a Symbol Update, or the symbol table is as it was
-  pub symbols-updated : (readBody b ≡ Body.SymbolUpdate) ⊎ (applied n b k .after .symbols ≡ k .symbols)
+  pub symbols-updated : (readBody ed b ≡ Body.SymbolUpdate) ⊎ (applied ed n b k .after .symbols ≡ k .symbols)
   unfolding entered planned
   symbols-updated =
       ⊎-elim inl (λ e. inr (ap (λ x. x .symbols) applied-all ∙ ap (λ w. entered w b (k .symbols)) e))
-      (group-entries n b (k .clock) (scans k) (group-of (readBody b)))
+      (group-entries n b (k .clock) (scans k) (group-of (readBody ed b)))
 
-  clock-timed : ((s : ℕ) × (readBody b ≡ Body.SystemTime s)) ⊎ (applied n b k .after .clock ≡ k .clock)
+  clock-timed : ((s : ℕ) × (readBody ed b ≡ Body.SystemTime s)) ⊎ (applied ed n b k .after .clock ≡ k .clock)
   unfolding planned
-  clock-timed = ⊎-elim inl (λ e. inr (ap (λ x. x .clock) applied-all ∙ e)) (group-clock n b (k .clock) (scans k) (group-of (readBody b)))
+  clock-timed = ⊎-elim inl (λ e. inr (ap (λ x. x .clock) applied-all ∙ e)) (group-clock n b (k .clock) (scans k) (group-of (readBody ed b)))
 
   -- each part of the book is left by every message but those of that part
-  pub orders-kept : (partOf (readBody b) ≡ the-orders → ⊥) → applied n b k .after .orders ≡ k .orders
+  pub orders-kept : (partOf (readBody ed b) ≡ the-orders → ⊥) → applied ed n b k .after .orders ≡ k .orders
   orders-kept h = ⊎-elim (λ x. absurd (h (names-part (x .1)))) (λ e. e) orders-named
 
-  pub symbols-kept : (partOf (readBody b) ≡ the-symbols → ⊥) → applied n b k .after .symbols ≡ k .symbols
+  pub symbols-kept : (partOf (readBody ed b) ≡ the-symbols → ⊥) → applied ed n b k .after .symbols ≡ k .symbols
   unfolding partOf
   symbols-kept h = ⊎-elim (λ e. absurd (h (ap partOf e))) (λ e. e) symbols-updated
 
-  pub clock-kept : (partOf (readBody b) ≡ the-second → ⊥) → applied n b k .after .clock ≡ k .clock
+  pub clock-kept : (partOf (readBody ed b) ≡ the-second → ⊥) → applied ed n b k .after .clock ≡ k .clock
   unfolding partOf
   clock-kept h = ⊎-elim (λ x. absurd (h (ap partOf (x .1)))) (λ e. e) clock-timed
 
-  pub second-set : (c : ℕ) → readBody b ≡ Body.SystemTime c → applied n b k ≡ effect 0 (book (k .orders) (k .symbols) (clock c))
+  pub second-set : (c : ℕ) → readBody ed b ≡ Body.SystemTime c → applied ed n b k ≡ effect 0 (book (k .orders) (k .symbols) (clock c))
   unfolding planBy carried committed entered
-  second-set c e = sym (carried-by (idle (clock c)) n b k (sym (planned-by (Body.SystemTime c) n b k e)))
+  second-set c e = sym (carried-by ed (idle (clock c)) n b k (sym (planned-by ed (Body.SystemTime c) n b k e)))
 
   -- "The other four apply without changing a table"
-  pub other-four : Other (readBody b) → applied n b k ≡ effect 0 k
+  pub other-four : Other (readBody ed b) → applied ed n b k ≡ effect 0 k
   unfolding carried committed entered
-  other-four h = sym (carried-by (idle (k .clock)) n b k (sym (planned-by (readBody b) n b k refl) ∙ other-idle n b (k .clock) (scans k) h))
+  other-four h = sym (carried-by ed (idle (k .clock)) n b k (sym (planned-by ed (readBody ed b) n b k refl) ∙ other-idle n b (k .clock) (scans k) h))
 
   -- an unknown symbol breaks 20, whatever the order table holds
-  pub unknown-symbol : (s : ℕ) → Names (readBody b) s → knownSymbol s (entries (k .symbols)) ≡ false → applied n b k ≡ effect 20 k
+  pub unknown-symbol : (s : ℕ) → Names (readBody ed b) s → knownSymbol s (entries (k .symbols)) ≡ false → applied ed n b k ≡ effect 20 k
   unfolding carried
   unknown-symbol s h u =
-      sym (carried-by (Stop 20) n b k (sym (planned-by (readBody b) n b k refl) ∙ names-unknown n b (k .clock) (scans k) h (unknown-nowhere s (entries (k .symbols)) u)))
+      sym (carried-by ed (Stop 20) n b k (sym (planned-by ed (readBody ed b) n b k refl) ∙ names-unknown n b (k .clock) (scans k) h (unknown-nowhere s (entries (k .symbols)) u)))
 
   -- so the symbol of one that applied was known
-  pub applied-known : (s : ℕ) → Names (readBody b) s → applied n b k .rule ≡ 0 → knownSymbol s (entries (k .symbols)) ≡ true
+  pub applied-known : (s : ℕ) → Names (readBody ed b) s → applied ed n b k .rule ≡ 0 → knownSymbol s (entries (k .symbols)) ≡ true
   applied-known s h z = upheld (knownSymbol s (entries (k .symbols))) (λ e. omega (arith, ap (λ o. o .rule) (unknown-symbol s h e)))

@@ -5,6 +5,7 @@ use mathlib.Core.List.{List, []}
 use Prim.Native.Nat.{ℕ, _≤_}
 use native.Mathlib.Omega.{arith}
 use lib.ListN.{replicate}
+use Rattle.editions.specs.declared.Edition.{Edition}
 use Rattle.wire.specs.Le.{Bytes}
 use Rattle.body.specs.Read.{readBody}
 use Rattle.rows.specs.Rows.{spoiled}
@@ -39,29 +40,29 @@ module _ (n m : ℕ) (c : Clock) where
   ids-zero = ids-wiped m
 
 -- ---- a message that applied
-module _ (n : ℕ) (b : List ℕ) (k : Book) (ranked : 1 ≤ n) (bytes : Bytes b) (z : applied n b k .rule ≡ 0) (t : Tidy k) where
-  pub tidy-kept : Tidy (applied n b k .after)
+module _ (ed : Edition) (n : ℕ) (b : List ℕ) (k : Book) (ranked : 1 ≤ n) (bytes : Bytes b) (z : applied ed n b k .rule ≡ 0) (t : Tidy k) where
+  pub tidy-kept : Tidy (applied ed n b k .after)
   tidy-kept =
       record {
-        unspoiled = unspoiled-kept n b k ranked bytes (t .unspoiled);
-        unique = unique-kept n b k (t .unique);
-        distinct = entries-kept n b k Distinct (λ i e u d. distinct-kept b (entries (k .symbols)) i e u d) (t .distinct);
-        packed = entries-kept n b k Packed (λ i e u p. packed-kept b (entries (k .symbols)) i e u p) (t .packed);
+        unspoiled = unspoiled-kept ed n b k ranked bytes (t .unspoiled);
+        unique = unique-kept ed n b k (t .unique);
+        distinct = entries-kept ed n b k Distinct (λ i e u d. distinct-kept b (entries (k .symbols)) i e u d) (t .distinct);
+        packed = entries-kept ed n b k Packed (λ i e u p. packed-kept b (entries (k .symbols)) i e u p) (t .packed);
       }
 
   -- "in order of first use"
-  pub first-use-kept : usedIds (applied n b k .after) ≡ firstUse b (usedIds k)
+  pub first-use-kept : usedIds (applied ed n b k .after) ≡ firstUse ed b (usedIds k)
   unfolding firstUse firstUseBy
-  first-use-kept = go (partOf (readBody b)) refl
+  first-use-kept = go (partOf (readBody ed b)) refl
     where
-      same : (partOf (readBody b) ≡ the-symbols → ⊥) → usedIds (applied n b k .after) ≡ usedIds k
-      same h = ap (λ s. idsIn (entries s)) (symbols-kept n b k h)
+      same : (partOf (readBody ed b) ≡ the-symbols → ⊥) → usedIds (applied ed n b k .after) ≡ usedIds k
+      same h = ap (λ s. idsIn (entries s)) (symbols-kept ed n b k h)
 
-      go : (p : Part) → partOf (readBody b) ≡ p → usedIds (applied n b k .after) ≡ firstUseBy p (idOf b) (usedIds k)
+      go : (p : Part) → partOf (readBody ed b) ≡ p → usedIds (applied ed n b k .after) ≡ firstUseBy p (idOf b) (usedIds k)
       go the-symbols q =
-          let e = part-update (group-of (readBody b)) q in
-          let w = update-done n b k e z in
-          ap idsIn (ap entries (w .table-is) ∙ entries-put (k .symbols) (w .place) b) ∙ ids-kept b (entries (k .symbols)) (w .place) (w .found) (update-used b e) (t .packed)
+          let e = part-update (group-of (readBody ed b)) q in
+          let w = update-done ed n b k e z in
+          ap idsIn (ap entries (w .table-is) ∙ entries-put (k .symbols) (w .place) b) ∙ ids-kept b (entries (k .symbols)) (w .place) (w .found) (update-used ed b e) (t .packed)
       go the-orders q = same (λ e. let y : the-orders ≡ the-symbols = sym q ∙ e in let x : _≡_ {A = ℕ} 0 1 = cc in omega arith)
       go the-second q = same (λ e. let y : the-second ≡ the-symbols = sym q ∙ e in let x : _≡_ {A = ℕ} 0 1 = cc in omega arith)
       go no-part q = same (λ e. let y : no-part ≡ the-symbols = sym q ∙ e in let x : _≡_ {A = ℕ} 0 1 = cc in omega arith)

@@ -6,6 +6,7 @@ use mathlib.Core.List.{List}
 use lib.Dec.{eqb}
 use Rattle.facts.specs.declared.Found.{Found}
 use Rattle.facts.specs.declared.Found.the-variants.{At, Nothing}
+use Rattle.editions.specs.declared.Edition.{Edition}
 use Rattle.fields.specs.declared.ModifyOrder.{ModifyOrder}
 use Rattle.fields.specs.declared.Body.{Body}
 use Rattle.body.specs.Undefined.{withFlags, OnlyBits}
@@ -42,10 +43,10 @@ modify-unseen m n b c k =
     bytes-unseen (scans k .entry (m .symbol)) (target (scans k .order (m .order)) (m .symbol)) (λ i r. RowWork.Put i (remade (m .price) (m .size) (moves (m .flags)) n r)) (k .clock) b c k
 
 -- two Modifies that differ in undefined bits alone break the same rule, or make the same book
-pub bits-applied : (n : ℕ) (b c : List ℕ) (k : Book) → OnlyBits b c → applied n c k ≡ applied n b k
-bits-applied n b c k o =
+pub bits-applied : (ed : Edition) (n : ℕ) (b c : List ℕ) (k : Book) → OnlyBits ed b c → applied ed n c k ≡ applied ed n b k
+bits-applied ed n b c k o =
     let m : ModifyOrder = o .modify in
     let p : Plan = planBy (Body.Modify m) n b (k .clock) (scans k) in
-    let first : planned n b k ≡ p = sym (planned-by (Body.Modify m) n b k (o .first)) in
-    let second : planned n c k ≡ p = sym (planned-by (Body.Modify (withFlags m (o .flags))) n c k (bits-read b c o)) ∙ bit-0-plan m (o .flags) n b c (k .clock) (scans k) (o .bit-0) in
-    sym (carried-by p n c k second) ∙ modify-unseen m n b c k ∙ carried-by p n b k first
+    let first : planned ed n b k ≡ p = sym (planned-by ed (Body.Modify m) n b k (o .first)) in
+    let second : planned ed n c k ≡ p = sym (planned-by ed (Body.Modify (withFlags m (o .flags))) n c k (bits-read ed b c o)) ∙ bit-0-plan m (o .flags) n b c (k .clock) (scans k) (o .bit-0) in
+    sym (carried-by ed p n c k second) ∙ modify-unseen m n b c k ∙ carried-by ed p n b k first

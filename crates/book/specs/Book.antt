@@ -1,6 +1,7 @@
 -- A book: the two lent tables and what it has by value; and what a message makes of it.
 use Prim.Native.Nat.{ℕ}
 use mathlib.Core.List.{List}
+use Rattle.editions.specs.declared.Edition.{Edition}
 use Rattle.body.specs.Read.{readBody}
 use Rattle.rows.specs.declared.Held.{Held}
 use Rattle.rows.specs.Rows.{rows}
@@ -45,8 +46,8 @@ scans k =
     }
 
 -- the plan of the message with that number and those bytes
-unfoldable pub planned : ℕ → List ℕ → Book → Plan
-planned n b k = planBy (readBody b) n b (k .clock) (scans k)
+unfoldable pub planned : Edition → ℕ → List ℕ → Book → Plan
+planned ed n b k = planBy (readBody ed b) n b (k .clock) (scans k)
 
 -- a broken rule changes nothing; else each table is left by its own work
 unfoldable pub carried : Plan → List ℕ → Book → Effect
@@ -54,5 +55,5 @@ carried (Plan.Stop n) b k = effect n k
 carried (Plan.Go w) b k = effect 0 (book (committed (w .orders) (k .orders)) (entered (w .symbols) b (k .symbols)) (w .clock))
 
 -- the message with that number and those bytes, applied to the book
-unfoldable pub applied : ℕ → List ℕ → Book → Effect
-applied n b k = carried (planned n b k) b k
+unfoldable pub applied : Edition → ℕ → List ℕ → Book → Effect
+applied ed n b k = carried (planned ed n b k) b k

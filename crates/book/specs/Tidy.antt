@@ -1,6 +1,7 @@
 -- What holds of a book from a start on, and after every message that applied, while nobody alters its tables.
 use Prim.Native.Nat.{ℕ}
 use mathlib.Core.List.{List}
+use Rattle.editions.specs.declared.Edition.{Edition}
 use Rattle.body.specs.Read.{readBody}
 use Rattle.rows.specs.Rows.{rows}
 use Rattle.rows.specs.Tidy.{Unspoiled, Unique}
@@ -30,5 +31,5 @@ firstUseBy the-orders id ids = ids
 firstUseBy the-second id ids = ids
 firstUseBy no-part id ids = ids
 
-unfoldable pub firstUse : List ℕ → List ℕ → List ℕ
-firstUse b ids = firstUseBy (partOf (readBody b)) (idOf b) ids
+unfoldable pub firstUse : Edition → List ℕ → List ℕ → List ℕ
+firstUse ed b ids = firstUseBy (partOf (readBody ed b)) (idOf b) ids

@@ -1,6 +1,7 @@
 // One message applied to a book, or the rule that it breaks, with nothing changed. A message is planned first: each kind has one function from
 // what the searches found to a plan by value. Then the plan is committed, by one call a table. Every function answers for tables of any length
 // and content; sizes are judged by those who lend them (6).
+use editions::Edition;
 use facts::Found;
 use fields::AddOrder;
 use fields::Body;
@@ -236,11 +237,18 @@ fn on_update(symbols: &[u8], clock: Clock, body: &[u8]) -> Plan
     update_plan(clock, symbols::find_place(symbols, wire::u32_at(body, 5)))
 }
 
-// The plan of a message, by its number and its body; nothing is changed.
-pub fn plan_of(orders: &[u64], symbols: &[u8], clock: Clock, number: u64, body: &[u8]) -> Plan
-    ensures { λ r. ⌜ r ≡ planned number (now (body .entry)) (book (now (orders .entry)) (now (symbols .entry)) clock) ⌝ }
+// The plan of a message, by its number and its body, which is read by the edition; nothing is changed.
+pub fn plan_of(
+    e: Edition,
+    orders: &[u64],
+    symbols: &[u8],
+    clock: Clock,
+    number: u64,
+    body: &[u8],
+) -> Plan
+    ensures { λ r. ⌜ r ≡ planned e number (now (body .entry)) (book (now (orders .entry)) (now (symbols .entry)) clock) ⌝ }
 {
-    match body::read_body(body) {
+    match body::read_body(e, body) {
         Body::SystemTime(second) => at_rest(Clock { second }),
         Body::SymbolUpdate => on_update(symbols, clock, body),
         Body::SystemState => at_rest(clock),
@@ -258,15 +266,16 @@ pub fn plan_of(orders: &[u64], symbols: &[u8], clock: Clock, number: u64, body: 
 
 // A message by its number and its body.
 pub fn apply(
+    e: Edition,
     orders: &mut [u64],
     symbols: &mut [u8],
     clock: Clock,
     number: u64,
     body: &[u8],
 ) -> Applied
-    ensures { λ r. ⌜ effect (r .rule) (book (now (orders .exit)) (now (symbols .exit)) (r .clock)) ≡ applied number (now (body .entry)) (book (now (orders .entry)) (now (symbols .entry)) clock) ⌝ }
+    ensures { λ r. ⌜ effect (r .rule) (book (now (orders .exit)) (now (symbols .exit)) (r .clock)) ≡ applied e number (now (body .entry)) (book (now (orders .entry)) (now (symbols .entry)) clock) ⌝ }
 {
-    match plan_of(orders, symbols, clock, number, body) {
+    match plan_of(e, orders, symbols, clock, number, body) {
         Plan::Stop(n) => Applied { rule: n, clock },
         Plan::Go(w) => {
             let after = w.clock;
@@ -283,10 +292,17 @@ pub fn apply(
 }
 
 // The rule that a message would break, 0 for none; nothing is changed.
-pub fn rule_of(orders: &[u64], symbols: &[u8], clock: Clock, number: u64, body: &[u8]) -> u8
-    ensures { λ r. ⌜ r ≡ applied number (now (body .entry)) (book (now (orders .entry)) (now (symbols .entry)) clock) .rule ⌝ }
+pub fn rule_of(
+    e: Edition,
+    orders: &[u64],
+    symbols: &[u8],
+    clock: Clock,
+    number: u64,
+    body: &[u8],
+) -> u8
+    ensures { λ r. ⌜ r ≡ applied e number (now (body .entry)) (book (now (orders .entry)) (now (symbols .entry)) clock) .rule ⌝ }
 {
-    match plan_of(orders, symbols, clock, number, body) {
+    match plan_of(e, orders, symbols, clock, number, body) {
         Plan::Stop(n) => n,
         Plan::Go(_) => 0,
     }

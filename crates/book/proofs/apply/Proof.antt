@@ -30,7 +30,7 @@ same-length-2 c = search needs
 
 returns : tie.Need-returns
 unfolding carried
-returns c = carried-by _ (c .before .before .before .before .before .before .before .before .before .args .number) (c .before .before .before .before .before .before .before .before .before .args .body .now) (book (c .before .before .before .before .before .before .before .before .before .args .orders .now) (c .before .before .before .before .before .before .before .before .before .args .symbols .now) (c .before .before .before .before .before .before .before .before .before .args .clock)) (sym (c .before .before .before .plan-of .ensures) ∙ c .before .n .given .1)
+returns c = carried-by (c .before .before .before .before .before .before .before .before .before .args .e) _ (c .before .before .before .before .before .before .before .before .before .args .number) (c .before .before .before .before .before .before .before .before .before .args .body .now) (book (c .before .before .before .before .before .before .before .before .before .args .orders .now) (c .before .before .before .before .before .before .before .before .before .args .symbols .now) (c .before .before .before .before .before .before .before .before .before .args .clock)) (sym (c .before .before .before .plan-of .ensures) ∙ c .before .n .given .1)
 
 same-length-3 : tie.Need-same-length-3
 same-length-3 c = search needs
@@ -40,7 +40,7 @@ same-length-4 c = search needs
 
 returns-2 : tie.Need-returns-2
 unfolding carried
-returns-2 c = rw (c .before .before .before .before .before .before .commit .ensures, c .before .before .commit2 .ensures) (carried-by _ (c .before .before .before .before .before .before .before .before .before .before .before .before .before .before .before .before .before .before .args .number) (c .before .before .before .before .before .before .before .before .before .before .before .before .before .before .before .before .before .before .args .body .now) (book (c .before .before .before .before .before .before .before .before .before .before .before .before .before .before .before .before .before .before .args .orders .now) (c .before .before .before .before .before .before .before .before .before .before .before .before .before .before .before .before .before .before .args .symbols .now) (c .before .before .before .before .before .before .before .before .before .before .before .before .before .before .before .before .before .before .args .clock)) (sym (c .before .before .before .before .before .before .before .before .before .before .before .before .plan-of .ensures) ∙ c .before .before .before .before .before .before .before .before .before .before .w .given .1))
+returns-2 c = rw (c .before .before .before .before .before .before .commit .ensures, c .before .before .commit2 .ensures) (carried-by (c .before .before .before .before .before .before .before .before .before .before .before .before .before .before .before .before .before .before .args .e) _ (c .before .before .before .before .before .before .before .before .before .before .before .before .before .before .before .before .before .before .args .number) (c .before .before .before .before .before .before .before .before .before .before .before .before .before .before .before .before .before .before .args .body .now) (book (c .before .before .before .before .before .before .before .before .before .before .before .before .before .before .before .before .before .before .args .orders .now) (c .before .before .before .before .before .before .before .before .before .before .before .before .before .before .before .before .before .before .args .symbols .now) (c .before .before .before .before .before .before .before .before .before .before .before .before .before .before .before .before .before .before .args .clock)) (sym (c .before .before .before .before .before .before .before .before .before .before .before .before .plan-of .ensures) ∙ c .before .before .before .before .before .before .before .before .before .before .w .given .1))
 
 pub apply-spec : {M : Type 1} → statement M
 apply-spec =

@@ -82,51 +82,51 @@ enum-told-6 c = search needs
 
 returns : tie.Need-returns
 unfolding planBy
-returns c = c .at-rest .ensures ∙ planned-by _ (c .before .before .before .before .before .before .before .before .args .number) (c .before .before .before .before .before .before .before .before .args .body .now) (book (c .before .before .before .before .before .before .before .before .args .orders .now) (c .before .before .before .before .before .before .before .before .args .symbols .now) (c .before .before .before .before .before .before .before .before .args .clock)) (sym (c .before .before .before .before .read-body .ensures) ∙ c .before .before .second .given .1)
+returns c = c .at-rest .ensures ∙ planned-by (c .before .before .before .before .before .before .before .before .args .e) _ (c .before .before .before .before .before .before .before .before .args .number) (c .before .before .before .before .before .before .before .before .args .body .now) (book (c .before .before .before .before .before .before .before .before .args .orders .now) (c .before .before .before .before .before .before .before .before .args .symbols .now) (c .before .before .before .before .before .before .before .before .args .clock)) (sym (c .before .before .before .before .read-body .ensures) ∙ c .before .before .second .given .1)
 
 returns-2 : tie.Need-returns-2
 unfolding planBy
-returns-2 c = c .on-update .ensures ∙ planned-by _ (c .before .before .before .before .before .before .before .args .number) (c .before .before .before .before .before .before .before .args .body .now) (book (c .before .before .before .before .before .before .before .args .orders .now) (c .before .before .before .before .before .before .before .args .symbols .now) (c .before .before .before .before .before .before .before .args .clock)) (sym (c .before .before .before .read-body .ensures) ∙ c .before .enum-told .given .1)
+returns-2 c = c .on-update .ensures ∙ planned-by (c .before .before .before .before .before .before .before .args .e) _ (c .before .before .before .before .before .before .before .args .number) (c .before .before .before .before .before .before .before .args .body .now) (book (c .before .before .before .before .before .before .before .args .orders .now) (c .before .before .before .before .before .before .before .args .symbols .now) (c .before .before .before .before .before .before .before .args .clock)) (sym (c .before .before .before .read-body .ensures) ∙ c .before .enum-told .given .1)
 
 returns-3 : tie.Need-returns-3
 unfolding planBy
-returns-3 c = c .at-rest2 .ensures ∙ planned-by _ (c .before .before .before .before .before .before .before .args .number) (c .before .before .before .before .before .before .before .args .body .now) (book (c .before .before .before .before .before .before .before .args .orders .now) (c .before .before .before .before .before .before .before .args .symbols .now) (c .before .before .before .before .before .before .before .args .clock)) (sym (c .before .before .before .read-body .ensures) ∙ c .before .enum-told2 .given .1)
+returns-3 c = c .at-rest2 .ensures ∙ planned-by (c .before .before .before .before .before .before .before .args .e) _ (c .before .before .before .before .before .before .before .args .number) (c .before .before .before .before .before .before .before .args .body .now) (book (c .before .before .before .before .before .before .before .args .orders .now) (c .before .before .before .before .before .before .before .args .symbols .now) (c .before .before .before .before .before .before .before .args .clock)) (sym (c .before .before .before .read-body .ensures) ∙ c .before .enum-told2 .given .1)
 
 returns-4 : tie.Need-returns-4
 unfolding planBy
-returns-4 c = c .at-rest3 .ensures ∙ planned-by _ (c .before .before .before .before .before .before .before .args .number) (c .before .before .before .before .before .before .before .args .body .now) (book (c .before .before .before .before .before .before .before .args .orders .now) (c .before .before .before .before .before .before .before .args .symbols .now) (c .before .before .before .before .before .before .before .args .clock)) (sym (c .before .before .before .read-body .ensures) ∙ c .before .enum-told3 .given .1)
+returns-4 c = c .at-rest3 .ensures ∙ planned-by (c .before .before .before .before .before .before .before .args .e) _ (c .before .before .before .before .before .before .before .args .number) (c .before .before .before .before .before .before .before .args .body .now) (book (c .before .before .before .before .before .before .before .args .orders .now) (c .before .before .before .before .before .before .before .args .symbols .now) (c .before .before .before .before .before .before .before .args .clock)) (sym (c .before .before .before .read-body .ensures) ∙ c .before .enum-told3 .given .1)
 
 returns-5 : tie.Need-returns-5
 unfolding planBy
-returns-5 c = c .on-clear .ensures ∙ planned-by _ (c .before .before .before .before .before .before .before .before .args .number) (c .before .before .before .before .before .before .before .before .args .body .now) (book (c .before .before .before .before .before .before .before .before .args .orders .now) (c .before .before .before .before .before .before .before .before .args .symbols .now) (c .before .before .before .before .before .before .before .before .args .clock)) (sym (c .before .before .before .before .read-body .ensures) ∙ c .before .before .m .given .1)
+returns-5 c = c .on-clear .ensures ∙ planned-by (c .before .before .before .before .before .before .before .before .args .e) _ (c .before .before .before .before .before .before .before .before .args .number) (c .before .before .before .before .before .before .before .before .args .body .now) (book (c .before .before .before .before .before .before .before .before .args .orders .now) (c .before .before .before .before .before .before .before .before .args .symbols .now) (c .before .before .before .before .before .before .before .before .args .clock)) (sym (c .before .before .before .before .read-body .ensures) ∙ c .before .before .m .given .1)
 
 returns-6 : tie.Need-returns-6
 unfolding planBy
-returns-6 c = c .on-add .ensures ∙ planned-by _ (c .before .before .before .before .before .before .before .before .args .number) (c .before .before .before .before .before .before .before .before .args .body .now) (book (c .before .before .before .before .before .before .before .before .args .orders .now) (c .before .before .before .before .before .before .before .before .args .symbols .now) (c .before .before .before .before .before .before .before .before .args .clock)) (sym (c .before .before .before .before .read-body .ensures) ∙ c .before .before .m2 .given .1)
+returns-6 c = c .on-add .ensures ∙ planned-by (c .before .before .before .before .before .before .before .before .args .e) _ (c .before .before .before .before .before .before .before .before .args .number) (c .before .before .before .before .before .before .before .before .args .body .now) (book (c .before .before .before .before .before .before .before .before .args .orders .now) (c .before .before .before .before .before .before .before .before .args .symbols .now) (c .before .before .before .before .before .before .before .before .args .clock)) (sym (c .before .before .before .before .read-body .ensures) ∙ c .before .before .m2 .given .1)
 
 returns-7 : tie.Need-returns-7
 unfolding planBy
-returns-7 c = c .on-modify .ensures ∙ planned-by _ (c .before .before .before .before .before .before .before .before .args .number) (c .before .before .before .before .before .before .before .before .args .body .now) (book (c .before .before .before .before .before .before .before .before .args .orders .now) (c .before .before .before .before .before .before .before .before .args .symbols .now) (c .before .before .before .before .before .before .before .before .args .clock)) (sym (c .before .before .before .before .read-body .ensures) ∙ c .before .before .m3 .given .1)
+returns-7 c = c .on-modify .ensures ∙ planned-by (c .before .before .before .before .before .before .before .before .args .e) _ (c .before .before .before .before .before .before .before .before .args .number) (c .before .before .before .before .before .before .before .before .args .body .now) (book (c .before .before .before .before .before .before .before .before .args .orders .now) (c .before .before .before .before .before .before .before .before .args .symbols .now) (c .before .before .before .before .before .before .before .before .args .clock)) (sym (c .before .before .before .before .read-body .ensures) ∙ c .before .before .m3 .given .1)
 
 returns-8 : tie.Need-returns-8
 unfolding planBy
-returns-8 c = c .on-delete .ensures ∙ planned-by _ (c .before .before .before .before .before .before .before .before .args .number) (c .before .before .before .before .before .before .before .before .args .body .now) (book (c .before .before .before .before .before .before .before .before .args .orders .now) (c .before .before .before .before .before .before .before .before .args .symbols .now) (c .before .before .before .before .before .before .before .before .args .clock)) (sym (c .before .before .before .before .read-body .ensures) ∙ c .before .before .m4 .given .1)
+returns-8 c = c .on-delete .ensures ∙ planned-by (c .before .before .before .before .before .before .before .before .args .e) _ (c .before .before .before .before .before .before .before .before .args .number) (c .before .before .before .before .before .before .before .before .args .body .now) (book (c .before .before .before .before .before .before .before .before .args .orders .now) (c .before .before .before .before .before .before .before .before .args .symbols .now) (c .before .before .before .before .before .before .before .before .args .clock)) (sym (c .before .before .before .before .read-body .ensures) ∙ c .before .before .m4 .given .1)
 
 returns-9 : tie.Need-returns-9
 unfolding planBy
-returns-9 c = c .on-execution .ensures ∙ planned-by _ (c .before .before .before .before .before .before .before .before .args .number) (c .before .before .before .before .before .before .before .before .args .body .now) (book (c .before .before .before .before .before .before .before .before .args .orders .now) (c .before .before .before .before .before .before .before .before .args .symbols .now) (c .before .before .before .before .before .before .before .before .args .clock)) (sym (c .before .before .before .before .read-body .ensures) ∙ c .before .before .m5 .given .1)
+returns-9 c = c .on-execution .ensures ∙ planned-by (c .before .before .before .before .before .before .before .before .args .e) _ (c .before .before .before .before .before .before .before .before .args .number) (c .before .before .before .before .before .before .before .before .args .body .now) (book (c .before .before .before .before .before .before .before .before .args .orders .now) (c .before .before .before .before .before .before .before .before .args .symbols .now) (c .before .before .before .before .before .before .before .before .args .clock)) (sym (c .before .before .before .before .read-body .ensures) ∙ c .before .before .m5 .given .1)
 
 returns-10 : tie.Need-returns-10
 unfolding planBy
-returns-10 c = c .at-rest4 .ensures ∙ planned-by _ (c .before .before .before .before .before .before .before .args .number) (c .before .before .before .before .before .before .before .args .body .now) (book (c .before .before .before .before .before .before .before .args .orders .now) (c .before .before .before .before .before .before .before .args .symbols .now) (c .before .before .before .before .before .before .before .args .clock)) (sym (c .before .before .before .read-body .ensures) ∙ c .before .enum-told4 .given .1)
+returns-10 c = c .at-rest4 .ensures ∙ planned-by (c .before .before .before .before .before .before .before .args .e) _ (c .before .before .before .before .before .before .before .args .number) (c .before .before .before .before .before .before .before .args .body .now) (book (c .before .before .before .before .before .before .before .args .orders .now) (c .before .before .before .before .before .before .before .args .symbols .now) (c .before .before .before .before .before .before .before .args .clock)) (sym (c .before .before .before .read-body .ensures) ∙ c .before .enum-told4 .given .1)
 
 returns-11 : tie.Need-returns-11
 unfolding planBy
-returns-11 c = c .at-rest5 .ensures ∙ planned-by _ (c .before .before .before .before .before .before .before .args .number) (c .before .before .before .before .before .before .before .args .body .now) (book (c .before .before .before .before .before .before .before .args .orders .now) (c .before .before .before .before .before .before .before .args .symbols .now) (c .before .before .before .before .before .before .before .args .clock)) (sym (c .before .before .before .read-body .ensures) ∙ c .before .enum-told5 .given .1)
+returns-11 c = c .at-rest5 .ensures ∙ planned-by (c .before .before .before .before .before .before .before .args .e) _ (c .before .before .before .before .before .before .before .args .number) (c .before .before .before .before .before .before .before .args .body .now) (book (c .before .before .before .before .before .before .before .args .orders .now) (c .before .before .before .before .before .before .before .args .symbols .now) (c .before .before .before .before .before .before .before .args .clock)) (sym (c .before .before .before .read-body .ensures) ∙ c .before .enum-told5 .given .1)
 
 returns-12 : tie.Need-returns-12
 unfolding planBy
-returns-12 c = planned-by _ (c .before .before .before .before .before .before .args .number) (c .before .before .before .before .before .before .args .body .now) (book (c .before .before .before .before .before .before .args .orders .now) (c .before .before .before .before .before .before .args .symbols .now) (c .before .before .before .before .before .before .args .clock)) (sym (c .before .before .read-body .ensures) ∙ c .enum-told6 .given .1)
+returns-12 c = planned-by (c .before .before .before .before .before .before .args .e) _ (c .before .before .before .before .before .before .args .number) (c .before .before .before .before .before .before .args .body .now) (book (c .before .before .before .before .before .before .args .orders .now) (c .before .before .before .before .before .before .args .symbols .now) (c .before .before .before .before .before .before .args .clock)) (sym (c .before .before .read-body .ensures) ∙ c .enum-told6 .given .1)
 
 pub plan-of-spec : {M : Type 1} → statement M
 plan-of-spec =
