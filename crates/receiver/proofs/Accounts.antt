@@ -49,13 +49,13 @@ module _ (P : Parts) where
     abbrev told-of : Rx P → Counts → Handled P
     told-of x c =
         handled P (Received.Accepted (record { counts = c; next = x .next; applied = x .next - k .rx .next; highest = highest S 64 (x .shelf); stop = stop S E x }))
-        (receiver P x (stop S E x))
+        (receiver P x (stop S E x) (k .edition))
 
     pub accepted : (q top : ℕ) → q ≡ stop S E now → top ≡ highest S 64 (now .shelf) → (x : Frames Why) → x ≡ records cs
-        → handled P (Received.Accepted (record { counts = t; next = now .next; applied = now .next - k .rx .next; highest = top; stop = q })) (receiver P now q) ≡ handledBy P x k
+        → handled P (Received.Accepted (record { counts = t; next = now .next; applied = now .next - k .rx .next; highest = top; stop = q })) (receiver P now q (k .edition)) ≡ handledBy P x k
     unfolding handledBy told
     accepted q top e f x g =
-        (λ i. handled P (Received.Accepted (record { counts = t; next = now .next; applied = now .next - k .rx .next; highest = f i; stop = e i })) (receiver P now (e i)))
+        (λ i. handled P (Received.Accepted (record { counts = t; next = now .next; applied = now .next - k .rx .next; highest = f i; stop = e i })) (receiver P now (e i) (k .edition)))
         ∙ (λ i. told-of (ran i .rx) (ran i .counts))
         ∙ ap (λ (y : Frames Why). handledBy P y k) (sym g)
 

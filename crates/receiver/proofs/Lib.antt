@@ -4,6 +4,7 @@ pub mod Records
 pub mod Accounts
 pub mod Fits
 pub mod Demand
+pub mod Editions
 pub mod Real
 pub mod Runs
 pub mod Undefined

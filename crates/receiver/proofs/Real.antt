@@ -8,6 +8,7 @@ use native.Mathlib.Omega.{arith}
 use lib.ListN.{length, length-replicate}
 use Rattle.facts.specs.Pick.{pick, both}
 use Rattle.facts.proofs.Picks.{both-true, pick-ind}
+use Rattle.editions.specs.declared.Edition.{Edition}
 use Rattle.wire.specs.Records.{Rec, bad, records}
 use Rattle.fields.specs.Fields.{refusal}
 use Rattle.body.proofs.Laws.{good-fits}
@@ -30,19 +31,19 @@ use Rattle.receiver.proofs.PartsLaws.{PartsLaws}
 use Rattle.receiver.proofs.Demand.{demand-3}
 
 -- what is known of a good record is known of each record of a packet
-pub every-framed : (P : Rec → Type 0) → ((c : Rec) → GoodRec c → P c) → (p : List ℕ) → Every P (recordsOf (framing p))
-every-framed P good p = go (framing p) (framing-fine p)
+pub every-framed : (ed : Edition) (P : Rec → Type 0) → ((c : Rec) → GoodRec ed c → P c) → (p : List ℕ) → Every P (recordsOf (framing ed p))
+every-framed ed P good p = go (framing ed p) (framing-fine ed p)
   where
-    all : (cs : List Rec) → AllGood cs → Every P cs
+    all : (cs : List Rec) → AllGood ed cs → Every P cs
     all [] h = tt
     all (c ∷ cs) h = (good c (h .0), all cs (h .1))
 
-    go : (x : Framing) → Fine (length p) x → Every P (recordsOf x)
+    go : (x : Framing) → Fine ed (length p) x → Every P (recordsOf x)
     go (bad q) f = tt
     go (records cs) f = all cs f
 
-pub framing-bounded : (p : List ℕ) → Every Bounded (recordsOf (framing p))
-framing-bounded p = every-framed Bounded (λ c g. record { number-to = g .number-to; short = omega (arith, good-fits (c .body) (g .body-good) .most) }) p
+pub framing-bounded : (ed : Edition) (p : List ℕ) → Every Bounded (recordsOf (framing ed p))
+framing-bounded ed p = every-framed ed Bounded (λ c g. record { number-to = g .number-to; short = omega (arith, good-fits ed (c .body) (g .body-good) .most) }) p
 
 shelf-sized : (o s h : ℕ) → sizesOk o s h ≡ true → goodShelf h ≡ true
 unfolding sizesOk
@@ -50,27 +51,27 @@ shelf-sized o s h e =
     let b = both-true {a = goodRows o} {b = both (goodEntries s) (goodShelf h)} e in
     both-true {a = goodEntries s} {b = goodShelf h} (b .1) .1
 
-pub realLaws : PartsLaws real
-realLaws = record {
+pub realLaws : (ed : Edition) → PartsLaws (real ed)
+realLaws ed = record {
   store = shelfLaws;
-  good-fits = λ b h. omega (arith, good-fits b h .most);
-  rule-good = λ n b k e. rule-good n b k e;
-  bad-body = λ n b k e. bad-body n b k e;
-  broken-keeps = λ n b k e. broken-keeps n b k e;
-  numbered = λ p. every-framed Numbered (λ c g. record { number-from = g .number-from; number-to = g .number-to }) p;
-  bounded = framing-bounded;
+  good-fits = λ b h. omega (arith, good-fits ed b h .most);
+  rule-good = λ n b k e. rule-good ed n b k e;
+  bad-body = λ n b k e. bad-body ed n b k e;
+  broken-keeps = λ n b k e. broken-keeps ed n b k e;
+  numbered = λ p. every-framed ed Numbered (λ c g. record { number-from = g .number-from; number-to = g .number-to }) p;
+  bounded = framing-bounded ed;
   sized-ok = λ k h e. good-size (length h) (shelf-sized (length (k .orders)) (length (k .symbols)) (length h) e);
   sized-put = λ k h i x. ap (sizesOk (length (k .orders)) (length (k .symbols))) (length-put-slot h i x);
-  sized-after = λ n b k h. let l = lengths-kept n b k in rw (l .0, l .1) refl;
+  sized-after = λ n b k h. let l = lengths-kept ed n b k in rw (l .0, l .1) refl;
 }
 
 -- ---- demand 3 of the real receiver, in tables of o numbers and s bytes
-pub real-demand : (ms : List (List ℕ)) (o s : ℕ) → demand.Demand3 real ms (zeroBook o s)
-real-demand ms o s = demand-3 real realLaws ms (zeroBook o s)
+pub real-demand : (ed : Edition) (ms : List (List ℕ)) (o s : ℕ) → demand.Demand3 (real ed) ms (zeroBook o s)
+real-demand ed ms o s = demand-3 (real ed) (realLaws ed) ms (zeroBook o s)
 
 -- a start is where it begins
-pub fresh-started : (o s h : ℕ) → sizesOk o s h ≡ true → demand.Started real (zeroBook o s) (fresh o s h)
-fresh-started o s h e =
+pub fresh-started : (ed : Edition) (o s h : ℕ) → sizesOk o s h ≡ true → demand.Started (real ed) (zeroBook o s) (fresh ed o s h)
+fresh-started ed o s h e =
     record {
       sizes-good = rw (length-replicate {A = ℕ} o 0, length-replicate {A = ℕ} s 0, length-replicate {A = ℕ} h 0) e;
       zeroed = record {
@@ -84,21 +85,21 @@ fresh-started o s h e =
 
 -- ---- what `start` ensures
 -- "a refusal changes no byte and no state"
-pub start-keeps : (o s h : List ℕ) → (startNumber (started o s h .answer) ≡ 0 → ⊥) → started o s h ≡ begun (Started.Refused (refusal 6)) o s h
+pub start-keeps : (ed : Edition) (o s h : List ℕ) → (startNumber (started ed o s h .answer) ≡ 0 → ⊥) → started ed o s h ≡ begun (Started.Refused (refusal 6)) o s h
 unfolding started
-start-keeps o s h = pick-ind (λ x. (startNumber (x .answer) ≡ 0 → ⊥) → x ≡ begun (Started.Refused (refusal 6)) o s h) (sizesOk (length o) (length s) (length h)) _ (begun (Started.Refused (refusal 6)) o s h) (λ _ n. absurd (n refl)) (λ _ _. refl)
+start-keeps ed o s h = pick-ind (λ x. (startNumber (x .answer) ≡ 0 → ⊥) → x ≡ begun (Started.Refused (refusal 6)) o s h) (sizesOk (length o) (length s) (length h)) _ (begun (Started.Refused (refusal 6)) o s h) (λ _ n. absurd (n refl)) (λ _ _. refl)
 
 -- a start that was not refused: sizes are good, and the receiver is a fresh one
-module _ (o s h : List ℕ) (st : State) (o′ s′ h′ : List ℕ) (e : begun (Started.Ready st) o′ s′ h′ ≡ started o s h) where
-  pub start-ready : (sizesOk (length o) (length s) (length h) ≡ true) × (lent o′ s′ h′ st ≡ fresh (length o) (length s) (length h))
+module _ (ed : Edition) (o s h : List ℕ) (st : State) (o′ s′ h′ : List ℕ) (e : begun (Started.Ready st) o′ s′ h′ ≡ started ed o s h) where
+  pub start-ready : (sizesOk (length o) (length s) (length h) ≡ true) × (lent o′ s′ h′ st ≡ fresh ed (length o) (length s) (length h))
   unfolding started pick
   start-ready = go (sizesOk (length o) (length s) (length h)) refl
     where
-      go : (b : Bool) → sizesOk (length o) (length s) (length h) ≡ b → (sizesOk (length o) (length s) (length h) ≡ true) × (lent o′ s′ h′ st ≡ fresh (length o) (length s) (length h))
+      go : (b : Bool) → sizesOk (length o) (length s) (length h) ≡ b → (sizesOk (length o) (length s) (length h) ≡ true) × (lent o′ s′ h′ st ≡ fresh ed (length o) (length s) (length h))
       go true f =
           let y = rw f at e in
-          let a : Started.Ready st ≡ Started.Ready freshState = ap (λ (u : Begun). u .answer) y in
-          let st-is : st ≡ freshState = cc in
+          let a : Started.Ready st ≡ Started.Ready (freshState ed) = ap (λ (u : Begun). u .answer) y in
+          let st-is : st ≡ freshState ed = cc in
           (f, λ i. lent (y i .orders) (y i .symbols) (y i .shelf) (st-is i))
       go false f =
           let y = rw f at e in
@@ -106,5 +107,5 @@ module _ (o s h : List ℕ) (st : State) (o′ s′ h′ : List ℕ) (e : begun 
           let z : _≡_ {A = ℕ} 0 1 = cc in absurd (omega arith)
 
   -- and demand 3 speaks of it
-  pub start-started : demand.Started real (zeroBook (length o) (length s)) (lent o′ s′ h′ st)
-  start-started = rw (start-ready .1) (fresh-started (length o) (length s) (length h) (start-ready .0))
+  pub start-started : demand.Started (real ed) (zeroBook (length o) (length s)) (lent o′ s′ h′ st)
+  start-started = rw (start-ready .1) (fresh-started ed (length o) (length s) (length h) (start-ready .0))

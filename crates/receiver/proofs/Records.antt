@@ -6,6 +6,7 @@ use mathlib.Core.List.{List}
 use native.Mathlib.Omega.{arith}
 use lib.ListN.{length, drop}
 use Rattle.facts.specs.Limits.{packetMost}
+use Rattle.editions.specs.declared.Edition.{Edition}
 use Rattle.packet.specs.Record.{headOf, bodyOf, recOf}
 use Rattle.packet.specs.declared.Head.{Head}
 use Rattle.packet.specs.Packet.{framesFrom, framing}
@@ -47,46 +48,46 @@ module _ (S : Store) (E : Engine) where
       (omega (arith, after-next S E c (w .rx) .1), omega (arith, counted-total (judged S E c (w .rx)) (w .counts)))
 
 -- the records that are left from a place on
-unfoldable pub leftFrom : List ℕ → ℕ → List Rec
-leftFrom p at = recordsOf (framesFrom (length p) (drop at p))
+unfoldable pub leftFrom : (ed : Edition) → List ℕ → ℕ → List Rec
+leftFrom ed p at = recordsOf (framesFrom ed (length p) (drop at p))
 
-module _ (p : List ℕ) (at n : ℕ) (inside-p : at < length p) (n-is : n ≡ headOf (drop at p) .len) (frames : framesFrom (length p) (drop at p) ≡ records (leftFrom p at)) where
-  walk : Step p at (leftFrom p at)
-  walk = step p at (leftFrom p at) inside-p frames
+module _ (ed : Edition) (p : List ℕ) (at n : ℕ) (inside-p : at < length p) (n-is : n ≡ headOf (drop at p) .len) (frames : framesFrom ed (length p) (drop at p) ≡ records (leftFrom ed p at)) where
+  walk : Step ed p at (leftFrom ed p at)
+  walk = step ed p at (leftFrom ed p at) inside-p frames
 
   -- the same place, by the length that the code read
   place : at + (10 + headOf (drop at p) .len) ≡ at + (10 + n)
   place = ap (λ k. at + (10 + k)) (sym n-is)
 
-  behind-is : framesFrom (length p) (drop (at + (10 + n)) p) ≡ records (walk .others)
-  behind-is = ap (λ k. framesFrom (length p) (drop k p)) (sym place) ∙ walk .next
+  behind-is : framesFrom ed (length p) (drop (at + (10 + n)) p) ≡ records (walk .others)
+  behind-is = ap (λ k. framesFrom ed (length p) (drop k p)) (sym place) ∙ walk .next
 
-  left-is : leftFrom p (at + (10 + n)) ≡ walk .others
+  left-is : leftFrom ed p (at + (10 + n)) ≡ walk .others
   unfolding leftFrom
   left-is = ap recordsOf behind-is
 
   pub next-inside : at + (10 + n) ≤ length p
   next-inside = omega (arith, place, walk .inside)
 
-  pub next-frames : framesFrom (length p) (drop (at + (10 + n)) p) ≡ records (leftFrom p (at + (10 + n)))
+  pub next-frames : framesFrom ed (length p) (drop (at + (10 + n)) p) ≡ records (leftFrom ed p (at + (10 + n)))
   next-frames = behind-is ∙ ap records (sym left-is)
 
   module _ (S : Store) (E : Engine) where
-    pub next-works : (w w′ end : Working S E) → work S E (leftFrom p at) w ≡ end → w′ ≡ working S E (recOf (drop at p)) w → work S E (leftFrom p (at + (10 + n))) w′ ≡ end
+    pub next-works : (w w′ end : Working S E) → work S E (leftFrom ed p at) w ≡ end → w′ ≡ working S E (recOf (drop at p)) w → work S E (leftFrom ed p (at + (10 + n))) w′ ≡ end
     next-works w w′ end v u =
         ap (λ cs. work S E cs w′) left-is
         ∙ work-step S E (recOf (drop at p)) (walk .others) w w′ end (ap (λ cs. work S E cs w) (sym (walk .first-is)) ∙ v) u
 
 -- the start of the loop: all of a good packet's records are left
-pub first-frames : (p : List ℕ) → GoodPacket p → (length p ≤ packetMost) × (framesFrom (length p) p ≡ records (leftFrom p 0)) × (leftFrom p 0 ≡ recordsOf (framing p))
+pub first-frames : (ed : Edition) (p : List ℕ) → GoodPacket ed p → (length p ≤ packetMost) × (framesFrom ed (length p) p ≡ records (leftFrom ed p 0)) × (leftFrom ed p 0 ≡ recordsOf (framing ed p))
 unfolding leftFrom
-first-frames p g =
-    let s = framing-size p (g .cs) (g .framing-is) in
+first-frames ed p g =
+    let s = framing-size ed p (g .cs) (g .framing-is) in
     (s .1, s .2 ∙ ap records (sym (ap recordsOf (s .2))), ap recordsOf (s .2) ∙ sym (ap recordsOf (g .framing-is)))
 
 -- its end
-pub last-works : (S : Store) (E : Engine) (p : List ℕ) (at : ℕ) → length p ≤ at → framesFrom (length p) (drop at p) ≡ records (leftFrom p at) → (w end : Working S E) → work S E (leftFrom p at) w ≡ end → w ≡ end
-last-works S E p at h f w end v = work-end S E w end (ap (λ cs. work S E cs w) (sym (step-end p at (leftFrom p at) h f)) ∙ v)
+pub last-works : (ed : Edition) (S : Store) (E : Engine) (p : List ℕ) (at : ℕ) → length p ≤ at → framesFrom ed (length p) (drop at p) ≡ records (leftFrom ed p at) → (w end : Working S E) → work S E (leftFrom ed p at) w ≡ end → w ≡ end
+last-works ed S E p at h f w end v = work-end S E w end (ap (λ cs. work S E cs w) (sym (step-end ed p at (leftFrom ed p at) h f)) ∙ v)
 
 -- the record that the code read at a place
 pub same-record : (p : List ℕ) (at : ℕ) (h : Head) (b : List ℕ) → h ≡ headOf (drop at p) → b ≡ bodyOf (drop at p) → rec (h .number) b ≡ recOf (drop at p)

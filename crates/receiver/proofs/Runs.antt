@@ -8,6 +8,7 @@ use mathlib.Core.List.{List, [], _∷_, _++_}
 use native.Mathlib.Omega.{arith}
 use lib.ListN.{length, take, getD}
 use lib.Seq.{take-suc}
+use Rattle.editions.specs.declared.Edition.{Edition}
 use Rattle.wire.specs.Le.{Bytes}
 use Rattle.wire.specs.Records.{Rec, bad, records}
 use Rattle.wire.proofs.Bytewise.{bytes-zeros}
@@ -32,6 +33,7 @@ use Rattle.receiver.specs.Lent.{sizesOk, bookRules, bookEngine, real, Le
 use Rattle.receiver.specs.Order.{firstUses}
 use Rattle.receiver.proofs.PartsLaws.{lawsOf, applied-shows, applied-rule}
 use Rattle.receiver.proofs.Fits.{all-received, start-fit}
+use Rattle.receiver.proofs.Editions.{calls-keep}
 use Rattle.receiver.proofs.Real.{realLaws, framing-bounded, fresh-started, real-demand}
 
 -- ---- packets hold bytes
@@ -39,73 +41,74 @@ both-known : (cs : List Rec) → Every Bounded cs → AllBytes cs → Every Sent
 both-known [] b y = tt
 both-known (c ∷ cs) b y = (record { bounded = b .0; bytes = y .0 }, both-known cs (b .1) (y .1))
 
-packet-sent : (p : List ℕ) → Bytes p → Every Sent (recordsOf (framing p))
-packet-sent p h = go (framing p) (framing-bounded p) (framing-bytes p h)
+packet-sent : (ed : Edition) (p : List ℕ) → Bytes p → Every Sent (recordsOf (framing ed p))
+packet-sent ed p h = go (framing ed p) (framing-bounded ed p) (framing-bytes ed p h)
   where
     go : (x : Framing) → Every Bounded (recordsOf x) → Bytewise x → Every Sent (recordsOf x)
     go (bad q) b y = tt
     go (records cs) b y = both-known cs b y
 
-all-sent : (ps : List (List ℕ)) → Every Bytes ps → Every Sent (accepted framing ps)
+all-sent : (ed : Edition) (ps : List (List ℕ)) → Every Bytes ps → Every Sent (accepted (framing ed) ps)
 unfolding accepted
-all-sent [] h = tt
-all-sent (p ∷ ps) h = every-append Sent (recordsOf (framing p)) (accepted framing ps) (packet-sent p (h .0)) (all-sent ps (h .1))
+all-sent ed [] h = tt
+all-sent ed (p ∷ ps) h = every-append Sent (recordsOf (framing ed p)) (accepted (framing ed) ps) (packet-sent ed p (h .0)) (all-sent ed ps (h .1))
 
 -- ---- what every applied good message keeps is kept by any number of calls of `receive`, from a start
-module _
+module _ (ed : Edition)
     (P : Book → Type 0)
-    (keeps : (n : ℕ) (b : List ℕ) (k : Book) → 1 ≤ n → Bytes b → bookRules .good b ≡ true → bookRules .rule n b k ≡ 0 → P k → P (bookRules .after n b k))
+    (keeps : (n : ℕ) (b : List ℕ) (k : Book) → 1 ≤ n → Bytes b → bookRules ed .good b ≡ true → bookRules ed .rule n b k ≡ 0 → P k → P (bookRules ed .after n b k))
     (o s h : ℕ) (sizes : sizesOk o s h ≡ true) (zeroed : P (zeroBook o s)) where
-  applying : (n : ℕ) (b : List ℕ) (x y : Book) → 1 ≤ n → Bytes b → bookRules .good b ≡ true → bookEngine .apply n b x ≡ ok y → P x → P y
-  applying n b x y l c g e p = subst P (sym (applied-shows bookRules n b x y e)) (keeps n b x l c g (applied-rule bookRules n b x y e) p)
+  applying : (n : ℕ) (b : List ℕ) (x y : Book) → 1 ≤ n → Bytes b → bookRules ed .good b ≡ true → bookEngine ed .apply n b x ≡ ok y → P x → P y
+  applying n b x y l c g e p = subst P (sym (applied-shows (bookRules ed) n b x y e)) (keeps n b x l c g (applied-rule (bookRules ed) n b x y e) p)
 
-  pub run-keeps-book : (ps : List (List ℕ)) → Every Bytes ps → P (receivedAll ps (fresh o s h) .rx .book)
+  pub run-keeps-book : (ps : List (List ℕ)) → Every Bytes ps → P (receivedAll ps (fresh ed o s h) .rx .book)
   run-keeps-book ps c =
-      let began = fresh-started o s h sizes in
-      let start = start-carried shelfStore bookEngine (lawsOf real realLaws) (zeroBook o s) (fresh o s h .rx) (began .zeroed) (λ i l. rw (zeros-empty h i) (bytes-zeros 64)) in
-      subst (λ (r : Rx real). P (r .book)) (sym (all-received real realLaws ps (fresh o s h) (start-fit real realLaws (zeroBook o s) (fresh o s h) began)))
-      (packets-hold shelfStore bookEngine (lawsOf real realLaws) P applying framing ps (fresh o s h .rx) (all-sent ps c) (record { carried = start; holds = zeroed }) .holds)
+      let began = fresh-started ed o s h sizes in
+      let start = start-carried shelfStore (bookEngine ed) (lawsOf (real ed) (realLaws ed)) (zeroBook o s) (fresh ed o s h .rx) (began .zeroed) (λ i l. rw (zeros-empty h i) (bytes-zeros 64)) in
+      subst (λ (k : Lent). P (k .rx .book)) (sym (calls-keep ps (fresh ed o s h)))
+      (subst (λ (r : Rx (real ed)). P (r .book)) (sym (all-received (real ed) (realLaws ed) ps (fresh ed o s h) (start-fit (real ed) (realLaws ed) (zeroBook o s) (fresh ed o s h) began)))
+      (packets-hold shelfStore (bookEngine ed) (lawsOf (real ed) (realLaws ed)) P applying (framing ed) ps (fresh ed o s h .rx) (all-sent ed ps c) (record { carried = start; holds = zeroed }) .holds))
 
 -- no row is spoiled; live order IDs are unique; used symbol entries have distinct IDs and lie in front
-pub run-tidy : (o s h : ℕ) → sizesOk o s h ≡ true → (ps : List (List ℕ)) → Every Bytes ps → Tidy (receivedAll ps (fresh o s h) .rx .book)
-run-tidy o s h sizes ps c = run-keeps-book Tidy (λ n b k l y g z t. tidy-kept n b k l y z t) o s h sizes (tidy-zero o s (clock 0)) ps c
+pub run-tidy : (ed : Edition) (o s h : ℕ) → sizesOk o s h ≡ true → (ps : List (List ℕ)) → Every Bytes ps → Tidy (receivedAll ps (fresh ed o s h) .rx .book)
+run-tidy ed o s h sizes ps c = run-keeps-book ed Tidy (λ n b k l y g z t. tidy-kept ed n b k l y z t) o s h sizes (tidy-zero o s (clock 0)) ps c
 
 -- ---- "in order of first use"
-uses-last : (ms : List (List ℕ)) (m : List ℕ) (ids : List ℕ) → firstUses (ms ++ (m ∷ [])) ids ≡ firstUse m (firstUses ms ids)
+uses-last : (ed : Edition) (ms : List (List ℕ)) (m : List ℕ) (ids : List ℕ) → firstUses ed (ms ++ (m ∷ [])) ids ≡ firstUse ed m (firstUses ed ms ids)
 unfolding firstUses
-uses-last [] m ids = refl
-uses-last (x ∷ ms) m ids = uses-last ms m (firstUse x ids)
+uses-last ed [] m ids = refl
+uses-last ed (x ∷ ms) m ids = uses-last ed ms m (firstUse ed x ids)
 
 -- in demand 3's run: the symbols in table order are those of the list's first k messages, each where it is first used
-module _ (ms : List (List ℕ)) (bytes : (n : ℕ) → Bytes (msg ms n)) (o s : ℕ) where
+module _ (ed : Edition) (ms : List (List ℕ)) (bytes : (n : ℕ) → Bytes (msg ms n)) (o s : ℕ) where
   pub record Ordered (k : ℕ) (x : Book) : Type 0 where
     pub tidy : Tidy x
-    pub ids-are : usedIds x ≡ firstUses (take k ms) []
+    pub ids-are : usedIds x ≡ firstUses ed (take k ms) []
 
-  one-more : (k : ℕ) (x y : Book) → 0 + suc k ≤ length ms → Ordered k x → bookEngine .apply (0 + suc k) (msg ms (0 + suc k)) x ≡ ok y → Ordered (suc k) y
+  one-more : (k : ℕ) (x y : Book) → 0 + suc k ≤ length ms → Ordered k x → bookEngine ed .apply (0 + suc k) (msg ms (0 + suc k)) x ≡ ok y → Ordered (suc k) y
   one-more k x y l v e =
       let m : List ℕ = msg ms (0 + suc k) in
-      let z = applied-rule bookRules (0 + suc k) m x y e in
-      let after = applied-shows bookRules (0 + suc k) m x y e in
+      let z = applied-rule (bookRules ed) (0 + suc k) m x y e in
+      let after = applied-shows (bookRules ed) (0 + suc k) m x y e in
       let at : 0 + suc k - 1 ≡ k = omega arith in
       let parts : take (suc k) ms ≡ take k ms ++ (m ∷ []) = take-suc ms k [] (omega arith) ∙ ap (λ j. take k ms ++ (getD ms j [] ∷ [])) (sym at) in
       record {
-        tidy = subst Tidy (sym after) (tidy-kept (0 + suc k) m x (omega arith) (bytes (0 + suc k)) z (v .tidy));
+        tidy = subst Tidy (sym after) (tidy-kept ed (0 + suc k) m x (omega arith) (bytes (0 + suc k)) z (v .tidy));
         ids-are =
             ap usedIds after
-            ∙ first-use-kept (0 + suc k) m x (omega arith) (bytes (0 + suc k)) z (v .tidy)
-            ∙ ap (firstUse m) (v .ids-are)
-            ∙ sym (uses-last (take k ms) m [])
-            ∙ ap (λ l. firstUses l []) (sym parts);
+            ∙ first-use-kept ed (0 + suc k) m x (omega arith) (bytes (0 + suc k)) z (v .tidy)
+            ∙ ap (firstUse ed m) (v .ids-are)
+            ∙ sym (uses-last ed (take k ms) m [])
+            ∙ ap (λ l. firstUses ed l []) (sym parts);
       }
 
-  pub made-ordered : (k : ℕ) (x : Book) → k ≤ length ms → made bookEngine ms 0 (zeroBook o s) k ≡ ok x → Ordered k x
+  pub made-ordered : (k : ℕ) (x : Book) → k ≤ length ms → made (bookEngine ed) ms 0 (zeroBook o s) k ≡ ok x → Ordered k x
   unfolding firstUses
   made-ordered k x l e =
-      made-keeps bookEngine ms 0 (zeroBook o s) Ordered (record { tidy = tidy-zero o s (clock 0); ids-are = ids-zero o s (clock 0) }) one-more k x (omega arith) e
+      made-keeps (bookEngine ed) ms 0 (zeroBook o s) Ordered (record { tidy = tidy-zero o s (clock 0); ids-are = ids-zero o s (clock 0) }) one-more k x (omega arith) e
 
-  pub run-ordered : (h : ℕ) (ps : List (List ℕ)) → Given real ms (zeroBook o s) (fresh o s h) ps
-      → usedIds (receivedAll ps (fresh o s h) .rx .book) ≡ firstUses (take (receivedAll ps (fresh o s h) .rx .next - 1) ms) []
+  pub run-ordered : (h : ℕ) (ps : List (List ℕ)) → Given (real ed) ms (zeroBook o s) (fresh ed o s h) ps
+      → usedIds (receivedAll ps (fresh ed o s h) .rx .book) ≡ firstUses ed (take (receivedAll ps (fresh ed o s h) .rx .next - 1) ms) []
   run-ordered h ps g =
-      let m : MadeBy real ms (zeroBook o s) (receivedAll ps (fresh o s h)) = real-demand ms o s .first (fresh o s h) ps g in
-      made-ordered (receivedAll ps (fresh o s h) .rx .next - 1) (receivedAll ps (fresh o s h) .rx .book) (m .in-list) (m .tables-are) .ids-are
+      let m : MadeBy (real ed) ms (zeroBook o s) (receivedAll ps (fresh ed o s h)) = subst (MadeBy (real ed) ms (zeroBook o s)) (sym (calls-keep ps (fresh ed o s h))) (real-demand ed ms o s .first (fresh ed o s h) ps g) in
+      made-ordered (receivedAll ps (fresh ed o s h) .rx .next - 1) (receivedAll ps (fresh ed o s h) .rx .book) (m .in-list) (m .tables-are) .ids-are

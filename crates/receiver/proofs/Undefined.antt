@@ -12,6 +12,7 @@ use lib.Dec.{eqb}
 use lib.ListN.{length}
 use Rattle.facts.specs.Limits.{shelfSize}
 use Rattle.facts.specs.Pick.{pick}
+use Rattle.editions.specs.declared.Edition.{Edition}
 use Rattle.wire.specs.Records.{Rec, rec}
 use Rattle.body.specs.Read.{goodBody}
 use Rattle.body.specs.Undefined.{OnlyBits, ButForBits}
@@ -34,104 +35,105 @@ use Rattle.arbitration.proofs.OnShelf.{AsItCame, copy-old, copy-differs, taken-
 use Rattle.arbitration.proofs.MeaningLaws.{faithful-first, faithful-second}
 use Rattle.shelf.specs.Store.{shelfStore}
 use Rattle.receiver.specs.Demand3.{MadeBy, Names, AnsweredTo}
-use Rattle.receiver.specs.Lent.{bookEngine, real, Rx, Lent, receivedAll, zeroBook}
+use Rattle.receiver.specs.Receiver.{receivesAll}
+use Rattle.receiver.specs.Lent.{bookEngine, real, Rx, Lent, zeroBook}
 use Rattle.receiver.specs.Undefined.{BitCopy, GivenBits}
 use Rattle.receiver.proofs.PartsLaws.{lawsOf}
 use Rattle.receiver.proofs.Demand.{made-by, named-by, ran, stop-is}
 use Rattle.receiver.proofs.Real.{realLaws}
 
 -- ---- "They are ignored from now on"
-pub bits-mean : (b c : List ℕ) → ButForBits b c → Means bookEngine b c
-bits-mean b c (inl e) = record { as-good = ap goodBody (sym e); as-applied = λ n k. ap (λ (x : List ℕ). bookEngine .apply n x k) (sym e) }
-bits-mean b c (inr o) =
+pub bits-mean : (ed : Edition) (b c : List ℕ) → ButForBits ed b c → Means (bookEngine ed) b c
+bits-mean ed b c (inl e) = record { as-good = ap (goodBody ed) (sym e); as-applied = λ n k. ap (λ (x : List ℕ). bookEngine ed .apply n x k) (sym e) }
+bits-mean ed b c (inr o) =
     record {
-      as-good = let g = bits-good b c o in g .1 ∙ sym (g .0);
-      as-applied = λ n k. ap (λ (x : Effect). pick (eqb (x .rule) 0) (ok (x .after)) (broke (x .rule))) (bits-applied n b c k o);
+      as-good = let g = bits-good ed b c o in g .1 ∙ sym (g .0);
+      as-applied = λ n k. ap (λ (x : Effect). pick (eqb (x .rule) 0) (ok (x .after)) (broke (x .rule))) (bits-applied ed n b c k o);
     }
 
-all-faithful : (ms : List (List ℕ)) (cs : List Rec) → Every (BitCopy ms) cs → Every (Faithful bookEngine ms) cs
-all-faithful ms cs h = every-map (BitCopy ms) (Faithful bookEngine ms) (λ c x. record { in-list = x .in-list; means = bits-mean _ _ (x .same) }) cs h
+all-faithful : (ed : Edition) (ms : List (List ℕ)) (cs : List Rec) → Every (BitCopy ed ms) cs → Every (Faithful (bookEngine ed) ms) cs
+all-faithful ed ms cs h = every-map (BitCopy ed ms) (Faithful (bookEngine ed) ms) (λ c x. record { in-list = x .in-list; means = bits-mean ed _ _ (x .same) }) cs h
 
 -- both halves of demand 3, of copies that differ from the list in undefined bits
-module _ (ms : List (List ℕ)) (o s : ℕ) (k0 : Lent) (ps : List (List ℕ)) (g : GivenBits ms o s k0 ps) where
+module _ (ed : Edition) (ms : List (List ℕ)) (o s : ℕ) (k0 : Lent) (ps : List (List ℕ)) (g : GivenBits ed ms o s k0 ps) where
   abbrev cs : List Rec
-  cs = accepted framing ps
+  cs = accepted (framing ed) ps
 
-  ready : Ready shelfStore bookEngine ms 0 (zeroBook o s) (k0 .rx)
-  ready = start-ready shelfStore bookEngine (lawsOf real realLaws) ms (g .well-formed) (zeroBook o s) (k0 .rx) (g .started .zeroed)
+  ready : Ready shelfStore (bookEngine ed) ms 0 (zeroBook o s) (k0 .rx)
+  ready = start-ready shelfStore (bookEngine ed) (lawsOf (real ed) (realLaws ed)) ms (g .well-formed) (zeroBook o s) (k0 .rx) (g .started .zeroed)
 
   numbered : Every Numbered cs
-  numbered = every-accepted framing Numbered (realLaws .numbered) ps
+  numbered = every-accepted (framing ed) Numbered (realLaws ed .numbered) ps
 
-  end-is : receivedAll ps k0 .rx ≡ run shelfStore bookEngine cs (k0 .rx)
-  end-is = ran real realLaws ms (zeroBook o s) k0 ps (g .started)
+  end-is : receivesAll (real ed) ps k0 .rx ≡ run shelfStore (bookEngine ed) cs (k0 .rx)
+  end-is = ran (real ed) (realLaws ed) ms (zeroBook o s) k0 ps (g .started)
 
-  pub bits-made : Made shelfStore bookEngine ms 0 (zeroBook o s) (receivedAll ps k0 .rx)
+  pub bits-made : Made shelfStore (bookEngine ed) ms 0 (zeroBook o s) (receivesAll (real ed) ps k0 .rx)
   bits-made =
-      subst (Made shelfStore bookEngine ms 0 (zeroBook o s)) (sym end-is)
-      (faithful-first shelfStore bookEngine (lawsOf real realLaws) ms (g .well-formed) 0 (zeroBook o s) (k0 .rx) cs ready numbered (all-faithful ms cs (g .copies)))
+      subst (Made shelfStore (bookEngine ed) ms 0 (zeroBook o s)) (sym end-is)
+      (faithful-first shelfStore (bookEngine ed) (lawsOf (real ed) (realLaws ed)) ms (g .well-formed) 0 (zeroBook o s) (k0 .rx) cs ready numbered (all-faithful ed ms cs (g .copies)))
 
-  pub bits-first : MadeBy real ms (zeroBook o s) (receivedAll ps k0)
-  bits-first = made-by real realLaws ms (zeroBook o s) (receivedAll ps k0) bits-made
+  pub bits-first : MadeBy (real ed) ms (zeroBook o s) (receivesAll (real ed) ps k0)
+  bits-first = made-by (real ed) (realLaws ed) ms (zeroBook o s) (receivesAll (real ed) ps k0) bits-made
 
-  pub bits-second : (j : ℕ) → AnsweredTo real j ps k0 → (j ≤ receivedAll ps k0 .rx .next - 1) ⊎ Names real ms (zeroBook o s) (receivedAll ps k0)
+  pub bits-second : (j : ℕ) → AnsweredTo (real ed) j ps k0 → (j ≤ receivesAll (real ed) ps k0 .rx .next - 1) ⊎ Names (real ed) ms (zeroBook o s) (receivesAll (real ed) ps k0)
   bits-second j all =
-      go (faithful-second shelfStore bookEngine (lawsOf real realLaws) ms (g .well-formed) 0 (zeroBook o s) (k0 .rx) cs ready numbered (all-faithful ms cs (g .copies)) j all)
+      go (faithful-second shelfStore (bookEngine ed) (lawsOf (real ed) (realLaws ed)) ms (g .well-formed) 0 (zeroBook o s) (k0 .rx) cs ready numbered (all-faithful ed ms cs (g .copies)) j all)
     where
-      go : (j < run shelfStore bookEngine cs (k0 .rx) .next) ⊎ Named shelfStore bookEngine ms 0 (zeroBook o s) (run shelfStore bookEngine cs (k0 .rx))
-          → (j ≤ receivedAll ps k0 .rx .next - 1) ⊎ Names real ms (zeroBook o s) (receivedAll ps k0)
+      go : (j < run shelfStore (bookEngine ed) cs (k0 .rx) .next) ⊎ Named shelfStore (bookEngine ed) ms 0 (zeroBook o s) (run shelfStore (bookEngine ed) cs (k0 .rx))
+          → (j ≤ receivesAll (real ed) ps k0 .rx .next - 1) ⊎ Names (real ed) ms (zeroBook o s) (receivesAll (real ed) ps k0)
       go (inl l) = inl (omega (arith, ap (λ (x : Rx). x .next) end-is))
       go (inr m) =
-          inr (named-by real realLaws ms (zeroBook o s) (receivedAll ps k0) (stop-is real realLaws ms (zeroBook o s) k0 ps (g .started))
-          (subst (Named shelfStore bookEngine ms 0 (zeroBook o s)) (sym end-is) m))
+          inr (named-by (real ed) (realLaws ed) ms (zeroBook o s) (receivesAll (real ed) ps k0) (stop-is (real ed) (realLaws ed) ms (zeroBook o s) k0 ps (g .started))
+          (subst (Named shelfStore (bookEngine ed) ms 0 (zeroBook o s)) (sym end-is) m))
 
 -- and two such receivers agree
-pub bits-agree : (ms : List (List ℕ)) (o s : ℕ) (k0 k0′ : Lent) (ps ps′ : List (List ℕ)) → GivenBits ms o s k0 ps → GivenBits ms o s k0′ ps′
-    → receivedAll ps k0 .rx .next ≡ receivedAll ps′ k0′ .rx .next → receivedAll ps k0 .rx .book ≡ receivedAll ps′ k0′ .rx .book
-bits-agree ms o s k0 k0′ ps ps′ g g′ e =
-    agree shelfStore bookEngine ms 0 (zeroBook o s) (receivedAll ps k0 .rx) (receivedAll ps′ k0′ .rx) (bits-made ms o s k0 ps g) (bits-made ms o s k0′ ps′ g′) e
+pub bits-agree : (ed : Edition) (ms : List (List ℕ)) (o s : ℕ) (k0 k0′ : Lent) (ps ps′ : List (List ℕ)) → GivenBits ed ms o s k0 ps → GivenBits ed ms o s k0′ ps′
+    → receivesAll (real ed) ps k0 .rx .next ≡ receivesAll (real ed) ps′ k0′ .rx .next → receivesAll (real ed) ps k0 .rx .book ≡ receivesAll (real ed) ps′ k0′ .rx .book
+bits-agree ed ms o s k0 k0′ ps ps′ g g′ e =
+    agree shelfStore (bookEngine ed) ms 0 (zeroBook o s) (receivesAll (real ed) ps k0 .rx) (receivesAll (real ed) ps′ k0′ .rx) (bits-made ed ms o s k0 ps g) (bits-made ed ms o s k0′ ps′ g′) e
 
 -- ---- two copies that differ only in those bits: the first was taken, by any receiver whose shelf has its size, and any records came after it that packets can bring
-module _ (r : Rx) (n : ℕ) (b c : List ℕ) (o : OnlyBits b c) (w : Numbered (rec n b)) (size : length (r .shelf) ≡ shelfSize)
-    (first : judged shelfStore bookEngine (rec n b) r ≡ taken) (cs : List Rec) (h : Every Bounded cs) where
-  short : (x : List ℕ) → goodBody x ≡ true → length x ≤ 64
-  short x g = omega (arith, good-fits x g .most)
+module _ (ed : Edition) (r : Rx) (n : ℕ) (b c : List ℕ) (o : OnlyBits ed b c) (w : Numbered (rec n b)) (size : length (r .shelf) ≡ shelfSize)
+    (first : judged shelfStore (bookEngine ed) (rec n b) r ≡ taken) (cs : List Rec) (h : Every Bounded cs) where
+  short : (x : List ℕ) → goodBody ed x ≡ true → length x ≤ 64
+  short x g = omega (arith, good-fits ed x g .most)
 
   abbrev then : Rx
-  then = run shelfStore bookEngine cs (after shelfStore bookEngine (rec n b) r)
+  then = run shelfStore (bookEngine ed) cs (after shelfStore (bookEngine ed) (rec n b) r)
 
   -- "kept on the shelf as they came"
-  pub first-kept : AsItCame shelfStore bookEngine n b then
+  pub first-kept : AsItCame shelfStore (bookEngine ed) n b then
   first-kept =
-      let fit : Fitting (rec n b) = bounded-fits (rec n b) (record { number-to = w .number-to; short = short b (bits-good b c o .0) }) in
-      stays-as-it-came shelfStore bookEngine (lawsOf real realLaws) n b cs (after shelfStore bookEngine (rec n b) r) (w .number-from) (every-map Bounded Fitting bounded-fits cs h)
-      (taken-as-it-came shelfStore bookEngine (lawsOf real realLaws) (rec n b) r fit size first)
+      let fit : Fitting (rec n b) = bounded-fits (rec n b) (record { number-to = w .number-to; short = short b (bits-good ed b c o .0) }) in
+      stays-as-it-came shelfStore (bookEngine ed) (lawsOf (real ed) (realLaws ed)) n b cs (after shelfStore (bookEngine ed) (rec n b) r) (w .number-from) (every-map Bounded Fitting bounded-fits cs h)
+      (taken-as-it-came shelfStore (bookEngine ed) (lawsOf (real ed) (realLaws ed)) (rec n b) r fit size first)
 
   -- next only grows, so the window still has n
   in-window : n < then .next + 64
   in-window =
-      let a = shows (r .next) (slotOf shelfStore bookEngine r n) (rec n b) taken first .1 in
-      omega (arith, a, after-next shelfStore bookEngine (rec n b) r .0, run-next shelfStore bookEngine cs (after shelfStore bookEngine (rec n b) r))
+      let a = shows (r .next) (slotOf shelfStore (bookEngine ed) r n) (rec n b) taken first .1 in
+      omega (arith, a, after-next shelfStore (bookEngine ed) (rec n b) r .0, run-next shelfStore (bookEngine ed) cs (after shelfStore (bookEngine ed) (rec n b) r))
 
   -- what the second is answered
   abbrev Answers : Type 0
-  Answers = ((then .next ≤ n) × (judged shelfStore bookEngine (rec n c) then ≡ differing)) ⊎ ((n < then .next) × (judged shelfStore bookEngine (rec n c) then ≡ old))
+  Answers = ((then .next ≤ n) × (judged shelfStore (bookEngine ed) (rec n c) then ≡ differing)) ⊎ ((n < then .next) × (judged shelfStore (bookEngine ed) (rec n c) then ≡ old))
 
   -- "Two copies that differ only in those bits are still differing copies (14)": while the first waits; 11 once next has passed it; and it changes nothing
-  pub second-copy : (after shelfStore bookEngine (rec n c) then ≡ then) × Answers
+  pub second-copy : (after shelfStore (bookEngine ed) (rec n c) then ≡ then) × Answers
   second-copy = go (first-kept .1)
     where
-      passed : n < then .next → (after shelfStore bookEngine (rec n c) then ≡ then) × Answers
-      passed l = let a = copy-old shelfStore bookEngine then n c l in (a .1, inr (l, a .0))
+      passed : n < then .next → (after shelfStore (bookEngine ed) (rec n c) then ≡ then) × Answers
+      passed l = let a = copy-old shelfStore (bookEngine ed) then n c l in (a .1, inr (l, a .0))
 
-      waiting : slotOf shelfStore bookEngine then n ≡ slotFor n b → Dec (n < then .next) → (after shelfStore bookEngine (rec n c) then ≡ then) × Answers
+      waiting : slotOf shelfStore (bookEngine ed) then n ≡ slotFor n b → Dec (n < then .next) → (after shelfStore (bookEngine ed) (rec n c) then ≡ then) × Answers
       waiting e (yes l) = passed l
       waiting e (no l) =
           let from : then .next ≤ n = omega arith in
-          let g = bits-good b c o in
-          let a = copy-differs shelfStore bookEngine then n b e (w .number-from) from in-window c (short b (g .0)) (short c (g .1)) (bits-apart b c o) in
+          let g = bits-good ed b c o in
+          let a = copy-differs shelfStore (bookEngine ed) then n b e (w .number-from) from in-window c (short b (g .0)) (short c (g .1)) (bits-apart ed b c o) in
           (a .1, inl (from, a .0))
 
-      go : (n < then .next) ⊎ (slotOf shelfStore bookEngine then n ≡ slotFor n b) → (after shelfStore bookEngine (rec n c) then ≡ then) × Answers
+      go : (n < then .next) ⊎ (slotOf shelfStore (bookEngine ed) then n ≡ slotFor n b) → (after shelfStore (bookEngine ed) (rec n c) then ≡ then) × Answers
       go (inl l) = passed l
       go (inr e) = waiting e (decLt n (then .next))

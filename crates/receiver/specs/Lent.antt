@@ -5,6 +5,8 @@ use mathlib.Core.List.{List, [], _∷_}
 use lib.ListN.{length, replicate}
 use mathlib.Core.Path.{_≡_}
 use Rattle.facts.specs.Pick.{pick, both}
+use Rattle.editions.specs.declared.Edition.{Edition}
+use Rattle.editions.specs.Editions.{numberOf}
 use Rattle.wire.specs.Records.{Rec, records}
 use Rattle.fields.specs.Fields.{refusal}
 use Rattle.body.specs.Read.{goodBody}
@@ -33,28 +35,29 @@ use Rattle.receiver.specs.declared.Started.{Started}
 unfoldable pub sizesOk : ℕ → ℕ → ℕ → Bool
 sizesOk o s h = both (goodRows o) (both (goodEntries s) (goodShelf h))
 
-abbrev pub bookRules : Rules
-bookRules = record { Book = Book; rule = λ n b k. applied n b k .rule; after = λ n b k. applied n b k .after; good = goodBody }
+-- "Demands 2 and 3 are read per edition" (request 10): the parts of a receiver of each
+abbrev pub bookRules : Edition → Rules
+bookRules ed = record { Book = Book; rule = λ n b k. applied ed n b k .rule; after = λ n b k. applied ed n b k .after; good = goodBody ed }
 
-abbrev pub bookEngine : Engine
-bookEngine = engineOf bookRules
+abbrev pub bookEngine : Edition → Engine
+bookEngine ed = engineOf (bookRules ed)
 
-abbrev pub real : Parts
-real = record { store = shelfStore; rules = bookRules; frame = framing; sized = λ k h. sizesOk (length (k .orders)) (length (k .symbols)) (length h) }
+abbrev pub real : Edition → Parts
+real ed = record { store = shelfStore; rules = bookRules ed; frame = framing ed; sized = λ k h. sizesOk (length (k .orders)) (length (k .symbols)) (length h) }
 
 -- ---- the receiver
 abbrev pub Rx : Type 0
-Rx = generic.Rx real
+Rx = theory.Rx (List ℕ) Book
 
 abbrev pub rx : ℕ → Clock → List ℕ → List ℕ → List ℕ → Rx
 rx next clock orders symbols shelf = record { next = next; shelf = shelf; book = book orders symbols clock }
 
 -- the order table, the symbol table, the shelf, and the state by value
 abbrev pub Lent : Type 0
-Lent = generic.Receiver real
+Lent = generic.Keeps (List ℕ) Book
 
 abbrev pub lent : List ℕ → List ℕ → List ℕ → State → Lent
-lent o s h t = generic.receiver real (rx (t .next) (t .clock) o s h) (t .stop)
+lent o s h t = record { rx = rx (t .next) (t .clock) o s h; stop = t .stop; edition = t .edition }
 
 abbrev pub ordersOf : Lent → List ℕ
 ordersOf k = k .rx .book .orders
@@ -66,33 +69,36 @@ abbrev pub shelfOf : Lent → List ℕ
 shelfOf k = k .rx .shelf
 
 abbrev pub stateOf : Lent → State
-stateOf k = record { next = k .rx .next; clock = k .rx .book .clock; stop = k .stop }
+stateOf k = record { next = k .rx .next; clock = k .rx .book .clock; stop = k .stop; edition = k .edition }
 
--- a receiver's state as three numbers
+-- a receiver's state as four numbers
 abbrev pub stateNumbers : State → List ℕ
-stateNumbers s = s .next ∷ s .clock .second ∷ s .stop ∷ []
+stateNumbers s = s .next ∷ s .clock .second ∷ s .stop ∷ numberOf (s .edition) ∷ []
 
 -- ---- a packet
 abbrev pub Handled : Type 0
-Handled = generic.Handled real
+Handled = generic.Handles (List ℕ) Book
 
 abbrev pub handled : Received → Lent → Handled
-handled a k = generic.handled real a k
+handled a k = record { answer = a; after = k }
 
+-- by the edition that the state has: one that the caller changed between calls is worked "by the same steps"
 abbrev pub received : Lent → List ℕ → Handled
-received k p = generic.receives real k p
+received k p = generic.receives (real (k .edition)) k p
 
 -- packet after packet, a call for each
-abbrev pub receivedAll : List (List ℕ) → Lent → Lent
-receivedAll ps k = generic.receivesAll real ps k
+unfoldable pub receivedAll : List (List ℕ) → Lent → Lent
+receivedAll [] k = k
+receivedAll (p ∷ ps) k = receivedAll ps (received k p .after)
 
 -- ---- a start
-abbrev pub freshState : State
-freshState = record { next = 1; clock = clock 0; stop = 0 }
+-- "A recording's edition is chosen at start" (request 10)
+abbrev pub freshState : Edition → State
+freshState ed = record { next = 1; clock = clock 0; stop = 0; edition = ed }
 
 -- "A start zeroes all three, the second included, and sets the next number to 1"
-abbrev pub fresh : ℕ → ℕ → ℕ → Lent
-fresh o s h = lent (replicate o 0) (replicate s 0) (replicate h 0) freshState
+abbrev pub fresh : Edition → ℕ → ℕ → ℕ → Lent
+fresh ed o s h = lent (replicate o 0) (replicate s 0) (replicate h 0) (freshState ed)
 
 -- its book: tables of these sizes, all zero
 abbrev pub zeroBook : ℕ → ℕ → Book
@@ -113,10 +119,10 @@ abbrev pub startNumber : Started → ℕ
 startNumber (Started.Ready s) = 0
 startNumber (Started.Refused r) = r .number
 
-unfoldable pub started : List ℕ → List ℕ → List ℕ → Begun
-started o s h =
+unfoldable pub started : Edition → List ℕ → List ℕ → List ℕ → Begun
+started ed o s h =
     pick (sizesOk (length o) (length s) (length h))
-    (begun (Started.Ready freshState) (replicate (length o) 0) (replicate (length s) 0) (replicate (length h) 0))
+    (begun (Started.Ready (freshState ed)) (replicate (length o) 0) (replicate (length s) 0) (replicate (length h) 0))
     (begun (Started.Refused (refusal 6)) o s h)
 
 -- ---- inside the code
@@ -129,10 +135,10 @@ answerOf Answer.Repeated = theory.repeated
 answerOf Answer.Differing = theory.differing
 
 -- a packet that is not refused, and its records
-pub record GoodPacket (p : List ℕ) : Type 0 where
+pub record GoodPacket (ed : Edition) (p : List ℕ) : Type 0 where
   pub cs : List Rec
-  pub framing-is : framing p ≡ records cs
+  pub framing-is : framing ed p ≡ records cs
 
 -- the work of a packet: where it stands, and the answers so far
-abbrev pub workingOf : Place → Counts → List ℕ → List ℕ → List ℕ → Working shelfStore bookEngine
-workingOf a t o s h = record { rx = rx (a .next) (a .clock) o s h; counts = t }
+abbrev pub workingOf : (ed : Edition) → Place → Counts → List ℕ → List ℕ → List ℕ → Working shelfStore (bookEngine ed)
+workingOf ed a t o s h = record { rx = rx (a .next) (a .clock) o s h; counts = t }

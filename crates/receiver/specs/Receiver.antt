@@ -5,6 +5,7 @@ use mathlib.Core.List.{List, [], _∷_}
 use lib.Dec.{leb}
 use Rattle.facts.specs.Pick.{pick, both}
 use Rattle.facts.specs.Limits.{lastNumber}
+use Rattle.editions.specs.declared.Edition.{Edition}
 use Rattle.wire.specs.Records.{Frames, bad, records}
 use Rattle.fields.specs.Fields.{refusal}
 use Rattle.packet.specs.Packet.{Why, alone, placed}
@@ -32,23 +33,30 @@ abbrev pub refusedBy : Why → Received
 refusedBy (alone r) = Received.Refused r
 refusedBy (placed f) = Received.Bad f
 
+-- a receiver with what it is lent: the next number, the shelf, the book; the stop of its last accepted packet; and its edition, which is "chosen at start" (request 10): no packet changes it
+pub record Keeps (Shelf Book : Type 0) : Type 0 where
+  pub rx : theory.Rx Shelf Book
+  pub stop : ℕ
+  pub edition : Edition
+
+-- an answer, and the receiver after it
+pub record Handles (Shelf Book : Type 0) : Type 0 where
+  pub answer : Received
+  pub after : Keeps Shelf Book
+
 module _ (P : Parts) where
   -- the receiver of the theory
   abbrev pub Rx : Type 0
   Rx = theory.State (P .store) (engineOf (P .rules))
 
-  -- a receiver with what it is lent: the next number, the shelf, the book; and the stop of its last accepted packet
-  pub record Receiver : Type 0 where
-    pub rx : Rx
-    pub stop : ℕ
+  abbrev pub Receiver : Type 0
+  Receiver = Keeps (P .store .Shelf) (P .rules .Book)
 
-  abbrev pub receiver : Rx → ℕ → Receiver
-  receiver r q = record { rx = r; stop = q }
+  abbrev pub receiver : Rx → ℕ → Edition → Receiver
+  receiver r q v = record { rx = r; stop = q; edition = v }
 
-  -- an answer, and the receiver after it
-  pub record Handled : Type 0 where
-    pub answer : Received
-    pub after : Receiver
+  abbrev pub Handled : Type 0
+  Handled = Handles (P .store .Shelf) (P .rules .Book)
 
   abbrev pub handled : Received → Receiver → Handled
   handled a k = record { answer = a; after = k }
@@ -58,7 +66,7 @@ module _ (P : Parts) where
   handledBy (bad w) k = handled (refusedBy w) k
   handledBy (records cs) k =
       let t : theory.Told = theory.told (P .store) (engineOf (P .rules)) cs (k .rx) in
-      handled (Received.Accepted (account t)) (receiver (theory.run (P .store) (engineOf (P .rules)) cs (k .rx)) (t .stopped))
+      handled (Received.Accepted (account t)) (receiver (theory.run (P .store) (engineOf (P .rules)) cs (k .rx)) (t .stopped) (k .edition))
 
   -- no 6
   unfoldable pub fit : Receiver → Bool

@@ -3,6 +3,7 @@
 use Prim.Native.Nat.{ℕ, _≤_}
 use mathlib.Core.List.{List}
 use lib.ListN.{length}
+use Rattle.editions.specs.declared.Edition.{Edition}
 use Rattle.wire.specs.Records.{Rec}
 use Rattle.body.specs.Read.{goodBody}
 use Rattle.body.specs.Undefined.{ButForBits}
@@ -13,12 +14,12 @@ use Rattle.receiver.specs.Demand3.{Started}
 use Rattle.receiver.specs.Lent.{real, Lent, zeroBook}
 
 -- a copy of the list's message but for those bits
-pub record BitCopy (ms : List (List ℕ)) (c : Rec) : Type 0 where
+pub record BitCopy (ed : Edition) (ms : List (List ℕ)) (c : Rec) : Type 0 where
   pub in-list : c .number ≤ length ms
-  pub same : ButForBits (msg ms (c .number)) (c .body)
+  pub same : ButForBits ed (msg ms (c .number)) (c .body)
 
 -- what demand 3 is given (`Given` of Demand3), with such copies in the place of true ones
-pub record GivenBits (ms : List (List ℕ)) (o s : ℕ) (k0 : Lent) (ps : List (List ℕ)) : Type 0 where
-  pub well-formed : WellFormed goodBody ms
-  pub started : Started real (zeroBook o s) k0
-  pub copies : Every (BitCopy ms) (accepted framing ps)
+pub record GivenBits (ed : Edition) (ms : List (List ℕ)) (o s : ℕ) (k0 : Lent) (ps : List (List ℕ)) : Type 0 where
+  pub well-formed : WellFormed (goodBody ed) ms
+  pub started : Started (real ed) (zeroBook o s) k0
+  pub copies : Every (BitCopy ed ms) (accepted (framing ed) ps)

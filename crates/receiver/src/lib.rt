@@ -1,6 +1,7 @@
 // The receiver: starts, takes packets of lines A, B and the gap fills in any order, and applies the messages by their numbers.
 use arbitration::Counts;
 use book::Clock;
+use editions::Edition;
 use facts::LAST_NUMBER;
 use fields::Fault;
 use fields::Refusal;
@@ -20,11 +21,13 @@ ghost use Rattle.receiver.specs.Lent.{bookEngine, real, rx, answerOf, si
 // The largest next number: one above the last sequence number.
 const MOST_NEXT: u64 = LAST_NUMBER + 1;
 
-// What a receiver keeps between packets: the next number, what the book has by value, and the stop of the last accepted packet.
+// What a receiver keeps between packets: the next number, what the book has by value, the stop of the last accepted packet, and the edition
+// that was chosen at its start.
 pub struct State {
     pub next: u64,
     pub clock: Clock,
     pub stop: u8,
+    pub edition: Edition,
 }
 
 // How a record is answered: 10 to 14.
@@ -79,9 +82,15 @@ pub struct Worked {
 }
 
 // One turn of the drain: the slot for next is tried once.
-fn turn(orders: &mut [u64], symbols: &mut [u8], shelf: &mut [u8], at: Place) -> Turned
+fn turn(
+    e: Edition,
+    orders: &mut [u64],
+    symbols: &mut [u8],
+    shelf: &mut [u8],
+    at: Place,
+) -> Turned
     requires { ⌜ at .next ≤ lastNumber + 300000 ⌝ }
-    ensures { λ r. ⌜ (rx (r .at .next) (r .at .clock) (now (orders .exit)) (now (symbols .exit)) (now (shelf .exit)) ≡ turnTo shelfStore bookEngine (rx (at .next) (at .clock) (now (orders .entry)) (now (symbols .entry)) (now (shelf .entry)))) × (r .on ≡ goesOn shelfStore bookEngine (rx (at .next) (at .clock) (now (orders .entry)) (now (symbols .entry)) (now (shelf .entry)))) ⌝ }
+    ensures { λ r. ⌜ (rx (r .at .next) (r .at .clock) (now (orders .exit)) (now (symbols .exit)) (now (shelf .exit)) ≡ turnTo shelfStore (bookEngine e) (rx (at .next) (at .clock) (now (orders .entry)) (now (symbols .entry)) (now (shelf .entry)))) × (r .on ≡ goesOn shelfStore (bookEngine e) (rx (at .next) (at .clock) (now (orders .entry)) (now (symbols .entry)) (now (shelf .entry)))) ⌝ }
 {
     let next = at.next;
     let clock = at.clock;
@@ -96,7 +105,7 @@ fn turn(orders: &mut [u64], symbols: &mut [u8], shelf: &mut [u8], at: Place) -> 
     if 64 < shelf::slot_len(shelf, i) {
         return Turned { on: false, at };
     }
-    let a = book::apply(orders, symbols, clock, next, shelf::slot_body(shelf, i));
+    let a = book::apply(e, orders, symbols, clock, next, shelf::slot_body(shelf, i));
     let after = a.clock;
     if a.rule != 0 {
         return Turned {
@@ -115,14 +124,20 @@ fn turn(orders: &mut [u64], symbols: &mut [u8], shelf: &mut [u8], at: Place) -> 
 }
 
 // "while the slot for next holds next and its message applies": 64 turns are enough.
-fn drain(orders: &mut [u64], symbols: &mut [u8], shelf: &mut [u8], start: Place) -> Place
+fn drain(
+    e: Edition,
+    orders: &mut [u64],
+    symbols: &mut [u8],
+    shelf: &mut [u8],
+    start: Place,
+) -> Place
     requires { ⌜ start .next ≤ lastNumber + 200000 ⌝ }
-    ensures { λ r. ⌜ rx (r .next) (r .clock) (now (orders .exit)) (now (symbols .exit)) (now (shelf .exit)) ≡ drained shelfStore bookEngine 64 (rx (start .next) (start .clock) (now (orders .entry)) (now (symbols .entry)) (now (shelf .entry))) ⌝ }
+    ensures { λ r. ⌜ rx (r .next) (r .clock) (now (orders .exit)) (now (symbols .exit)) (now (shelf .exit)) ≡ drained shelfStore (bookEngine e) 64 (rx (start .next) (start .clock) (now (orders .entry)) (now (symbols .entry)) (now (shelf .entry))) ⌝ }
 {
     let mut at = start;
     let mut i: usize = 0;
     while i < 64 {
-        let t = turn(orders, symbols, shelf, at);
+        let t = turn(e, orders, symbols, shelf, at);
         at = t.at;
         if !t.on {
             return at;
@@ -171,6 +186,7 @@ fn counted(t: Counts, a: Answer) -> Counts
 
 // "it is shelved: taken (10). After each taken record" the shelf is drained.
 fn take(
+    e: Edition,
     orders: &mut [u64],
     symbols: &mut [u8],
     shelf: &mut [u8],
@@ -179,15 +195,16 @@ fn take(
     body: &[u8],
 ) -> Place
     requires { ⌜ at .next ≤ lastNumber + 200000 ⌝ }
-    ensures { λ r. ⌜ rx (r .next) (r .clock) (now (orders .exit)) (now (symbols .exit)) (now (shelf .exit)) ≡ drained shelfStore bookEngine 64 (shelved shelfStore bookEngine (rec number (now (body .entry))) (rx (at .next) (at .clock) (now (orders .entry)) (now (symbols .entry)) (now (shelf .entry)))) ⌝ }
+    ensures { λ r. ⌜ rx (r .next) (r .clock) (now (orders .exit)) (now (symbols .exit)) (now (shelf .exit)) ≡ drained shelfStore (bookEngine e) 64 (shelved shelfStore (bookEngine e) (rec number (now (body .entry))) (rx (at .next) (at .clock) (now (orders .entry)) (now (symbols .entry)) (now (shelf .entry)))) ⌝ }
 {
     let i = (number % 64) as usize;
     shelf::put(shelf, i, number, body);
-    drain(orders, symbols, shelf, at)
+    drain(e, orders, symbols, shelf, at)
 }
 
 // One record of a good packet.
 fn offer(
+    e: Edition,
     orders: &mut [u64],
     symbols: &mut [u8],
     shelf: &mut [u8],
@@ -196,7 +213,7 @@ fn offer(
     body: &[u8],
 ) -> Worked
     requires { ⌜ (w .at .next ≤ lastNumber + 200000) × (total (w .counts) ≤ packetMost) ⌝ }
-    ensures { λ r. ⌜ workingOf (r .at) (r .counts) (now (orders .exit)) (now (symbols .exit)) (now (shelf .exit)) ≡ working shelfStore bookEngine (rec number (now (body .entry))) (workingOf (w .at) (w .counts) (now (orders .entry)) (now (symbols .entry)) (now (shelf .entry))) ⌝ }
+    ensures { λ r. ⌜ workingOf e (r .at) (r .counts) (now (orders .exit)) (now (symbols .exit)) (now (shelf .exit)) ≡ working shelfStore (bookEngine e) (rec number (now (body .entry))) (workingOf e (w .at) (w .counts) (now (orders .entry)) (now (symbols .entry)) (now (shelf .entry))) ⌝ }
 {
     let at = w.at;
     let a = answer_to(shelf, at.next, number, body);
@@ -204,7 +221,7 @@ fn offer(
     let counts = counted(so_far, a);
     match a {
         Answer::Taken => {
-            let next = take(orders, symbols, shelf, at, number, body);
+            let next = take(e, orders, symbols, shelf, at, number, body);
             Worked { at: next, counts }
         }
         Answer::Old => Worked { at, counts },
@@ -215,9 +232,16 @@ fn offer(
 }
 
 // "A good packet is worked record by record."
-fn work(orders: &mut [u64], symbols: &mut [u8], shelf: &mut [u8], start: Place, p: &[u8]) -> Worked
-    requires { ⌜ (start .next ≤ lastNumber + 1) × GoodPacket (now p) ⌝ }
-    ensures { λ r. ⌜ workingOf (r .at) (r .counts) (now (orders .exit)) (now (symbols .exit)) (now (shelf .exit)) ≡ workAll shelfStore bookEngine (recordsOf (framing (now (p .entry)))) (workingOf start noCounts (now (orders .entry)) (now (symbols .entry)) (now (shelf .entry))) ⌝ }
+fn work(
+    e: Edition,
+    orders: &mut [u64],
+    symbols: &mut [u8],
+    shelf: &mut [u8],
+    start: Place,
+    p: &[u8],
+) -> Worked
+    requires { ⌜ (start .next ≤ lastNumber + 1) × GoodPacket e (now p) ⌝ }
+    ensures { λ r. ⌜ workingOf e (r .at) (r .counts) (now (orders .exit)) (now (symbols .exit)) (now (shelf .exit)) ≡ workAll shelfStore (bookEngine e) (recordsOf (framing e (now (p .entry)))) (workingOf e start noCounts (now (orders .entry)) (now (symbols .entry)) (now (shelf .entry))) ⌝ }
 {
     let none = Counts {
         taken: 0,
@@ -234,15 +258,15 @@ fn work(orders: &mut [u64], symbols: &mut [u8], shelf: &mut [u8], start: Place, 
     while at < p.len() {
         let h = packet::head_at(p, at);
         let n = h.len;
-        w = offer(orders, symbols, shelf, w, h.number, packet::body_at(p, at));
+        w = offer(e, orders, symbols, shelf, w, h.number, packet::body_at(p, at));
         at = at + (10 + n);
     }
     w
 }
 
 // "the stop: 0 if next's slot is empty or its message breaks no rule, else the rule that its message breaks"; nothing is changed.
-fn stop_at(orders: &[u64], symbols: &[u8], shelf: &[u8], at: Place) -> u8
-    ensures { λ r. ⌜ r ≡ stop shelfStore bookEngine (rx (at .next) (at .clock) (now (orders .entry)) (now (symbols .entry)) (now (shelf .entry))) ⌝ }
+fn stop_at(e: Edition, orders: &[u64], symbols: &[u8], shelf: &[u8], at: Place) -> u8
+    ensures { λ r. ⌜ r ≡ stop shelfStore (bookEngine e) (rx (at .next) (at .clock) (now (orders .entry)) (now (symbols .entry)) (now (shelf .entry))) ⌝ }
 {
     let next = at.next;
     let i = (next % 64) as usize;
@@ -257,16 +281,18 @@ fn stop_at(orders: &[u64], symbols: &[u8], shelf: &[u8], at: Place) -> u8
         return 27;
     }
     let clock = at.clock;
-    book::rule_of(orders, symbols, clock, next, shelf::slot_body(shelf, i))
+    book::rule_of(e, orders, symbols, clock, next, shelf::slot_body(shelf, i))
 }
 
 // An accepted packet.
 fn accept(orders: &mut [u64], symbols: &mut [u8], shelf: &mut [u8], state: State, p: &[u8]) -> Reply
-    requires { ⌜ (state .next ≤ lastNumber + 1) × GoodPacket (now p) ⌝ }
-    ensures { λ r. ⌜ handled (r .answer) (lent (now (orders .exit)) (now (symbols .exit)) (now (shelf .exit)) (r .state)) ≡ handledBy real (framing (now (p .entry))) (lent (now (orders .entry)) (now (symbols .entry)) (now (shelf .entry)) state) ⌝ }
+    requires { ⌜ (state .next ≤ lastNumber + 1) × GoodPacket (state .edition) (now p) ⌝ }
+    ensures { λ r. ⌜ handled (r .answer) (lent (now (orders .exit)) (now (symbols .exit)) (now (shelf .exit)) (r .state)) ≡ handledBy (real (state .edition)) (framing (state .edition) (now (p .entry))) (lent (now (orders .entry)) (now (symbols .entry)) (now (shelf .entry)) state) ⌝ }
 {
+    let e = state.edition;
     let clock = state.clock;
     let w = work(
+        e,
         orders,
         symbols,
         shelf,
@@ -278,7 +304,7 @@ fn accept(orders: &mut [u64], symbols: &mut [u8], shelf: &mut [u8], state: State
     );
     let at = w.at;
     let counts = w.counts;
-    let stop = stop_at(orders, symbols, shelf, at);
+    let stop = stop_at(e, orders, symbols, shelf, at);
     let highest = shelf::highest(shelf);
     let after = at.clock;
     Reply {
@@ -293,6 +319,7 @@ fn accept(orders: &mut [u64], symbols: &mut [u8], shelf: &mut [u8], state: State
             next: at.next,
             clock: after,
             stop,
+            edition: e,
         },
     }
 }
@@ -317,7 +344,7 @@ pub fn next_ok(next: u64) -> bool
     1 <= next && next <= MOST_NEXT
 }
 
-// A packet of any bytes, to a receiver of any state with any tables.
+// A packet of any bytes, to a receiver of any state with any tables; it is read by the edition that the state has.
 pub fn receive(
     orders: &mut [u64],
     symbols: &mut [u8],
@@ -339,7 +366,8 @@ pub fn receive(
             state,
         };
     }
-    match packet::read_packet(p) {
+    let e = state.edition;
+    match packet::read_packet(e, p) {
         Packet::Refused(r) => Reply {
             answer: Received::Refused(r),
             state,
@@ -352,9 +380,9 @@ pub fn receive(
     }
 }
 
-// "A start zeroes all three, the second included, and sets the next number to 1"; 6 refuses and zeroes nothing.
-pub fn start(orders: &mut [u64], symbols: &mut [u8], shelf: &mut [u8]) -> Started
-    ensures { λ r. ⌜ begun r (now (orders .exit)) (now (symbols .exit)) (now (shelf .exit)) ≡ started (now (orders .entry)) (now (symbols .entry)) (now (shelf .entry)) ⌝ }
+// "A start zeroes all three, the second included, and sets the next number to 1"; 6 refuses and zeroes nothing. The edition is chosen here.
+pub fn start(e: Edition, orders: &mut [u64], symbols: &mut [u8], shelf: &mut [u8]) -> Started
+    ensures { λ r. ⌜ begun r (now (orders .exit)) (now (symbols .exit)) (now (shelf .exit)) ≡ started e (now (orders .entry)) (now (symbols .entry)) (now (shelf .entry)) ⌝ }
 {
     if !sizes_ok(orders.len(), symbols.len(), shelf.len()) {
         return Started::Refused(Refusal { number: 6 });
@@ -366,5 +394,6 @@ pub fn start(orders: &mut [u64], symbols: &mut [u8], shelf: &mut [u8]) -> Starte
         next: 1,
         clock: Clock { second: 0 },
         stop: 0,
+        edition: e,
     })
 }

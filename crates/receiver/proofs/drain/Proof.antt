@@ -15,16 +15,16 @@ use Rattle.receiver.proofs.drain.Statement.{statement}
 use Rattle.receiver.proofs.drain.Tie as tie
 
 abbrev Inv-loop : tie.InvT-loop
-Inv-loop orders₀ symbols₀ shelf₀ at₀ i₀ orders symbols shelf at i =
+Inv-loop e orders₀ symbols₀ shelf₀ at₀ i₀ orders symbols shelf at i =
     (length orders ≡ length orders₀)
     × (length symbols ≡ length symbols₀)
     × (length shelf ≡ length shelf₀)
     × (at .next ≤ at₀ .next + i)
     × (i ≤ 64)
-    × (drained shelfStore bookEngine (64 - i) (rx (at .next) (at .clock) orders symbols shelf) ≡ drained shelfStore bookEngine 64 (rx (at₀ .next) (at₀ .clock) orders₀ symbols₀ shelf₀))
+    × (drained shelfStore (bookEngine e) (64 - i) (rx (at .next) (at .clock) orders symbols shelf) ≡ drained shelfStore (bookEngine e) 64 (rx (at₀ .next) (at₀ .clock) orders₀ symbols₀ shelf₀))
 
 abbrev μ-loop : tie.MeasureT-loop
-μ-loop orders₀ symbols₀ shelf₀ at₀ i₀ orders symbols shelf at i = 64 - i
+μ-loop e orders₀ symbols₀ shelf₀ at₀ i₀ orders symbols shelf at i = 64 - i
 
 loop-holds : tie.Need-loop-holds Inv-loop μ-loop
 loop-holds c = (refl, refl, refl, omega arith, omega arith, refl)
@@ -42,7 +42,7 @@ same-length-3 : tie.Need-same-length-3 Inv-loop μ-loop
 same-length-3 c = search needs
 
 returns : tie.Need-returns Inv-loop μ-loop
-returns c = loop-rest shelfStore bookEngine 64 (c .before .before .before .before .before .before .before .before .before .before .before .before .before .before .loop .i) (rx (c .before .before .before .before .before .before .before .before .before .before .before .before .before .before .loop .at .next) (c .before .before .before .before .before .before .before .before .before .before .before .before .before .before .loop .at .clock) (c .before .before .before .before .before .before .before .before .before .before .before .before .before .before .loop .orders) (c .before .before .before .before .before .before .before .before .before .before .before .before .before .before .loop .symbols) (c .before .before .before .before .before .before .before .before .before .before .before .before .before .before .loop .shelf)) _ _ (c .before .before .before .before .before .before .before .before .before .before .before .before .before .before .loop .inv .5) (c .before .before .before .before .before .before .before .before .before .turn .ensures .0) (sym (c .before .before .before .before .before .before .before .before .before .turn .ensures .1) ∙ not-true (c .before .before .before .before .before .before .before .before .before .turn .result .on) (c .if1 .taken))
+returns c = loop-rest shelfStore (bookEngine (c .before .before .before .before .before .before .before .before .before .before .before .before .before .before .before .before .before .before .args .e)) 64 (c .before .before .before .before .before .before .before .before .before .before .before .before .before .before .loop .i) (rx (c .before .before .before .before .before .before .before .before .before .before .before .before .before .before .loop .at .next) (c .before .before .before .before .before .before .before .before .before .before .before .before .before .before .loop .at .clock) (c .before .before .before .before .before .before .before .before .before .before .before .before .before .before .loop .orders) (c .before .before .before .before .before .before .before .before .before .before .before .before .before .before .loop .symbols) (c .before .before .before .before .before .before .before .before .before .before .before .before .before .before .loop .shelf)) _ _ (c .before .before .before .before .before .before .before .before .before .before .before .before .before .before .loop .inv .5) (c .before .before .before .before .before .before .before .before .before .turn .ensures .0) (sym (c .before .before .before .before .before .before .before .before .before .turn .ensures .1) ∙ not-true (c .before .before .before .before .before .before .before .before .before .turn .result .on) (c .if1 .taken))
 
 add-i : tie.Need-add-i Inv-loop μ-loop
 add-i c = search needs
@@ -53,13 +53,13 @@ loop-less c = search needs
 loop-again : tie.Need-loop-again Inv-loop μ-loop
 loop-again c =
     let r : Rx = (rx (c .before .before .before .before .before .before .before .before .before .before .before .before .before .before .loop .at .next) (c .before .before .before .before .before .before .before .before .before .before .before .before .before .before .loop .at .clock) (c .before .before .before .before .before .before .before .before .before .before .before .before .before .before .loop .orders) (c .before .before .before .before .before .before .before .before .before .before .before .before .before .before .loop .symbols) (c .before .before .before .before .before .before .before .before .before .before .before .before .before .before .loop .shelf)) in
-    let next : c .before .before .before .before .before .before .before .before .before .turn .result .at .next ≤ c .before .before .before .before .before .before .before .before .before .before .before .before .before .before .loop .at .next + 1 = omega (arith, ap (λ (x : Rx). x .next) (c .before .before .before .before .before .before .before .before .before .turn .ensures .0), turn-next shelfStore bookEngine r .1) in (
+    let next : c .before .before .before .before .before .before .before .before .before .turn .result .at .next ≤ c .before .before .before .before .before .before .before .before .before .before .before .before .before .before .loop .at .next + 1 = omega (arith, ap (λ (x : Rx). x .next) (c .before .before .before .before .before .before .before .before .before .turn .ensures .0), turn-next shelfStore (bookEngine (c .before .before .before .before .before .before .before .before .before .before .before .before .before .before .before .before .before .before .args .e)) r .1) in (
       search needs,
       search needs,
       search needs,
       omega arith,
       omega arith,
-      loop-step shelfStore bookEngine 64 (c .before .before .before .before .before .before .before .before .before .before .before .before .before .before .loop .i) r _ _ (c .before .before .before .before .before .before .before .before .before .before .before .before .before .loop-test .taken) (c .before .before .before .before .before .before .before .before .before .before .before .before .before .before .loop .inv .5) (c .before .before .before .before .before .before .before .before .before .turn .ensures .0) (sym (c .before .before .before .before .before .before .before .before .before .turn .ensures .1) ∙ not-false (c .before .before .before .before .before .before .before .before .before .turn .result .on) (c .if1 .left)),
+      loop-step shelfStore (bookEngine (c .before .before .before .before .before .before .before .before .before .before .before .before .before .before .before .before .before .before .args .e)) 64 (c .before .before .before .before .before .before .before .before .before .before .before .before .before .before .loop .i) r _ _ (c .before .before .before .before .before .before .before .before .before .before .before .before .before .loop-test .taken) (c .before .before .before .before .before .before .before .before .before .before .before .before .before .before .loop .inv .5) (c .before .before .before .before .before .before .before .before .before .turn .ensures .0) (sym (c .before .before .before .before .before .before .before .before .before .turn .ensures .1) ∙ not-false (c .before .before .before .before .before .before .before .before .before .turn .result .on) (c .if1 .left)),
     )
 
 same-length-4 : tie.Need-same-length-4 Inv-loop μ-loop
@@ -72,7 +72,7 @@ same-length-6 : tie.Need-same-length-6 Inv-loop μ-loop
 same-length-6 c = search needs
 
 returns-2 : tie.Need-returns-2 Inv-loop μ-loop
-returns-2 c = loop-end shelfStore bookEngine 64 (c .before .loop .i) (rx (c .before .loop .at .next) (c .before .loop .at .clock) (c .before .loop .orders) (c .before .loop .symbols) (c .before .loop .shelf)) _ (c .loop-test .left) (c .before .loop .inv .5)
+returns-2 c = loop-end shelfStore (bookEngine (c .before .before .before .before .before .args .e)) 64 (c .before .loop .i) (rx (c .before .loop .at .next) (c .before .loop .at .clock) (c .before .loop .orders) (c .before .loop .symbols) (c .before .loop .shelf)) _ (c .loop-test .left) (c .before .loop .inv .5)
 
 pub drain-spec : {M : Type 1} → statement M
 drain-spec =

@@ -16,16 +16,16 @@ slot-number-requires : tie.Need-slot-number-requires
 slot-number-requires c κs = search needs
 
 returns : tie.Need-returns
-returns c = stops-empty real realLaws (c .before .before .before .before .before .args .at .next) (book (c .before .before .before .before .before .args .orders .now) (c .before .before .before .before .before .args .symbols .now) (c .before .before .before .before .before .args .at .clock)) (c .before .before .before .before .before .args .shelf .now) (sym (c .before .slot-number .ensures) ∙ c .if1 .taken)
+returns c = stops-empty (real (c .before .before .before .before .before .args .e)) (realLaws (c .before .before .before .before .before .args .e)) (c .before .before .before .before .before .args .at .next) (book (c .before .before .before .before .before .args .orders .now) (c .before .before .before .before .before .args .symbols .now) (c .before .before .before .before .before .args .at .clock)) (c .before .before .before .before .before .args .shelf .now) (sym (c .before .slot-number .ensures) ∙ c .if1 .taken)
 
 returns-2 : tie.Need-returns-2
-returns-2 c = stops-other real realLaws (c .before .before .before .before .before .before .args .at .next) (book (c .before .before .before .before .before .before .args .orders .now) (c .before .before .before .before .before .before .args .symbols .now) (c .before .before .before .before .before .before .args .at .clock)) (c .before .before .before .before .before .before .args .shelf .now) (λ z. c .before .if1 .left (c .before .before .slot-number .ensures ∙ z)) (λ z. c .if2 .taken (c .before .before .slot-number .ensures ∙ z))
+returns-2 c = stops-other (real (c .before .before .before .before .before .before .args .e)) (realLaws (c .before .before .before .before .before .before .args .e)) (c .before .before .before .before .before .before .args .at .next) (book (c .before .before .before .before .before .before .args .orders .now) (c .before .before .before .before .before .before .args .symbols .now) (c .before .before .before .before .before .before .args .at .clock)) (c .before .before .before .before .before .before .args .shelf .now) (λ z. c .before .if1 .left (c .before .before .slot-number .ensures ∙ z)) (λ z. c .if2 .taken (c .before .before .slot-number .ensures ∙ z))
 
 slot-len-requires : tie.Need-slot-len-requires
 slot-len-requires c κs = search needs
 
 returns-3 : tie.Need-returns-3
-returns-3 c = stops-long real realLaws (c .before .before .before .before .before .before .before .before .args .at .next) (book (c .before .before .before .before .before .before .before .before .args .orders .now) (c .before .before .before .before .before .before .before .before .args .symbols .now) (c .before .before .before .before .before .before .before .before .args .at .clock)) (c .before .before .before .before .before .before .before .before .args .shelf .now) (λ z. c .before .before .before .if1 .left (c .before .before .before .before .slot-number .ensures ∙ z)) (sym (c .before .before .before .before .slot-number .ensures) ∙ c .before .before .if2 .left) (omega (arith, c .before .slot-len .ensures))
+returns-3 c = stops-long (real (c .before .before .before .before .before .before .before .before .args .e)) (realLaws (c .before .before .before .before .before .before .before .before .args .e)) (c .before .before .before .before .before .before .before .before .args .at .next) (book (c .before .before .before .before .before .before .before .before .args .orders .now) (c .before .before .before .before .before .before .before .before .args .symbols .now) (c .before .before .before .before .before .before .before .before .args .at .clock)) (c .before .before .before .before .before .before .before .before .args .shelf .now) (λ z. c .before .before .before .if1 .left (c .before .before .before .before .slot-number .ensures ∙ z)) (sym (c .before .before .before .before .slot-number .ensures) ∙ c .before .before .if2 .left) (omega (arith, c .before .slot-len .ensures))
 
 slot-body-requires : tie.Need-slot-body-requires
 slot-body-requires c κs = search needs
@@ -34,7 +34,7 @@ rule-of-requires : tie.Need-rule-of-requires
 rule-of-requires c κs = search needs
 
 returns-4 : tie.Need-returns-4
-returns-4 c = c .rule-of .ensures ∙ ap (λ (b : List ℕ). applied (c .before .before .before .before .before .before .before .before .before .before .before .args .at .next) b (book (c .before .before .before .before .before .before .before .before .before .before .before .args .orders .now) (c .before .before .before .before .before .before .before .before .before .before .before .args .symbols .now) (c .before .before .before .before .before .before .before .before .before .before .before .args .at .clock)) .rule) (c .before .slot-body .ensures) ∙ stops-rule real realLaws (c .before .before .before .before .before .before .before .before .before .before .before .args .at .next) (book (c .before .before .before .before .before .before .before .before .before .before .before .args .orders .now) (c .before .before .before .before .before .before .before .before .before .before .before .args .symbols .now) (c .before .before .before .before .before .before .before .before .before .before .before .args .at .clock)) (c .before .before .before .before .before .before .before .before .before .before .before .args .shelf .now) (λ z. c .before .before .before .before .before .before .if1 .left (c .before .before .before .before .before .before .before .slot-number .ensures ∙ z)) (sym (c .before .before .before .before .before .before .before .slot-number .ensures) ∙ c .before .before .before .before .before .if2 .left) (omega (arith, c .before .before .before .before .slot-len .ensures))
+returns-4 c = c .rule-of .ensures ∙ ap (λ (b : List ℕ). applied (c .before .before .before .before .before .before .before .before .before .before .before .args .e) (c .before .before .before .before .before .before .before .before .before .before .before .args .at .next) b (book (c .before .before .before .before .before .before .before .before .before .before .before .args .orders .now) (c .before .before .before .before .before .before .before .before .before .before .before .args .symbols .now) (c .before .before .before .before .before .before .before .before .before .before .before .args .at .clock)) .rule) (c .before .slot-body .ensures) ∙ stops-rule (real (c .before .before .before .before .before .before .before .before .before .before .before .args .e)) (realLaws (c .before .before .before .before .before .before .before .before .before .before .before .args .e)) (c .before .before .before .before .before .before .before .before .before .before .before .args .at .next) (book (c .before .before .before .before .before .before .before .before .before .before .before .args .orders .now) (c .before .before .before .before .before .before .before .before .before .before .before .args .symbols .now) (c .before .before .before .before .before .before .before .before .before .before .before .args .at .clock)) (c .before .before .before .before .before .before .before .before .before .before .before .args .shelf .now) (λ z. c .before .before .before .before .before .before .if1 .left (c .before .before .before .before .before .before .before .slot-number .ensures ∙ z)) (sym (c .before .before .before .before .before .before .before .slot-number .ensures) ∙ c .before .before .before .before .before .if2 .left) (omega (arith, c .before .before .before .before .slot-len .ensures))
 
 pub stop-at-spec : {M : Type 1} → statement M
 stop-at-spec =

@@ -27,7 +27,7 @@ same-length-3 : tie.Need-same-length-3
 same-length-3 c = search needs
 
 returns : tie.Need-returns
-returns c = c .before .before .before .before .before .before .drain .ensures ∙ ap (λ (x : List ℕ). drained shelfStore bookEngine 64 (rx (c .before .before .before .before .before .before .before .before .before .before .before .before .before .before .before .before .before .before .args .at .next) (c .before .before .before .before .before .before .before .before .before .before .before .before .before .before .before .before .before .before .args .at .clock) (c .before .before .before .before .before .before .before .before .before .before .before .before .before .before .before .before .before .before .args .orders .now) (c .before .before .before .before .before .before .before .before .before .before .before .before .before .before .before .before .before .before .args .symbols .now) x)) (c .before .before .before .before .before .before .before .before .before .before .before .before .put .ensures)
+returns c = c .before .before .before .before .before .before .drain .ensures ∙ ap (λ (x : List ℕ). drained shelfStore (bookEngine (c .before .before .before .before .before .before .before .before .before .before .before .before .before .before .before .before .before .before .args .e)) 64 (rx (c .before .before .before .before .before .before .before .before .before .before .before .before .before .before .before .before .before .before .args .at .next) (c .before .before .before .before .before .before .before .before .before .before .before .before .before .before .before .before .before .before .args .at .clock) (c .before .before .before .before .before .before .before .before .before .before .before .before .before .before .before .before .before .before .args .orders .now) (c .before .before .before .before .before .before .before .before .before .before .before .before .before .before .before .before .before .before .args .symbols .now) x)) (c .before .before .before .before .before .before .before .before .before .before .before .before .put .ensures)
 
 pub take-spec : {M : Type 1} → statement M
 take-spec =

@@ -19,13 +19,13 @@ same-length : tie.Need-same-length
 same-length c = search needs
 
 returns : tie.Need-returns
-returns c = turn-empty real realLaws (c .before .before .before .before .before .before .before .args .at .next) (book (c .before .before .before .before .before .before .before .args .orders .now) (c .before .before .before .before .before .before .before .args .symbols .now) (c .before .before .before .before .before .before .before .args .at .clock)) (c .before .before .before .before .before .before .before .args .shelf .now) (sym (c .before .slot-number .ensures) ∙ c .if1 .taken)
+returns c = turn-empty (real (c .before .before .before .before .before .before .before .args .e)) (realLaws (c .before .before .before .before .before .before .before .args .e)) (c .before .before .before .before .before .before .before .args .at .next) (book (c .before .before .before .before .before .before .before .args .orders .now) (c .before .before .before .before .before .before .before .args .symbols .now) (c .before .before .before .before .before .before .before .args .at .clock)) (c .before .before .before .before .before .before .before .args .shelf .now) (sym (c .before .slot-number .ensures) ∙ c .if1 .taken)
 
 same-length-2 : tie.Need-same-length-2
 same-length-2 c = search needs
 
 returns-2 : tie.Need-returns-2
-returns-2 c = turn-other real realLaws (c .before .before .before .before .before .before .before .before .args .at .next) (book (c .before .before .before .before .before .before .before .before .args .orders .now) (c .before .before .before .before .before .before .before .before .args .symbols .now) (c .before .before .before .before .before .before .before .before .args .at .clock)) (c .before .before .before .before .before .before .before .before .args .shelf .now) (λ z. c .before .if1 .left (c .before .before .slot-number .ensures ∙ z)) (λ z. c .if2 .taken (c .before .before .slot-number .ensures ∙ z))
+returns-2 c = turn-other (real (c .before .before .before .before .before .before .before .before .args .e)) (realLaws (c .before .before .before .before .before .before .before .before .args .e)) (c .before .before .before .before .before .before .before .before .args .at .next) (book (c .before .before .before .before .before .before .before .before .args .orders .now) (c .before .before .before .before .before .before .before .before .args .symbols .now) (c .before .before .before .before .before .before .before .before .args .at .clock)) (c .before .before .before .before .before .before .before .before .args .shelf .now) (λ z. c .before .if1 .left (c .before .before .slot-number .ensures ∙ z)) (λ z. c .if2 .taken (c .before .before .slot-number .ensures ∙ z))
 
 slot-len-requires : tie.Need-slot-len-requires
 slot-len-requires c κs = search needs
@@ -34,7 +34,7 @@ same-length-3 : tie.Need-same-length-3
 same-length-3 c = search needs
 
 returns-3 : tie.Need-returns-3
-returns-3 c = turn-long real realLaws (c .before .before .before .before .before .before .before .before .before .before .before .args .at .next) (book (c .before .before .before .before .before .before .before .before .before .before .before .args .orders .now) (c .before .before .before .before .before .before .before .before .before .before .before .args .symbols .now) (c .before .before .before .before .before .before .before .before .before .before .before .args .at .clock)) (c .before .before .before .before .before .before .before .before .before .before .before .args .shelf .now) (λ z. c .before .before .before .before .if1 .left (c .before .before .before .before .before .slot-number .ensures ∙ z)) (sym (c .before .before .before .before .before .slot-number .ensures) ∙ c .before .before .before .if2 .left) (omega (arith, c .before .slot-len .ensures))
+returns-3 c = turn-long (real (c .before .before .before .before .before .before .before .before .before .before .before .args .e)) (realLaws (c .before .before .before .before .before .before .before .before .before .before .before .args .e)) (c .before .before .before .before .before .before .before .before .before .before .before .args .at .next) (book (c .before .before .before .before .before .before .before .before .before .before .before .args .orders .now) (c .before .before .before .before .before .before .before .before .before .before .before .args .symbols .now) (c .before .before .before .before .before .before .before .before .before .before .before .args .at .clock)) (c .before .before .before .before .before .before .before .before .before .before .before .args .shelf .now) (λ z. c .before .before .before .before .if1 .left (c .before .before .before .before .before .slot-number .ensures ∙ z)) (sym (c .before .before .before .before .before .slot-number .ensures) ∙ c .before .before .before .if2 .left) (omega (arith, c .before .slot-len .ensures))
 
 slot-body-requires : tie.Need-slot-body-requires
 slot-body-requires c κs = search needs
@@ -53,14 +53,14 @@ same-length-6 c = search needs
 
 returns-4 : tie.Need-returns-4
 returns-4 c =
-    let told = c .before .before .before .before .before .before .before .apply .ensures ∙ ap (λ (b : List ℕ). applied (c .before .before .before .before .before .before .before .before .before .before .before .before .before .before .before .before .before .before .before .before .before .before .before .args .at .next) b (book (c .before .before .before .before .before .before .before .before .before .before .before .before .before .before .before .before .before .before .before .before .before .before .before .args .orders .now) (c .before .before .before .before .before .before .before .before .before .before .before .before .before .before .before .before .before .before .before .before .before .before .before .args .symbols .now) (c .before .before .before .before .before .before .before .before .before .before .before .before .before .before .before .before .before .before .before .before .before .before .before .args .at .clock))) (c .before .before .before .before .before .before .before .before .slot-body .ensures) in
-    turn-broken real realLaws (c .before .before .before .before .before .before .before .before .before .before .before .before .before .before .before .before .before .before .before .before .before .before .before .args .at .next) (book (c .before .before .before .before .before .before .before .before .before .before .before .before .before .before .before .before .before .before .before .before .before .before .before .args .orders .now) (c .before .before .before .before .before .before .before .before .before .before .before .before .before .before .before .before .before .before .before .before .before .before .before .args .symbols .now) (c .before .before .before .before .before .before .before .before .before .before .before .before .before .before .before .before .before .before .before .before .before .before .before .args .at .clock)) (c .before .before .before .before .before .before .before .before .before .before .before .before .before .before .before .before .before .before .before .before .before .before .before .args .shelf .now) (λ z. c .before .before .before .before .before .before .before .before .before .before .before .before .before .before .before .before .if1 .left (c .before .before .before .before .before .before .before .before .before .before .before .before .before .before .before .before .before .slot-number .ensures ∙ z)) (sym (c .before .before .before .before .before .before .before .before .before .before .before .before .before .before .before .before .before .slot-number .ensures) ∙ c .before .before .before .before .before .before .before .before .before .before .before .before .before .before .before .if2 .left) (omega (arith, c .before .before .before .before .before .before .before .before .before .before .before .before .before .slot-len .ensures)) (c .before .before .before .before .before .before .before .apply .result .rule) _ (ap (λ (x : Effect). x .rule) told) (ap (λ (x : Effect). x .after) told) (c .if4 .taken)
+    let told = c .before .before .before .before .before .before .before .apply .ensures ∙ ap (λ (b : List ℕ). applied (c .before .before .before .before .before .before .before .before .before .before .before .before .before .before .before .before .before .before .before .before .before .before .before .args .e) (c .before .before .before .before .before .before .before .before .before .before .before .before .before .before .before .before .before .before .before .before .before .before .before .args .at .next) b (book (c .before .before .before .before .before .before .before .before .before .before .before .before .before .before .before .before .before .before .before .before .before .before .before .args .orders .now) (c .before .before .before .before .before .before .before .before .before .before .before .before .before .before .before .before .before .before .before .before .before .before .before .args .symbols .now) (c .before .before .before .before .before .before .before .before .before .before .before .before .before .before .before .before .before .before .before .before .before .before .before .args .at .clock))) (c .before .before .before .before .before .before .before .before .slot-body .ensures) in
+    turn-broken (real (c .before .before .before .before .before .before .before .before .before .before .before .before .before .before .before .before .before .before .before .before .before .before .before .args .e)) (realLaws (c .before .before .before .before .before .before .before .before .before .before .before .before .before .before .before .before .before .before .before .before .before .before .before .args .e)) (c .before .before .before .before .before .before .before .before .before .before .before .before .before .before .before .before .before .before .before .before .before .before .before .args .at .next) (book (c .before .before .before .before .before .before .before .before .before .before .before .before .before .before .before .before .before .before .before .before .before .before .before .args .orders .now) (c .before .before .before .before .before .before .before .before .before .before .before .before .before .before .before .before .before .before .before .before .before .before .before .args .symbols .now) (c .before .before .before .before .before .before .before .before .before .before .before .before .before .before .before .before .before .before .before .before .before .before .before .args .at .clock)) (c .before .before .before .before .before .before .before .before .before .before .before .before .before .before .before .before .before .before .before .before .before .before .before .args .shelf .now) (λ z. c .before .before .before .before .before .before .before .before .before .before .before .before .before .before .before .before .if1 .left (c .before .before .before .before .before .before .before .before .before .before .before .before .before .before .before .before .before .slot-number .ensures ∙ z)) (sym (c .before .before .before .before .before .before .before .before .before .before .before .before .before .before .before .before .before .slot-number .ensures) ∙ c .before .before .before .before .before .before .before .before .before .before .before .before .before .before .before .if2 .left) (omega (arith, c .before .before .before .before .before .before .before .before .before .before .before .before .before .slot-len .ensures)) (c .before .before .before .before .before .before .before .apply .result .rule) _ (ap (λ (x : Effect). x .rule) told) (ap (λ (x : Effect). x .after) told) (c .if4 .taken)
 
 empty-requires : tie.Need-empty-requires
 empty-requires c κs = search needs
 
-add-t11 : tie.Need-add-t11
-add-t11 c = search needs
+add-t12 : tie.Need-add-t12
+add-t12 c = search needs
 
 same-length-7 : tie.Need-same-length-7
 same-length-7 c = search needs
@@ -73,8 +73,8 @@ same-length-9 c = search needs
 
 returns-5 : tie.Need-returns-5
 returns-5 c =
-    let told = c .before .before .before .before .before .before .before .before .before .before .before .apply .ensures ∙ ap (λ (b : List ℕ). applied (c .before .before .before .before .before .before .before .before .before .before .before .before .before .before .before .before .before .before .before .before .before .before .before .before .before .before .before .args .at .next) b (book (c .before .before .before .before .before .before .before .before .before .before .before .before .before .before .before .before .before .before .before .before .before .before .before .before .before .before .before .args .orders .now) (c .before .before .before .before .before .before .before .before .before .before .before .before .before .before .before .before .before .before .before .before .before .before .before .before .before .before .before .args .symbols .now) (c .before .before .before .before .before .before .before .before .before .before .before .before .before .before .before .before .before .before .before .before .before .before .before .before .before .before .before .args .at .clock))) (c .before .before .before .before .before .before .before .before .before .before .before .before .slot-body .ensures) in
-    turn-goes real realLaws (c .before .before .before .before .before .before .before .before .before .before .before .before .before .before .before .before .before .before .before .before .before .before .before .before .before .before .before .args .at .next) (book (c .before .before .before .before .before .before .before .before .before .before .before .before .before .before .before .before .before .before .before .before .before .before .before .before .before .before .before .args .orders .now) (c .before .before .before .before .before .before .before .before .before .before .before .before .before .before .before .before .before .before .before .before .before .before .before .before .before .before .before .args .symbols .now) (c .before .before .before .before .before .before .before .before .before .before .before .before .before .before .before .before .before .before .before .before .before .before .before .before .before .before .before .args .at .clock)) (c .before .before .before .before .before .before .before .before .before .before .before .before .before .before .before .before .before .before .before .before .before .before .before .before .before .before .before .args .shelf .now) (λ z. c .before .before .before .before .before .before .before .before .before .before .before .before .before .before .before .before .before .before .before .before .if1 .left (c .before .before .before .before .before .before .before .before .before .before .before .before .before .before .before .before .before .before .before .before .before .slot-number .ensures ∙ z)) (sym (c .before .before .before .before .before .before .before .before .before .before .before .before .before .before .before .before .before .before .before .before .before .slot-number .ensures) ∙ c .before .before .before .before .before .before .before .before .before .before .before .before .before .before .before .before .before .before .before .if2 .left) (omega (arith, c .before .before .before .before .before .before .before .before .before .before .before .before .before .before .before .before .before .slot-len .ensures)) (c .before .before .before .before .before .before .before .before .before .before .before .apply .result .rule) _ (ap (λ (x : Effect). x .rule) told) (ap (λ (x : Effect). x .after) told) (c .before .before .before .before .if4 .left) _ (c .before .before .empty .ensures)
+    let told = c .before .before .before .before .before .before .before .before .before .before .before .apply .ensures ∙ ap (λ (b : List ℕ). applied (c .before .before .before .before .before .before .before .before .before .before .before .before .before .before .before .before .before .before .before .before .before .before .before .before .before .before .before .args .e) (c .before .before .before .before .before .before .before .before .before .before .before .before .before .before .before .before .before .before .before .before .before .before .before .before .before .before .before .args .at .next) b (book (c .before .before .before .before .before .before .before .before .before .before .before .before .before .before .before .before .before .before .before .before .before .before .before .before .before .before .before .args .orders .now) (c .before .before .before .before .before .before .before .before .before .before .before .before .before .before .before .before .before .before .before .before .before .before .before .before .before .before .before .args .symbols .now) (c .before .before .before .before .before .before .before .before .before .before .before .before .before .before .before .before .before .before .before .before .before .before .before .before .before .before .before .args .at .clock))) (c .before .before .before .before .before .before .before .before .before .before .before .before .slot-body .ensures) in
+    turn-goes (real (c .before .before .before .before .before .before .before .before .before .before .before .before .before .before .before .before .before .before .before .before .before .before .before .before .before .before .before .args .e)) (realLaws (c .before .before .before .before .before .before .before .before .before .before .before .before .before .before .before .before .before .before .before .before .before .before .before .before .before .before .before .args .e)) (c .before .before .before .before .before .before .before .before .before .before .before .before .before .before .before .before .before .before .before .before .before .before .before .before .before .before .before .args .at .next) (book (c .before .before .before .before .before .before .before .before .before .before .before .before .before .before .before .before .before .before .before .before .before .before .before .before .before .before .before .args .orders .now) (c .before .before .before .before .before .before .before .before .before .before .before .before .before .before .before .before .before .before .before .before .before .before .before .before .before .before .before .args .symbols .now) (c .before .before .before .before .before .before .before .before .before .before .before .before .before .before .before .before .before .before .before .before .before .before .before .before .before .before .before .args .at .clock)) (c .before .before .before .before .before .before .before .before .before .before .before .before .before .before .before .before .before .before .before .before .before .before .before .before .before .before .before .args .shelf .now) (λ z. c .before .before .before .before .before .before .before .before .before .before .before .before .before .before .before .before .before .before .before .before .if1 .left (c .before .before .before .before .before .before .before .before .before .before .before .before .before .before .before .before .before .before .before .before .before .slot-number .ensures ∙ z)) (sym (c .before .before .before .before .before .before .before .before .before .before .before .before .before .before .before .before .before .before .before .before .before .slot-number .ensures) ∙ c .before .before .before .before .before .before .before .before .before .before .before .before .before .before .before .before .before .before .before .if2 .left) (omega (arith, c .before .before .before .before .before .before .before .before .before .before .before .before .before .before .before .before .before .slot-len .ensures)) (c .before .before .before .before .before .before .before .before .before .before .before .apply .result .rule) _ (ap (λ (x : Effect). x .rule) told) (ap (λ (x : Effect). x .after) told) (c .before .before .before .before .if4 .left) _ (c .before .before .empty .ensures)
 
 pub turn-spec : {M : Type 1} → statement M
 turn-spec =
@@ -95,7 +95,7 @@ turn-spec =
     same-length-6
     returns-4
     empty-requires
-    add-t11
+    add-t12
     same-length-7
     same-length-8
     same-length-9
