@@ -15,12 +15,12 @@ use borrow.Author.Tests.{leb-true, ltb-true, le-leb, lt-leb, lt-ltb, le-ltb, ne-
 use Rattle.facts.specs.Pick.{pick, both, either}
 use Rattle.facts.specs.Limits.{packetMost}
 use Rattle.facts.proofs.Picks.{pick-ind, both-true, either-none}
+use Rattle.editions.specs.declared.Edition.{Edition}
 use Rattle.wire.specs.Le.{field}
 use Rattle.wire.specs.Records.{bad}
 use Rattle.fields.specs.Fields.{refusal}
 use Rattle.packet.specs.Packet.{alone, framing}
 use Rattle.arbitration.specs.Stream.{each}
-use Rattle.receiver.specs.Receiver.{receivesAll}
 use Rattle.receiver.specs.Lent.{real, Lent, Handled, received, receivedAll}
 use Rattle.receiver.proofs.Accounts.{bad-keeps}
 use Rattle.receiver.specs.declared.Received.{Received}
@@ -31,9 +31,9 @@ use Rattle.recording.proofs.Bytes.{byte-grows, byte-passes, keeps-one, 
 use Rattle.recording.proofs.Packets.{longer, announced, completed, size, same-length, exact, one-byte, Tiled, tiled-byte, none-tiled, packets-laid}
 
 -- a packet of more than 1,500 bytes is refused, as any bad one is
-framing-long : (p : List ℕ) → packetMost < length p → framing p ≡ bad (alone (refusal 1))
+framing-long : (ed : Edition) (p : List ℕ) → packetMost < length p → framing ed p ≡ bad (alone (refusal 1))
 unfolding framing both pick
-framing-long p h = simp (le-leb 1 (length p) (omega arith), lt-leb (length p) packetMost h)
+framing-long ed p h = simp (le-leb 1 (length p) (omega arith), lt-leb (length p) packetMost h)
 
 pub heard-long : (p : List ℕ) (k : Standing) → packetMost < length p → heard p k ≡ tooLong k
 unfolding heard pick
@@ -173,10 +173,10 @@ unfolding heard
 heard-after p k =
     let x : Handled = received (k .lent) p in
     pick-ind (λ (y : Standing). y .lent ≡ x .after) (ltb packetMost (length p)) (tooLong k) (noted (x .answer) (x .after) k)
-    (λ e. sym (bad-keeps real (k .lent) p (alone (refusal 1)) (framing-long p (ltb-true packetMost (length p) e))))
+    (λ e. sym (bad-keeps (real (k .lent .edition)) (k .lent) p (alone (refusal 1)) (framing-long (k .lent .edition) p (ltb-true packetMost (length p) e))))
     (λ _. counted-after (x .answer) (x .after) k)
 
 pub hears-receives : (ps : List (List ℕ)) (k : Standing) → hears ps k .lent ≡ receivedAll ps (k .lent)
-unfolding hears receivesAll
+unfolding hears receivedAll
 hears-receives [] k = refl
 hears-receives (p ∷ ps) k = hears-receives ps (heard p k) ∙ ap (receivedAll ps) (heard-after p k)

@@ -8,6 +8,7 @@ use lib.ListN.{length, take, drop, replicate}
 use lib.Dec.{leb, ltb}
 use Rattle.facts.specs.Pick.{pick, both}
 use Rattle.facts.specs.Limits.{packetMost}
+use Rattle.editions.specs.declared.Edition.{Edition}
 use Rattle.wire.specs.Le.{field}
 use Rattle.fields.specs.Fields.{badAt}
 use Rattle.receiver.specs.Lent.{fresh, freshState}
@@ -68,9 +69,9 @@ fedAll (c ∷ cs) x = fedAll cs (fedOn c x)
 
 -- ---- from a start
 -- nothing counted
-abbrev pub began : ℕ → ℕ → ℕ → Standing
-began o s h = standing 0 (badAt 0 0) noCounts (fresh o s h)
+abbrev pub began : Edition → ℕ → ℕ → ℕ → Standing
+began ed o s h = standing 0 (badAt 0 0) noCounts (fresh ed o s h)
 
 -- a stream that was opened over the tables of a start; w: the lent buffer, with any bytes
-abbrev pub openedOver : ℕ → ℕ → ℕ → List ℕ → Feeding
-openedOver o s h w = feeding (Fed.Took (opened freshState)) (replicate o 0) (replicate s 0) (replicate h 0) w
+abbrev pub openedOver : Edition → ℕ → ℕ → ℕ → List ℕ → Feeding
+openedOver ed o s h w = feeding (Fed.Took (opened (freshState ed))) (replicate o 0) (replicate s 0) (replicate h 0) w
