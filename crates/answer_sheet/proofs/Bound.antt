@@ -1,4 +1,4 @@
--- No line of a sheet has more than 60 bytes, no side more than ten lines, no symbol more than 24, and no table more than a thousand entries.
+-- No line of a sheet has more than 50 bytes, no side more than ten lines, no symbol more than 25, and no table more than a thousand entries.
 -- Assumes nothing.
 use Prim.Native.Nat.{ℕ, zero, suc, _+_, _*_, _/_, _^_, _≤_, _<_}
 use mathlib.Core.Path.{_≡_, refl}
@@ -14,7 +14,8 @@ use Rattle.facts.proofs.Picks.{pick-ind, both-true}
 use Rattle.facts.proofs.SumLaws.{count-bound}
 use Rattle.wire.specs.Le.{Bytes}
 use Rattle.wire.proofs.Laws.{field-below, length-padded}
-use Rattle.fields.specs.Fields.{symbolOf}
+use Rattle.editions.specs.declared.Edition.{Edition}
+use Rattle.fields.specs.Fields.{symbolOf, securityOf}
 use Rattle.rows.specs.Rows.{rows, goodRows, live}
 use Rattle.rows.specs.Find.{countLive}
 use Rattle.rows.specs.declared.Row.{Row}
@@ -38,14 +39,14 @@ use Rattle.views.proofs.Theorems.{spread-sides}
 use Rattle.receiver.specs.Receiver.{nextOk}
 use Rattle.receiver.specs.declared.State.{State}
 use Rattle.receiver.proofs.Accounts.{next-most}
-use Rattle.text.specs.Text.{decimalOf, tickerOf, lineOf}
+use Rattle.text.specs.Text.{decimalOf, shownOf, tickerOf, lineOf}
 use Rattle.text.proofs.DecimalLaws.{decimal-length, decimal-le}
 use Rattle.text.proofs.SignedLaws.{spread-le}
 use Rattle.text.proofs.TickerLaws.{ticker-length}
 use Rattle.answer_sheet.specs.declared.Recording.{Recording}
-use Rattle.answer_sheet.specs.Keys.{recordingKey, badKey, nextKey, stopKey, secondKey, symbolsKey, ordersKey, symbolKey, tickerKey, lotKey, spreadKey, bidKey, askKey, sideKey, wholeWord, cutWord, noneWord}
+use Rattle.answer_sheet.specs.Keys.{recordingKey, badKey, nextKey, stopKey, secondKey, symbolsKey, ordersKey, symbolKey, tickerKey, typeKey, lotKey, spreadKey, bidKey, askKey, sideKey, wholeWord, cutWord, noneWord}
 use Rattle.answer_sheet.specs.Lines.{Line, plain, lineText, textOf}
-use Rattle.answer_sheet.specs.Sheet.{recordingWord, headLines, tableLines, markedOf, levelValue, levelLine, levelsShown, sideLines, spreadWord, symbolLines, bookLines, entryLines, allEntries, linesOf, sheetOf, sheetOk, sheetMost}
+use Rattle.answer_sheet.specs.Sheet.{recordingWord, headLines, tableLines, markedOf, levelValue, levelLine, levelsShown, sideLines, spreadWord, typeLines, symbolLines, bookLines, entryLines, allEntries, linesOf, sheetOf, sheetOk, sheetMost}
 
 -- ---- lists
 -- where no element gives more than m, all of them back to back give at most that for each
@@ -72,13 +73,13 @@ bytes-entries t h = go (length t / entrySize) t h
     go (suc n) t h = (bytes-take entrySize t h, go n (drop entrySize t) (bytes-drop entrySize t h))
 
 -- ---- lines
--- a line of at most 60 bytes, its line feed counted
+-- a line of at most 50 bytes, its line feed counted
 abbrev Short : Line → Type 0
-Short l = length (lineText l) ≤ 60
+Short l = length (lineText l) ≤ 50
 
-lines-le : (ls : List Line) → All Short ls → length (textOf ls) ≤ length ls * 60
+lines-le : (ls : List Line) → All Short ls → length (textOf ls) ≤ length ls * 50
 unfolding textOf
-lines-le ls a = join-le lineText 60 ls a
+lines-le ls a = join-le lineText 50 ls a
 
 line-le : (key value : List ℕ) → length (lineOf key value) ≡ length key + length value + 1
 unfolding lineOf
@@ -156,17 +157,24 @@ spread-short s rs = plain-short spreadKey (spreadWord (spreadOf s rs)) (omega ar
     go (SpreadAnswer.Refused r) e = omega arith
 
 -- ---- a symbol
-symbol-few : (e : List ℕ) → Bytes e → Few 3 (symbolLines (symbolOf e))
+type-few : (ed : Edition) (x : ℕ) → Few 1 (typeLines ed x)
+unfolding typeLines typeKey
+type-few Edition.V13 x = record { count = omega arith; short = (plain-short typeKey (shownOf x ∷ []) (omega arith) (omega arith), tt) }
+type-few Edition.V13b x = record { count = omega arith; short = tt }
+
+symbol-few : (ed : Edition) (e : List ℕ) → Bytes e → Few 4 (symbolLines ed (securityOf e) (symbolOf e))
 unfolding symbolLines symbolKey tickerKey lotKey
-symbol-few e h =
+symbol-few ed e h =
     let s = symbolOf e in
+    let lot : Few 1 (plain lotKey (decimalOf (s .lot)) ∷ []) = record { count = omega arith; short = (number-short lotKey (s .lot) (omega arith) (omega (arith, field-below e h 23 2)), tt) } in
+    let rest = few-append (typeLines ed (securityOf e)) (plain lotKey (decimalOf (s .lot)) ∷ []) (type-few ed (securityOf e)) lot in
     record {
-      count = omega arith;
+      count = omega (arith, rest .count);
       short = (
         number-short symbolKey (s .id) (omega arith) (omega (arith, field-below e h 5 4)),
         (
           plain-short tickerKey (tickerOf (s .ticker)) (omega arith) (omega (arith, ticker-length (s .ticker), length-padded e 9 11)),
-          (number-short lotKey (s .lot) (omega arith) (omega (arith, field-below e h 23 2)), tt),
+          rest .short,
         ),
       );
     }
@@ -177,11 +185,11 @@ book-few id t g =
     let sides = few-append (sideLines Side.Buy id (rows t)) (sideLines Side.Sell id (rows t)) (side-few Side.Buy id t g) (side-few Side.Sell id t g) in
     record { count = omega (arith, sides .count); short = (spread-short id (rows t), sides .short) }
 
-entry-few : (t e : List ℕ) → goodRows (length t) ≡ true → Bytes e → Few 24 (entryLines (rows t) e)
+entry-few : (ed : Edition) (t e : List ℕ) → goodRows (length t) ≡ true → Bytes e → Few 25 (entryLines ed (rows t) e)
 unfolding entryLines
-entry-few t e g h =
-    pick-ind (Few 24) (used e) (symbolLines (symbolOf e) ++ bookLines (symbolOf e .id) (rows t)) []
-    (λ _. few-append (symbolLines (symbolOf e)) (bookLines (symbolOf e .id) (rows t)) (symbol-few e h) (book-few (symbolOf e .id) t g))
+entry-few ed t e g h =
+    pick-ind (Few 25) (used e) (symbolLines ed (securityOf e) (symbolOf e) ++ bookLines (symbolOf e .id) (rows t)) []
+    (λ _. few-append (symbolLines ed (securityOf e) (symbolOf e)) (bookLines (symbolOf e .id) (rows t)) (symbol-few ed e h) (book-few (symbolOf e .id) t g))
     (λ _. record { count = omega arith; short = tt })
 
 -- ---- the whole
@@ -204,13 +212,13 @@ module _ (orders symbols : List ℕ) (g : goodTables orders symbols ≡ true) wh
   few-rows : length (rows orders) ≤ mostRows
   few-rows = rw length-rows (good-rows (length orders) rows-good .1)
 
-  entries-few : Bytes symbols → Few (mostEntries * 24) (allEntries orders symbols)
+  entries-few : (ed : Edition) → Bytes symbols → Few (mostEntries * 25) (allEntries ed orders symbols)
   unfolding allEntries
-  entries-few h =
-      let each-few : All (λ e. Few 24 (entryLines (rows orders) e)) (entries symbols) = all-weaken (λ e b. entry-few orders e rows-good b) (entries symbols) (bytes-entries symbols h) in
+  entries-few ed h =
+      let each-few : All (λ e. Few 25 (entryLines ed (rows orders) e)) (entries symbols) = all-weaken (λ e b. entry-few ed orders e rows-good b) (entries symbols) (bytes-entries symbols h) in
       record {
-        count = omega (arith, few-entries, join-le (entryLines (rows orders)) 24 (entries symbols) (all-weaken (λ e f. f .count) (entries symbols) each-few));
-        short = all-join Short (map (entryLines (rows orders)) (entries symbols)) (all-map (All Short) (entryLines (rows orders)) (entries symbols) (all-weaken (λ e f. f .short) (entries symbols) each-few));
+        count = omega (arith, few-entries, join-le (entryLines ed (rows orders)) 25 (entries symbols) (all-weaken (λ e f. f .count) (entries symbols) each-few));
+        short = all-join Short (map (entryLines ed (rows orders)) (entries symbols)) (all-map (All Short) (entryLines ed (rows orders)) (entries symbols) (all-weaken (λ e f. f .short) (entries symbols) each-few));
       }
 
   table-few : (second : ℕ) → second < 2 ^ 32 → Few 3 (tableLines second (countUsed (entries symbols)) (countLive (rows orders)))
@@ -255,6 +263,6 @@ unfolding sheetOf linesOf sheetOk
 sheet-le word bad s orders symbols ok m =
     let w = both-true {a = goodTables orders symbols} {b = nextOk (s .next)} ok in
     let counts = tableLines (s .clock .second) (countUsed (entries symbols)) (countLive (rows orders)) in
-    let all = few-append (headLines word bad s) (counts ++ allEntries orders symbols) (head-few word bad s (m .bad-fits) (w .1) (m .stop-fits))
-    (few-append counts (allEntries orders symbols) (table-few orders symbols (w .0) (s .clock .second) (m .second-fits)) (entries-few orders symbols (w .0) (m .bytes))) in
-    omega (arith, all .count, lines-le (headLines word bad s ++ (counts ++ allEntries orders symbols)) (all .short))
+    let all = few-append (headLines word bad s) (counts ++ allEntries (s .edition) orders symbols) (head-few word bad s (m .bad-fits) (w .1) (m .stop-fits))
+    (few-append counts (allEntries (s .edition) orders symbols) (table-few orders symbols (w .0) (s .clock .second) (m .second-fits)) (entries-few orders symbols (w .0) (s .edition) (m .bytes))) in
+    omega (arith, all .count, lines-le (headLines word bad s ++ (counts ++ allEntries (s .edition) orders symbols)) (all .short))

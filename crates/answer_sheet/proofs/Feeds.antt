@@ -12,7 +12,8 @@ use borrow.Author.Tests.{ne-eqb, le-leb, leb-true}
 use Rattle.facts.specs.Pick.{pick, both}
 use Rattle.facts.specs.Pieces.{join}
 use Rattle.facts.proofs.Picks.{pick-ind, both-true}
-use Rattle.fields.specs.Fields.{symbolOf}
+use Rattle.editions.specs.declared.Edition.{Edition}
+use Rattle.fields.specs.Fields.{symbolOf, securityOf}
 use Rattle.fields.specs.declared.Symbol.{Symbol}
 use Rattle.rows.specs.Rows.{rows}
 use Rattle.rows.specs.Find.{countLive}
@@ -27,13 +28,13 @@ use Rattle.views.specs.declared.Level.{Level}
 use Rattle.views.specs.declared.Side.{Side}
 use Rattle.views.specs.declared.SpreadAnswer.{SpreadAnswer}
 use Rattle.receiver.specs.declared.State.{State}
-use Rattle.text.specs.Text.{decimalOf, signedOf, tickerOf, lineOf}
+use Rattle.text.specs.Text.{decimalOf, signedOf, shownOf, tickerOf, lineOf}
 use Rattle.text.proofs.DecimalLaws.{decimal-digits}
-use Rattle.text.proofs.TickerLaws.{ticker-shown}
+use Rattle.text.proofs.TickerLaws.{shown-range, ticker-shown}
 use Rattle.answer_sheet.specs.declared.Recording.{Recording}
-use Rattle.answer_sheet.specs.Keys.{recordingKey, badKey, nextKey, stopKey, secondKey, symbolsKey, ordersKey, symbolKey, tickerKey, lotKey, spreadKey, bidKey, askKey, sideKey, wholeWord, cutWord, noneWord}
+use Rattle.answer_sheet.specs.Keys.{recordingKey, badKey, nextKey, stopKey, secondKey, symbolsKey, ordersKey, symbolKey, tickerKey, typeKey, lotKey, spreadKey, bidKey, askKey, sideKey, wholeWord, cutWord, noneWord}
 use Rattle.answer_sheet.specs.Lines.{Line, plain, lineText, textOf, pushFirst, cutFeeds}
-use Rattle.answer_sheet.specs.Sheet.{recordingWord, headLines, tableLines, markedOf, levelValue, levelLine, levelsShown, sideLines, spreadWord, symbolLines, bookLines, entryLines, allEntries, linesOf, sheetOf}
+use Rattle.answer_sheet.specs.Sheet.{recordingWord, headLines, tableLines, markedOf, levelValue, levelLine, levelsShown, sideLines, spreadWord, typeLines, symbolLines, bookLines, entryLines, allEntries, linesOf, sheetOf}
 
 -- ---- bytes that no line feed is among
 -- every byte is 32 or more
@@ -109,19 +110,27 @@ side-one : (side : Side) (id : ℕ) (rs : List Row) → All OneFeed (sideLines s
 unfolding sideLines
 side-one side id rs = all-map OneFeed (levelLine side id) (take levelsShown (ladder (keyOf side id) rs)) (all-of (level-one side id) (take levelsShown (ladder (keyOf side id) rs)))
 
-symbol-one : (e : Symbol) → All OneFeed (symbolLines e)
+type-one : (ed : Edition) (x : ℕ) → All OneFeed (typeLines ed x)
+unfolding typeLines typeKey visible both
+type-one Edition.V13 x = (plain-one typeKey (shownOf x ∷ []) refl (visible-cons (shownOf x) [] (shown-range x .0) refl), tt)
+type-one Edition.V13b x = tt
+
+symbol-one : (ed : Edition) (x : ℕ) (s : Symbol) → All OneFeed (symbolLines ed x s)
 unfolding symbolLines symbolKey tickerKey lotKey visible both
-symbol-one e = (number-one symbolKey (e .id) refl, (plain-one tickerKey (tickerOf (e .ticker)) refl (ticker-visible (e .ticker)), (number-one lotKey (e .lot) refl, tt)))
+symbol-one ed x s = (
+  number-one symbolKey (s .id) refl,
+  (plain-one tickerKey (tickerOf (s .ticker)) refl (ticker-visible (s .ticker)), all-append OneFeed (typeLines ed x) (plain lotKey (decimalOf (s .lot)) ∷ []) (type-one ed x) (number-one lotKey (s .lot) refl, tt)),
+)
 
 book-one : (id : ℕ) (rs : List Row) → All OneFeed (bookLines id rs)
 unfolding bookLines spreadKey visible both
 book-one id rs = (plain-one spreadKey (spreadWord (spreadOf id rs)) refl (spread-visible (spreadOf id rs)), all-append OneFeed (sideLines Side.Buy id rs) (sideLines Side.Sell id rs) (side-one Side.Buy id rs) (side-one Side.Sell id rs))
 
-entry-one : (rs : List Row) (e : List ℕ) → All OneFeed (entryLines rs e)
+entry-one : (ed : Edition) (rs : List Row) (e : List ℕ) → All OneFeed (entryLines ed rs e)
 unfolding entryLines
-entry-one rs e =
-    pick-ind (All OneFeed) (used e) (symbolLines (symbolOf e) ++ bookLines (symbolOf e .id) rs) []
-    (λ _. all-append OneFeed (symbolLines (symbolOf e)) (bookLines (symbolOf e .id) rs) (symbol-one (symbolOf e)) (book-one (symbolOf e .id) rs))
+entry-one ed rs e =
+    pick-ind (All OneFeed) (used e) (symbolLines ed (securityOf e) (symbolOf e) ++ bookLines (symbolOf e .id) rs) []
+    (λ _. all-append OneFeed (symbolLines ed (securityOf e) (symbolOf e)) (bookLines (symbolOf e .id) rs) (symbol-one ed (securityOf e) (symbolOf e)) (book-one (symbolOf e .id) rs))
     (λ _. tt)
 
 lines-one : (word : Recording) (bad : ℕ) (s : State) (orders symbols : List ℕ) → All OneFeed (linesOf word bad s orders symbols)
@@ -140,7 +149,7 @@ lines-one word bad s orders symbols = (
             number-one symbolsKey (countUsed (entries symbols)) refl,
             (
               number-one ordersKey (countLive (rows orders)) refl,
-              all-join OneFeed (map (entryLines (rows orders)) (entries symbols)) (all-map (All OneFeed) (entryLines (rows orders)) (entries symbols) (all-of (entry-one (rows orders)) (entries symbols))),
+              all-join OneFeed (map (entryLines (s .edition) (rows orders)) (entries symbols)) (all-map (All OneFeed) (entryLines (s .edition) (rows orders)) (entries symbols) (all-of (entry-one (s .edition) (rows orders)) (entries symbols))),
             ),
           ),
         ),

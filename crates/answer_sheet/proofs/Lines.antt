@@ -54,6 +54,11 @@ lines-first l ls p q = wrote-then p q
 pub lines-then : (a c : List Line) {b b' b'' : List ℕ} {at r r' : ℕ} → Wrote b at (textOf a) b' r → Wrote b' r (textOf c) b'' r' → Wrote b at (textOf (a ++ c)) b'' r'
 lines-then a c p q = wrote-as (sym (text-then a c)) (wrote-then p q)
 
+-- two lines, then others, then one more
+pub lines-between : (a b c : Line) (ls : List Line) → lineText a ++ (lineText b ++ (textOf ls ++ lineText c)) ≡ textOf (a ∷ b ∷ (ls ++ (c ∷ [])))
+unfolding textOf join
+lines-between a b c ls = ap (λ (t : List ℕ). lineText a ++ (lineText b ++ t)) (sym (text-then ls (c ∷ []) ∙ ap (λ (t : List ℕ). textOf ls ++ t) (append-nil (lineText c))))
+
 -- three numbers, the last with the line feed behind it
 pub level-text : (key : List ℕ) (l : Level) → key ++ (markedOf (l .price) 32 ++ (markedOf (l .shares) 32 ++ markedOf (l .orders) 10)) ≡ lineOf key (levelValue l)
 unfolding lineOf levelValue markedOf

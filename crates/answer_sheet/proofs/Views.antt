@@ -13,7 +13,8 @@ use Rattle.facts.specs.Pick.{pick}
 use Rattle.facts.specs.Pieces.{join}
 use Rattle.rows.specs.Rows.{rows}
 use Rattle.rows.specs.declared.Row.{Row}
-use Rattle.fields.specs.Fields.{symbolOf}
+use Rattle.editions.specs.declared.Edition.{Edition}
+use Rattle.fields.specs.Fields.{symbolOf, securityOf}
 use Rattle.symbols.specs.Entries.{entries, used, idOf}
 use Rattle.symbols.proofs.FindLaws.{is-symbol, some-known}
 use Rattle.views.specs.Ladder.{keyOf, ladder, threeOf, written}
@@ -36,18 +37,18 @@ used-shown orders symbols i g u =
     sym (no-fault (idOf e) orders symbols g (some-known (idOf e) (entries symbols) i (is-symbol (idOf e) e u refl)))
 
 -- ---- an entry's lines
-pub unused-lines : (rs : List Row) (e : List ℕ) → used e ≡ false → [] ≡ textOf (entryLines rs e)
+pub unused-lines : (ed : Edition) (rs : List Row) (e : List ℕ) → used e ≡ false → [] ≡ textOf (entryLines ed rs e)
 unfolding entryLines textOf join pick
-unused-lines rs e u = rw u
+unused-lines ed rs e u = rw u
 
-pub used-lines : (rs : List Row) (e : List ℕ) → used e ≡ true → textOf (symbolLines (symbolOf e) ++ bookLines (symbolOf e .id) rs) ≡ textOf (entryLines rs e)
+pub used-lines : (ed : Edition) (rs : List Row) (e : List ℕ) → used e ≡ true → textOf (symbolLines ed (securityOf e) (symbolOf e) ++ bookLines (symbolOf e .id) rs) ≡ textOf (entryLines ed rs e)
 unfolding entryLines pick
-used-lines rs e u = rw u
+used-lines ed rs e u = rw u
 
-pub entries-are : (orders symbols : List ℕ) (n : ℕ) → n ≡ length (entries symbols) → firstTexts (λ i. textOf (entryLines (rows orders) (getD (entries symbols) i []))) n ≡ textOf (allEntries orders symbols)
+pub entries-are : (ed : Edition) (orders symbols : List ℕ) (n : ℕ) → n ≡ length (entries symbols) → firstTexts (λ i. textOf (entryLines ed (rows orders) (getD (entries symbols) i []))) n ≡ textOf (allEntries ed orders symbols)
 unfolding allEntries
-entries-are orders symbols n e =
-    rw e (texts-of-all (λ x. textOf (entryLines (rows orders) x)) (λ i. textOf (entryLines (rows orders) (getD (entries symbols) i []))) (entries symbols) [] (λ i h. refl) ∙ sym (text-join (entryLines (rows orders)) (entries symbols)))
+entries-are ed orders symbols n e =
+    rw e (texts-of-all (λ x. textOf (entryLines ed (rows orders) x)) (λ i. textOf (entryLines ed (rows orders) (getD (entries symbols) i []))) (entries symbols) [] (λ i h. refl) ∙ sym (text-join (entryLines ed (rows orders)) (entries symbols)))
 
 -- ---- a run of thirty numbers
 module _ (ls : List Level) (o : List ℕ) (l : length o ≡ 30) where

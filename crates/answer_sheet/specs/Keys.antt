@@ -39,6 +39,10 @@ symbolKey = 115 ∷ 121 ∷ 109 ∷ 98 ∷ 111 ∷ 108 ∷ 61 ∷ []
 unfoldable pub tickerKey : List ℕ
 tickerKey = 116 ∷ 105 ∷ 99 ∷ 107 ∷ 101 ∷ 114 ∷ 61 ∷ []
 
+-- "type="
+unfoldable pub typeKey : List ℕ
+typeKey = 116 ∷ 121 ∷ 112 ∷ 101 ∷ 61 ∷ []
+
 -- "lot="
 unfoldable pub lotKey : List ℕ
 lotKey = 108 ∷ 111 ∷ 116 ∷ 61 ∷ []

@@ -6,7 +6,8 @@ use mathlib.Core.Path.{_≡_}
 use lib.ListN.{length, getD, take, drop}
 use Rattle.facts.specs.Pick.{pick, both}
 use Rattle.facts.specs.Pieces.{join}
-use Rattle.fields.specs.Fields.{symbolOf, refusal}
+use Rattle.editions.specs.declared.Edition.{Edition}
+use Rattle.fields.specs.Fields.{symbolOf, securityOf, refusal}
 use Rattle.fields.specs.declared.Symbol.{Symbol}
 use Rattle.rows.specs.Rows.{rows}
 use Rattle.rows.specs.Find.{countLive}
@@ -24,10 +25,10 @@ use Rattle.views.specs.declared.Sizes.{Sizes}
 use Rattle.views.specs.declared.CountsAnswer.{CountsAnswer}
 use Rattle.receiver.specs.Receiver.{nextOk}
 use Rattle.receiver.specs.declared.State.{State}
-use Rattle.text.specs.Text.{decimalOf, signedOf, tickerOf}
+use Rattle.text.specs.Text.{decimalOf, signedOf, shownOf, tickerOf}
 use Rattle.answer_sheet.specs.declared.Recording.{Recording}
 use Rattle.answer_sheet.specs.declared.SheetAnswer.{SheetAnswer}
-use Rattle.answer_sheet.specs.Keys.{recordingKey, badKey, nextKey, stopKey, secondKey, symbolsKey, ordersKey, symbolKey, tickerKey, lotKey, spreadKey, sideKey, wholeWord, cutWord, noneWord}
+use Rattle.answer_sheet.specs.Keys.{recordingKey, badKey, nextKey, stopKey, secondKey, symbolsKey, ordersKey, symbolKey, tickerKey, typeKey, lotKey, spreadKey, sideKey, wholeWord, cutWord, noneWord}
 use Rattle.answer_sheet.specs.Lines.{level, Line, plain, textOf}
 
 -- ---- the head
@@ -81,37 +82,41 @@ spreadWord (SpreadAnswer.Of z) = signedOf z
 spreadWord SpreadAnswer.Empty = noneWord
 spreadWord (SpreadAnswer.Refused r) = []
 
--- "symbol=7", "ticker=ABC", "lot=100"
-unfoldable pub symbolLines : Symbol → List Line
-symbolLines e =
-    plain symbolKey (decimalOf (e .id)) ∷
-    plain tickerKey (tickerOf (e .ticker)) ∷
-    plain lotKey (decimalOf (e .lot)) ∷
-    []
+-- "Only the 1.3 sheet shows it, as `type=` after `ticker=`" (request 10): the byte x, as "other bytes outside 32 to 126 shown as a full stop"
+unfoldable pub typeLines : Edition → ℕ → List Line
+typeLines Edition.V13 x = plain typeKey (shownOf x ∷ []) ∷ []
+typeLines Edition.V13b x = []
+
+-- "symbol=7", "ticker=ABC", "lot=100", of a symbol s with the byte x for its type
+unfoldable pub symbolLines : Edition → ℕ → Symbol → List Line
+symbolLines ed x s =
+    plain symbolKey (decimalOf (s .id)) ∷
+    plain tickerKey (tickerOf (s .ticker)) ∷
+    (typeLines ed x ++ (plain lotKey (decimalOf (s .lot)) ∷ []))
 
 -- "spread=20000", then the levels, "bids first"
 unfoldable pub bookLines : ℕ → List Row → List Line
 bookLines id rs = plain spreadKey (spreadWord (spreadOf id rs)) ∷ (sideLines Side.Buy id rs ++ sideLines Side.Sell id rs)
 
 -- a free or spoiled entry has no lines: "type 1 marks an entry in use"
-unfoldable pub entryLines : List Row → List ℕ → List Line
-entryLines rs e = pick (used e) (symbolLines (symbolOf e) ++ bookLines (symbolOf e .id) rs) []
+unfoldable pub entryLines : Edition → List Row → List ℕ → List Line
+entryLines ed rs e = pick (used e) (symbolLines ed (securityOf e) (symbolOf e) ++ bookLines (symbolOf e .id) rs) []
 
 -- "symbols in table order"
-unfoldable pub allEntries : List ℕ → List ℕ → List Line
-allEntries orders symbols = join (map (entryLines (rows orders)) (entries symbols))
+unfoldable pub allEntries : Edition → List ℕ → List ℕ → List Line
+allEntries ed orders symbols = join (map (entryLines ed (rows orders)) (entries symbols))
 
 -- ---- the whole
 -- "The sheet is key=value lines in a fixed order": of a receiver's state and its tables, the count of bad packets and the recording's word
 unfoldable pub linesOf : Recording → ℕ → State → List ℕ → List ℕ → List Line
 linesOf word bad s orders symbols =
-    headLines word bad s ++ (tableLines (s .clock .second) (countUsed (entries symbols)) (countLive (rows orders)) ++ allEntries orders symbols)
+    headLines word bad s ++ (tableLines (s .clock .second) (countUsed (entries symbols)) (countLive (rows orders)) ++ allEntries (s .edition) orders symbols)
 
 -- those lines, "each ended by one line feed"
 unfoldable pub sheetOf : Recording → ℕ → State → List ℕ → List ℕ → List ℕ
 sheetOf word bad s orders symbols = textOf (linesOf word bad s orders symbols)
 
--- as many bytes as the longest sheet may have, or more: 7 lines and 24 for each of 1,000 symbols, each of at most 60 bytes
+-- as many bytes as the longest sheet may have, or more: 7 lines and 25 for each of 1,000 symbols, each of at most 50 bytes
 abbrev pub sheetMost : ℕ
 sheetMost = 1500000
 

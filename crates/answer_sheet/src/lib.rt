@@ -4,13 +4,15 @@ ghost use mathlib.Core.Bool.{true};
 ghost use Prim.Native.Nat.{_+_, _*_, _^_, _≤_, _<_, min};
 ghost use lib.ListN.{length, getD};
 ghost use mathlib.Core.List.{[]};
+ghost use Rattle.fields.specs.Fields.{securityOf};
 ghost use Rattle.rows.specs.Rows.{rows};
 ghost use Rattle.symbols.specs.Entries.{entries};
 ghost use Rattle.views.specs.Views.{goodTables, viewFault};
 ghost use Rattle.text.specs.Text.{Wrote, tickerOf, lineOf, firstTexts};
 ghost use Rattle.answer_sheet.specs.Keys.{recordingKey, tickerKey, spreadKey, sideKey};
 ghost use Rattle.answer_sheet.specs.Lines.{textOf};
-ghost use Rattle.answer_sheet.specs.Sheet.{recordingWord, headLines, tableLines, markedOf, levelValue, levelsShown, levelAt, levelCount, sideLines, spreadWord, symbolLines, bookLines, entryLines, allEntries, sheetOf, sheetAnd, sheetView, AreSizes};
+ghost use Rattle.answer_sheet.specs.Sheet.{recordingWord, headLines, tableLines, markedOf, levelValue, levelsShown, levelAt, levelCount, sideLines, spreadWord, typeLines, symbolLines, bookLines, entryLines, allEntries, sheetOf, sheetAnd, sheetView, AreSizes};
+use editions::Edition;
 use fields::Refusal;
 use fields::Symbol;
 use receiver::State;
@@ -178,37 +180,73 @@ fn ticker_line(buf: &mut [u8], at: usize, t: [u8; 11]) -> usize
     text::byte(buf, p, b'\n')
 }
 
-fn symbol_lines(buf: &mut [u8], at: usize, e: Symbol) -> usize
-    ensures { λ r. ⌜ Wrote (now (buf .entry)) at (textOf (symbolLines e)) (now (buf .exit)) r ⌝ }
+// The Security Type, on a sheet of 1.3 alone.
+fn type_lines(buf: &mut [u8], at: usize, e: Edition, x: u8) -> usize
+    ensures { λ r. ⌜ Wrote (now (buf .entry)) at (textOf (typeLines e x)) (now (buf .exit)) r ⌝ }
 {
-    let ticker = e.ticker;
-    let o = text::line(buf, at, b"symbol=", e.id as u64);
+    match e {
+        Edition::V13 => {
+            let o = text::bytes(buf, at, b"type=");
+            let p = text::byte(buf, o, text::shown(x));
+            text::byte(buf, p, b'\n')
+        }
+        Edition::V13b => at,
+    }
+}
+
+fn symbol_lines(buf: &mut [u8], at: usize, e: Edition, x: u8, s: Symbol) -> usize
+    ensures { λ r. ⌜ Wrote (now (buf .entry)) at (textOf (symbolLines e x s)) (now (buf .exit)) r ⌝ }
+{
+    let ticker = s.ticker;
+    let o = text::line(buf, at, b"symbol=", s.id as u64);
     let p = ticker_line(buf, o, ticker);
-    text::line(buf, p, b"lot=", e.lot as u64)
+    let q = type_lines(buf, p, e, x);
+    text::line(buf, q, b"lot=", s.lot as u64)
+}
+
+// The byte of entry i that is its Security Type in 1.3.
+fn security_at(symbols: &[u8], i: usize) -> u8
+    ensures { λ r. ⌜ r ≡ securityOf (getD (entries (now (symbols .entry))) i []) ⌝ }
+{
+    fields::security_of(symbols::entry_bytes(symbols, i))
 }
 
 // The lines of entry i; none where it is not in use.
-fn entry_lines(buf: &mut [u8], at: usize, orders: &[u64], symbols: &[u8], i: usize) -> usize
+fn entry_lines(
+    buf: &mut [u8],
+    at: usize,
+    e: Edition,
+    orders: &[u64],
+    symbols: &[u8],
+    i: usize,
+) -> usize
     requires { ⌜ goodTables (now orders) (now symbols) ≡ true ⌝ }
-    ensures { λ r. ⌜ Wrote (now (buf .entry)) at (textOf (entryLines (rows (now (orders .entry))) (getD (entries (now (symbols .entry))) i []))) (now (buf .exit)) r ⌝ }
+    ensures { λ r. ⌜ Wrote (now (buf .entry)) at (textOf (entryLines e (rows (now (orders .entry))) (getD (entries (now (symbols .entry))) i []))) (now (buf .exit)) r ⌝ }
 {
     if !symbols::is_used_at(symbols, i) {
         return at;
     }
-    let e = symbols::entry_at(symbols, i);
-    let o = symbol_lines(buf, at, e);
-    book_lines(buf, o, orders, symbols, e.id)
+    let x = security_at(symbols, i);
+    let s = symbols::entry_at(symbols, i);
+    let o = symbol_lines(buf, at, e, x, s);
+    book_lines(buf, o, orders, symbols, s.id)
 }
 
-fn all_entries(buf: &mut [u8], at: usize, orders: &[u64], symbols: &[u8]) -> usize
+fn all_entries(
+    buf: &mut [u8],
+    at: usize,
+    e: Edition,
+    orders: &[u64],
+    symbols: &[u8],
+) -> usize
     requires { ⌜ goodTables (now orders) (now symbols) ≡ true ⌝ }
-    ensures { λ r. ⌜ Wrote (now (buf .entry)) at (textOf (allEntries (now (orders .entry)) (now (symbols .entry)))) (now (buf .exit)) r ⌝ }
+    ensures { λ r. ⌜ Wrote (now (buf .entry)) at (textOf (allEntries e (now (orders .entry)) (now (symbols .entry)))) (now (buf .exit)) r ⌝ }
 {
     let n = symbols::entry_count(symbols);
     let mut i = 0;
     let mut o = at;
     while i < n {
-        o = entry_lines(buf, o, orders, symbols, i);
+        o = entry_lines(buf, o, e, orders, symbols, i);
         i += 1;
     }
     o
@@ -227,13 +265,14 @@ fn all_lines(
     requires { ⌜ AreSizes sizes (now orders) (now symbols) ⌝ }
     ensures { λ r. ⌜ Wrote (now (buf .entry)) 0 (sheetOf word bad state (now (orders .entry)) (now (symbols .entry))) (now (buf .exit)) r × (state .stop < 2 ^ 8) × (state .clock .second < 2 ^ 32) ⌝ }
 {
+    let e = state.edition;
     let clock = state.clock;
     let o = head(buf, 0, word, bad, state);
     let p = table_lines(buf, o, clock.second, sizes);
-    all_entries(buf, p, orders, symbols)
+    all_entries(buf, p, e, orders, symbols)
 }
 
-// The sheet of a receiver of any state with any tables, its bad count and the recording's word.
+// The sheet of a receiver of any state with any tables, its bad count and the recording's word; it is one of the state's edition.
 pub fn sheet(
     buf: &mut [u8],
     orders: &[u64],

@@ -54,6 +54,10 @@ cancelOf b = readAs tradeCancel b
 abbrev pub symbolOf : List ℕ → Symbol
 symbolOf b = let m : SymbolUpdate = readAs symbolUpdate b in record { id = m .symbol; ticker = m .ticker; opening = m .opening; closing = m .closing; lot = m .lot; market = m .market }
 
+-- byte 20 of it: "version 1.3, where byte 20 of a Symbol Update is Security Type" (document 02, No. 10); reserved from 1.3.a on
+abbrev pub securityOf : List ℕ → ℕ
+securityOf b = readAs symbolUpdate b .security
+
 -- System State (4.3).
 abbrev pub stateOf : List ℕ → SystemState
 stateOf b = readAs systemState b

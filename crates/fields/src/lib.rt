@@ -1,7 +1,7 @@
 // The eleven messages as values: what stands where in a body (docs/MESSAGES.md). Decoding judges nothing; any bytes have fields.
 use kinds::Kind;
 ghost use mathlib.Core.Path.{_≡_};
-ghost use Rattle.fields.specs.Fields.{statusOf, clearOf, addOf, modifyOf, deleteOf, executionOf, tradeOf, cancelOf, symbolOf, stateOf, decoded};
+ghost use Rattle.fields.specs.Fields.{statusOf, clearOf, addOf, modifyOf, deleteOf, executionOf, tradeOf, cancelOf, symbolOf, securityOf, stateOf, decoded};
 
 // Security Trading Status (4.4).
 pub struct TradingStatus {
@@ -78,7 +78,7 @@ pub struct TradeCancel {
     pub size: u32,
 }
 
-// Symbol Update (4.2). What it leaves out (nanoseconds, test indicator, reserved bytes) stays in the body's 42 bytes.
+// Symbol Update (4.2). What it leaves out (nanoseconds, byte 20, which security_of reads, test indicator, byte 22) stays in the body's 42 bytes.
 pub struct Symbol {
     pub id: u32,
     pub ticker: [u8; 11],
@@ -238,6 +238,13 @@ pub fn symbol_of(b: &[u8]) -> Symbol
         lot: wire::u16_at(b, 23),
         market: wire::u8_at(b, 41),
     }
+}
+
+// The Security Type of a Symbol Update of 1.3; the byte is reserved from 1.3.a on.
+pub fn security_of(b: &[u8]) -> u8
+    ensures { λ r. ⌜ r ≡ securityOf (now (b .entry)) ⌝ }
+{
+    wire::u8_at(b, 20)
 }
 
 pub fn state_of(b: &[u8]) -> SystemState

@@ -65,7 +65,7 @@ pub shown-above : (x : ℕ) → 126 < x → 46 ≡ shownOf x
 unfolding shownOf pick both
 shown-above x h = simp (le-leb 32 x (omega arith), lt-leb x 126 h)
 
-shown-range : (x : ℕ) → (32 ≤ shownOf x) × (shownOf x ≤ 126)
+pub shown-range : (x : ℕ) → (32 ≤ shownOf x) × (shownOf x ≤ 126)
 unfolding shownOf
 shown-range x =
     pick-ind (λ y. (32 ≤ y) × (y ≤ 126)) (both (leb 32 x) (leb x 126)) x 46

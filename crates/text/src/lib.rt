@@ -101,7 +101,8 @@ fn trimmed(s: &[u8]) -> usize
     n
 }
 
-fn shown(x: u8) -> u8
+// A byte as a sheet shows it.
+pub fn shown(x: u8) -> u8
     ensures { λ r. ⌜ r ≡ shownOf x ⌝ }
 {
     if x < 32 {

@@ -15,10 +15,10 @@ use Rattle.answer_sheet.proofs.all_entries.Statement.{statement}
 use Rattle.answer_sheet.proofs.all_entries.Tie as tie
 
 abbrev Inv-loop : tie.InvT-loop
-Inv-loop buf₀ at orders symbols n i₀ o₀ buf i o = (i ≤ n) × Wrote buf₀ at (firstTexts (λ j. textOf (entryLines (rows orders) (getD (entries symbols) j []))) i) buf o
+Inv-loop buf₀ at e orders symbols n i₀ o₀ buf i o = (i ≤ n) × Wrote buf₀ at (firstTexts (λ j. textOf (entryLines e (rows orders) (getD (entries symbols) j []))) i) buf o
 
 abbrev μ-loop : tie.MeasureT-loop
-μ-loop buf₀ at orders symbols n i₀ o₀ buf i o = n - i
+μ-loop buf₀ at e orders symbols n i₀ o₀ buf i o = n - i
 
 entry-count-requires : tie.Need-entry-count-requires Inv-loop μ-loop
 entry-count-requires c κs = search needs
@@ -44,7 +44,7 @@ same-length c = wrote-kept (c .before .loop .inv .1)
 returns : tie.Need-returns Inv-loop μ-loop
 returns c =
     let a = c .before .before .before .before .before .before .args in
-    wrote-as (entries-are (a .orders .now) (a .symbols .now) _ (c .before .before .entry-count .ensures)) (texts-all _ (c .before .loop .inv .0) (c .loop-test .left) (c .before .loop .inv .1))
+    wrote-as (entries-are (a .e) (a .orders .now) (a .symbols .now) _ (c .before .before .entry-count .ensures)) (texts-all _ (c .before .loop .inv .0) (c .loop-test .left) (c .before .loop .inv .1))
 
 pub all-entries-spec : {M : Type 1} → statement M
 all-entries-spec =
