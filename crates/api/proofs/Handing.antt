@@ -8,6 +8,7 @@ use lib.IntN.{ℤ}
 use mir.Syntax.{w64}
 use mir.Val.{SFits, toZ, ofZ}
 use mir.ValLaws.{toZ-ofZ}
+use Rattle.editions.specs.declared.Edition.{Edition}
 use Rattle.kinds.specs.Table.{typeOf}
 use Rattle.kinds.specs.declared.Kind.{Kind}
 use Rattle.fields.specs.Fields.{decoded, bodyNumber}
@@ -29,7 +30,7 @@ use Rattle.receiver.specs.declared.Started.{Started}
 use Rattle.receiver.specs.Lent.{stateNumbers, Begun, begun, lent, Handled, handled}
 use Rattle.answer_sheet.specs.declared.SheetAnswer.{SheetAnswer}
 use Rattle.answer_sheet.specs.Sheet.{Sheet, sheetAnd}
-use Rattle.api.specs.Calls.{withOffset, accountNumbers, startAnswer, receiveCall, receiveAnswer, ladderAnswer, call, bitsOf, spreadAnswer, countsAnswer, packetAnswer, recordAnswer, sheetAnswer}
+use Rattle.api.specs.Calls.{withOffset, accountNumbers, startCall, startAnswer, receiveCall, receiveAnswer, ladderAnswer, call, bitsOf, spreadAnswer, countsAnswer, packetAnswer, recordAnswer, sheetAnswer}
 use Rattle.api.specs.Messages.{typed, kindIn, bodyAnswer}
 use Rattle.api.proofs.Types.{type-told}
 
@@ -39,6 +40,11 @@ handed f g x k b q e = ap f (ap g (sym q) ∙ e)
 
 pub start-handed : (x k : Started) → x ≡ k → (o s h : List ℕ) (b : Begun) → begun x o s h ≡ b → (l : List ℕ) → startAnswer (begun k o s h) l ≡ startAnswer b l
 start-handed x k q o s h b e l = handed (λ y. startAnswer y l) (λ y. begun y o s h) x k b q e
+
+-- the state is what the call that copies it told
+pub start-ready : (x : Started) (q : State) → x ≡ Started.Ready q → (o s h : List ℕ) (b : Begun) → begun x o s h ≡ b → (l n : List ℕ) → n ≡ stateNumbers q → startCall 0 n o s h ≡ startAnswer b l
+unfolding startAnswer
+start-ready x q f o s h b e l n g = ap (λ (y : List ℕ). startCall 0 y o s h) g ∙ start-handed x (Started.Ready q) f o s h b e l
 
 pub ladder-handed : (x k : LadderAnswer) → x ≡ k → (o : List ℕ) (v : LadderOut) → ladderOut x o ≡ v → (l : List ℕ) → ladderAnswer (ladderOut k o) l ≡ ladderAnswer v l
 ladder-handed x k q o v e l = handed (λ y. ladderAnswer y l) (λ y. ladderOut y o) x k v q e
@@ -73,10 +79,10 @@ module _ (x : Received) (o s h : List ℕ) (t : State) (u : Handled) (e : handle
   unfolding receiveAnswer
   receive-bad f q n g = ap (λ (y : ℕ). receiveCall y l a o s h) g ∙ receive-handed (Received.Bad f) q
 
-  -- the account is what the call that copies it told
-  pub receive-accepted : (c : Account) → x ≡ Received.Accepted c → (n : List ℕ) → n ≡ accountNumbers c → receiveCall 0 (stateNumbers t) n o s h ≡ receiveAnswer u l a
+  -- state and account are what the calls that copy them told
+  pub receive-accepted : (c : Account) → x ≡ Received.Accepted c → (m : List ℕ) → m ≡ stateNumbers t → (n : List ℕ) → n ≡ accountNumbers c → receiveCall 0 m n o s h ≡ receiveAnswer u l a
   unfolding receiveAnswer
-  receive-accepted c q n f = ap (λ (y : List ℕ). receiveCall 0 (stateNumbers t) y o s h) f ∙ receive-handed (Received.Accepted c) q
+  receive-accepted c q m g n f = (λ i. receiveCall 0 (g i) (f i) o s h) ∙ receive-handed (Received.Accepted c) q
 
 -- ---- a spread
 module _ (x v : SpreadAnswer) (e : x ≡ v) (l : List ℕ) where
@@ -90,20 +96,20 @@ module _ (x v : SpreadAnswer) (e : x ≡ v) (l : List ℕ) where
 
 -- ---- a body
 -- the numbers of the case that a message is are its numbers
-pub case-fields : (t : ℕ) (m k : Body) → m ≡ k → (b w : List ℕ) → w ≡ typed t k b → w ≡ typed t m b
-case-fields t m k q b w f = f ∙ ap (λ (y : Body). typed t y b) (sym q)
+pub case-fields : (ed : Edition) (t : ℕ) (m k : Body) → m ≡ k → (b w : List ℕ) → w ≡ typed ed t k b → w ≡ typed ed t m b
+case-fields ed t m k q b w f = f ∙ ap (λ (y : Body). typed ed t y b) (sym q)
 
-module _ (b l : List ℕ) (r : Judged) (e : r ≡ judgeBody b) where
-  pub body-refused : (f : Fault) → r ≡ Judged.Bad f → (n : ℕ) → n ≡ withOffset f → call n l ≡ bodyAnswer (judgeBody b) (readBody b) b l
+module _ (ed : Edition) (b l : List ℕ) (r : Judged) (e : r ≡ judgeBody ed b) where
+  pub body-refused : (f : Fault) → r ≡ Judged.Bad f → (n : ℕ) → n ≡ withOffset f → call n l ≡ bodyAnswer ed (judgeBody ed b) (readBody ed b) b l
   unfolding bodyAnswer
-  body-refused f q n g = ap (λ (y : ℕ). call y l) g ∙ ap (λ (y : Judged). bodyAnswer y (readBody b) b l) (sym q ∙ e)
+  body-refused f q n g = ap (λ (y : ℕ). call y l) g ∙ ap (λ (y : Judged). bodyAnswer ed y (readBody ed b) b l) (sym q ∙ e)
 
   -- told by the type t that the body starts with, m being what was decoded
-  pub body-told : (k : Kind) → r ≡ Judged.Good k → (t : ℕ) → t ≡ getD b 0 0 → (m : Body) → m ≡ decoded k b → (w : List ℕ) → w ≡ typed t m b → call 0 w ≡ bodyAnswer (judgeBody b) (readBody b) b l
+  pub body-told : (k : Kind) → r ≡ Judged.Good k → (t : ℕ) → t ≡ getD b 0 0 → (m : Body) → m ≡ decoded k b → (w : List ℕ) → w ≡ typed ed t m b → call 0 w ≡ bodyAnswer ed (judgeBody ed b) (readBody ed b) b l
   unfolding bodyAnswer readBody message
   body-told k q t h m d w g =
-      let good : judgeBody b ≡ Judged.Good k = sym e ∙ q in
-      let same : readBody b ≡ m = ap (λ (y : Judged). message y b) good ∙ sym d in
-      let none : bodyNumber (readBody b) ≡ 0 = sym (judge-number b) ∙ ap judgedNumber good in
-      let type-is : t ≡ typeOf (kindIn (readBody b)) = h ∙ sym (type-told (readBody b) b (read-sound b) none) in
-      ap (call 0) (g ∙ (λ j. typed (type-is j) (sym same j) b)) ∙ ap (λ (y : Judged). bodyAnswer y (readBody b) b l) (sym good)
+      let good : judgeBody ed b ≡ Judged.Good k = sym e ∙ q in
+      let same : readBody ed b ≡ m = ap (λ (y : Judged). message y b) good ∙ sym d in
+      let none : bodyNumber (readBody ed b) ≡ 0 = sym (judge-number ed b) ∙ ap judgedNumber good in
+      let type-is : t ≡ typeOf (kindIn (readBody ed b)) = h ∙ sym (type-told ed (readBody ed b) b (read-sound ed b) none) in
+      ap (call 0) (g ∙ (λ j. typed ed (type-is j) (sym same j) b)) ∙ ap (λ (y : Judged). bodyAnswer ed y (readBody ed b) b l) (sym good)

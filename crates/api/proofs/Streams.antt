@@ -1,4 +1,4 @@
--- What `feed` answered decides what the boundary hands on; and calls from C, one after another, are `feed` after `feed`: the thirteen numbers that a call leaves give the
+-- What `feed` answered decides what the boundary hands on; and calls from C, one after another, are `feed` after `feed`: the fourteen numbers that a call leaves give the
 -- next one the same stream back.
 -- Assumes nothing.
 use Prim.Native.Nat.{ℕ, _%_, _^_, _<_}

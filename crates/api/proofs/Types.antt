@@ -6,6 +6,7 @@ use mathlib.Core.List.{List}
 use mathlib.Core.Logic.{inl, inr}
 use native.Mathlib.Omega.{arith}
 use lib.ListN.{getD}
+use Rattle.editions.specs.declared.Edition.{Edition}
 use Rattle.kinds.specs.Table.{typeOf}
 use Rattle.fields.specs.Fields.{bodyNumber}
 use Rattle.fields.specs.declared.Body.{Body}
@@ -14,36 +15,36 @@ use Rattle.body.proofs.Laws.{Sound, read-sound}
 use Rattle.api.specs.Messages.{typed, kindIn, fieldsOf}
 
 -- the kind of what was read has the type that the body starts with
-pub type-told : (m : Body) (b : List ℕ) → Sound m b → bodyNumber m ≡ 0 → typeOf (kindIn m) ≡ getD b 0 0
-type-told (Body.SystemTime n) b s z = sym (s .0 .type-is)
-type-told Body.SymbolUpdate b s z = sym (s .0 .type-is)
-type-told Body.SystemState b s z = sym (s .0 .type-is)
-type-told (Body.TradingStatus m) b s z = sym (s .0 .type-is)
-type-told (Body.SymbolClear m) b s z = sym (s .0 .type-is)
-type-told (Body.Add m) b s z = sym (s .0 .type-is)
-type-told (Body.Modify m) b s z = sym (s .0 .type-is)
-type-told (Body.Delete m) b s z = sym (s .0 .type-is)
-type-told (Body.Execution m) b s z = sym (s .0 .type-is)
-type-told (Body.Trade m) b s z = sym (s .0 .type-is)
-type-told (Body.TradeCancel m) b s z = sym (s .0 .type-is)
-type-told (Body.Bad r) b (inl e) z = absurd (omega (arith, e .0))
-type-told (Body.Bad r) b (inr e) z = absurd (omega (arith, e .0))
+pub type-told : (ed : Edition) (m : Body) (b : List ℕ) → Sound ed m b → bodyNumber m ≡ 0 → typeOf (kindIn m) ≡ getD b 0 0
+type-told ed (Body.SystemTime n) b s z = sym (s .0 .type-is)
+type-told ed Body.SymbolUpdate b s z = sym (s .0 .type-is)
+type-told ed Body.SystemState b s z = sym (s .0 .type-is)
+type-told ed (Body.TradingStatus m) b s z = sym (s .0 .type-is)
+type-told ed (Body.SymbolClear m) b s z = sym (s .0 .type-is)
+type-told ed (Body.Add m) b s z = sym (s .0 .type-is)
+type-told ed (Body.Modify m) b s z = sym (s .0 .type-is)
+type-told ed (Body.Delete m) b s z = sym (s .0 .type-is)
+type-told ed (Body.Execution m) b s z = sym (s .0 .type-is)
+type-told ed (Body.Trade m) b s z = sym (s .0 .type-is)
+type-told ed (Body.TradeCancel m) b s z = sym (s .0 .type-is)
+type-told ed (Body.Bad r) b (inl e) z = absurd (omega (arith, e .0))
+type-told ed (Body.Bad r) b (inr e) z = absurd (omega (arith, e .0))
 
 -- the first of the eight is the type that they are told with
-typed-first : (t : ℕ) (m : Body) (b : List ℕ) → getD (typed t m b) 0 0 ≡ t
-typed-first t (Body.SystemTime n) b = refl
-typed-first t Body.SymbolUpdate b = refl
-typed-first t Body.SystemState b = refl
-typed-first t (Body.TradingStatus m) b = refl
-typed-first t (Body.SymbolClear m) b = refl
-typed-first t (Body.Add m) b = refl
-typed-first t (Body.Modify m) b = refl
-typed-first t (Body.Delete m) b = refl
-typed-first t (Body.Execution m) b = refl
-typed-first t (Body.Trade m) b = refl
-typed-first t (Body.TradeCancel m) b = refl
-typed-first t (Body.Bad r) b = refl
+typed-first : (ed : Edition) (t : ℕ) (m : Body) (b : List ℕ) → getD (typed ed t m b) 0 0 ≡ t
+typed-first ed t (Body.SystemTime n) b = refl
+typed-first ed t Body.SymbolUpdate b = refl
+typed-first ed t Body.SystemState b = refl
+typed-first ed t (Body.TradingStatus m) b = refl
+typed-first ed t (Body.SymbolClear m) b = refl
+typed-first ed t (Body.Add m) b = refl
+typed-first ed t (Body.Modify m) b = refl
+typed-first ed t (Body.Delete m) b = refl
+typed-first ed t (Body.Execution m) b = refl
+typed-first ed t (Body.Trade m) b = refl
+typed-first ed t (Body.TradeCancel m) b = refl
+typed-first ed t (Body.Bad r) b = refl
 
 -- "The type byte decides the message": what a caller is told is the byte itself
-pub type-first : (b : List ℕ) → bodyNumber (readBody b) ≡ 0 → getD (fieldsOf (readBody b) b) 0 0 ≡ getD b 0 0
-type-first b z = typed-first (typeOf (kindIn (readBody b))) (readBody b) b ∙ type-told (readBody b) b (read-sound b) z
+pub type-first : (ed : Edition) (b : List ℕ) → bodyNumber (readBody ed b) ≡ 0 → getD (fieldsOf ed (readBody ed b) b) 0 0 ≡ getD b 0 0
+type-first ed b z = typed-first ed (typeOf (kindIn (readBody ed b))) (readBody ed b) b ∙ type-told ed (readBody ed b) b (read-sound ed b) z

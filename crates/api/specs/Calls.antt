@@ -7,6 +7,7 @@ use lib.ListN.{getD}
 use lib.IntN.{ℤ, pos, natAbs}
 use lib.Signed.{ltZ}
 use Rattle.facts.specs.Pick.{pick}
+use Rattle.editions.specs.Editions.{editionOf}
 use Rattle.receiver.specs.declared.State.{State}
 use Rattle.receiver.specs.declared.Account.{Account}
 use Rattle.receiver.specs.declared.Received.{Received}
@@ -29,9 +30,9 @@ use Rattle.fields.specs.declared.Fault.{Fault}
 abbrev pub withOffset : Fault → ℕ
 withOffset f = f .number + 256 * f .at
 
--- a receiver's state in three lent numbers (`stateNumbers` of receiver): the second is the low 32 bits of its number, the stop the low 8
+-- a receiver's state in four lent numbers (`stateNumbers` of receiver): the second is the low 32 bits of its number, the stop the low 8, and any number but 1 stands for 1.3.a and 1.3.b
 abbrev pub stateIn : List ℕ → State
-stateIn l = record { next = getD l 0 0; clock = clock (getD l 1 0 % 4294967296); stop = getD l 2 0 % 256 }
+stateIn l = record { next = getD l 0 0; clock = clock (getD l 1 0 % 4294967296); stop = getD l 2 0 % 256; edition = editionOf (getD l 3 0) }
 
 -- a packet's answer as nine numbers: records taken, old, too far, repeated, differing; next, applied, highest, stop
 abbrev pub accountNumbers : Account → List ℕ

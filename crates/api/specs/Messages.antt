@@ -4,7 +4,8 @@ use Prim.Native.Nat.{ℕ}
 use mathlib.Core.List.{List, [], _∷_}
 use Rattle.kinds.specs.declared.Kind.{Kind}
 use Rattle.kinds.specs.Table.{typeOf}
-use Rattle.fields.specs.Fields.{symbolOf, stateOf}
+use Rattle.editions.specs.declared.Edition.{Edition}
+use Rattle.fields.specs.Fields.{symbolOf, securityOf, stateOf}
 use Rattle.fields.specs.declared.TradingStatus.{TradingStatus}
 use Rattle.fields.specs.declared.SymbolClear.{SymbolClear}
 use Rattle.fields.specs.declared.AddOrder.{AddOrder}
@@ -23,9 +24,14 @@ use Rattle.api.specs.Calls.{withOffset, Call, call}
 abbrev pub eight : ℕ → ℕ → ℕ → ℕ → ℕ → ℕ → ℕ → ℕ → List ℕ
 eight a b c d e f g h = a ∷ b ∷ c ∷ d ∷ e ∷ f ∷ g ∷ h ∷ []
 
--- Symbol Update: symbol, lot, market
-abbrev pub symbolFields : ℕ → Symbol → List ℕ
-symbolFields t m = eight t (m .id) (m .lot) (m .market) 0 0 0 0
+-- byte 20 of a Symbol Update is a field in 1.3 alone (request 10)
+abbrev pub typeNumber : Edition → ℕ → ℕ
+typeNumber Edition.V13 x = x
+typeNumber Edition.V13b x = 0
+
+-- Symbol Update: symbol, lot, market, which have one place in both editions, and behind them the security type x in 1.3
+abbrev pub symbolFields : Edition → ℕ → Symbol → ℕ → List ℕ
+symbolFields ed t m x = eight t (m .id) (m .lot) (m .market) (typeNumber ed x) 0 0 0
 
 -- System State: nanoseconds, session, status
 abbrev pub stateFields : ℕ → SystemState → List ℕ
@@ -64,19 +70,19 @@ abbrev pub cancelFields : ℕ → TradeCancel → List ℕ
 cancelFields t m = eight t (m .nanos) (m .symbol) (m .trade) (m .correction) (m .price) (m .size) 0
 
 -- the numbers of a message behind its type, and of the body that holds those of a Symbol Update and of a System State; System Time is its second
-abbrev pub typed : ℕ → Body → List ℕ → List ℕ
-typed t (Body.SystemTime n) b = eight t n 0 0 0 0 0 0
-typed t Body.SymbolUpdate b = symbolFields t (symbolOf b)
-typed t Body.SystemState b = stateFields t (stateOf b)
-typed t (Body.TradingStatus m) b = statusFields t m
-typed t (Body.SymbolClear m) b = clearFields t m
-typed t (Body.Add m) b = addFields t m
-typed t (Body.Modify m) b = modifyFields t m
-typed t (Body.Delete m) b = deleteFields t m
-typed t (Body.Execution m) b = executionFields t m
-typed t (Body.Trade m) b = tradeFields t m
-typed t (Body.TradeCancel m) b = cancelFields t m
-typed t (Body.Bad r) b = eight t 0 0 0 0 0 0 0
+abbrev pub typed : Edition → ℕ → Body → List ℕ → List ℕ
+typed ed t (Body.SystemTime n) b = eight t n 0 0 0 0 0 0
+typed ed t Body.SymbolUpdate b = symbolFields ed t (symbolOf b) (securityOf b)
+typed ed t Body.SystemState b = stateFields t (stateOf b)
+typed ed t (Body.TradingStatus m) b = statusFields t m
+typed ed t (Body.SymbolClear m) b = clearFields t m
+typed ed t (Body.Add m) b = addFields t m
+typed ed t (Body.Modify m) b = modifyFields t m
+typed ed t (Body.Delete m) b = deleteFields t m
+typed ed t (Body.Execution m) b = executionFields t m
+typed ed t (Body.Trade m) b = tradeFields t m
+typed ed t (Body.TradeCancel m) b = cancelFields t m
+typed ed t (Body.Bad r) b = eight t 0 0 0 0 0 0 0
 
 -- the kind of a message
 abbrev pub kindIn : Body → Kind
@@ -94,10 +100,10 @@ kindIn (Body.TradeCancel m) = Kind.TradeCancel
 kindIn (Body.Bad r) = Kind.Unknown
 
 -- "The type byte decides the message": its type is its kind's in the table
-abbrev pub fieldsOf : Body → List ℕ → List ℕ
-fieldsOf m b = typed (typeOf (kindIn m)) m b
+abbrev pub fieldsOf : Edition → Body → List ℕ → List ℕ
+fieldsOf ed m b = typed ed (typeOf (kindIn m)) m b
 
 -- how a body was judged, and what was read of it: a refusal leaves what is lent as it is
-unfoldable pub bodyAnswer : Judged → Body → List ℕ → List ℕ → Call
-bodyAnswer (Judged.Good k) m b l = call 0 (fieldsOf m b)
-bodyAnswer (Judged.Bad f) m b l = call (withOffset f) l
+unfoldable pub bodyAnswer : Edition → Judged → Body → List ℕ → List ℕ → Call
+bodyAnswer ed (Judged.Good k) m b l = call 0 (fieldsOf ed m b)
+bodyAnswer ed (Judged.Bad f) m b l = call (withOffset f) l

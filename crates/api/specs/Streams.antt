@@ -1,30 +1,31 @@
--- What the calls for a recording in chunks answer: a stream is thirteen lent numbers, and the meaning is that of `recording`.
+-- What the calls for a recording in chunks answer: a stream is fourteen lent numbers, and the meaning is that of `recording`.
 use Prim.Native.Nat.{ℕ, _%_}
 use mathlib.Core.List.{List, [], _∷_}
 use lib.ListN.{getD}
+use Rattle.editions.specs.Editions.{numberOf}
 use Rattle.fields.specs.Fields.{badAt}
 use Rattle.recording.specs.declared.Stream.{Stream}
 use Rattle.recording.specs.declared.Fed.{Fed}
 use Rattle.recording.specs.Stream.{Feeding, fedNumber}
 use Rattle.api.specs.Calls.{stateIn, Call, call}
 
--- next, second, stop; bytes held, bytes to pass over, bad packets; records taken, old, too far, repeated, differing over all accepted packets; number and offset of the last bad packet
+-- next, second, stop, edition; bytes held, bytes to pass over, bad packets; records taken, old, too far, repeated, differing over all accepted packets; number and offset of the last bad packet
 abbrev pub streamNumbers : Stream → List ℕ
 streamNumbers k =
-    k .receiver .next ∷ k .receiver .clock .second ∷ k .receiver .stop ∷ k .held ∷ k .skip ∷ k .bad
+    k .receiver .next ∷ k .receiver .clock .second ∷ k .receiver .stop ∷ numberOf (k .receiver .edition) ∷ k .held ∷ k .skip ∷ k .bad
     ∷ k .totals .taken ∷ k .totals .old ∷ k .totals .far ∷ k .totals .repeated ∷ k .totals .differing
     ∷ k .last .number ∷ k .last .at ∷ []
 
--- a stream in thirteen lent numbers: the first three as of a receiver's state, so that the second is the low 32 bits of its number and the stop the low 8; the last bad packet's number is the low 8 of its own
+-- a stream in fourteen lent numbers: the first four as of a receiver's state, so that the second is the low 32 bits of its number, the stop the low 8 and the edition that of any number; the last bad packet's number is the low 8 of its own
 abbrev pub streamFrom : List ℕ → Stream
 streamFrom l =
     record {
       receiver = stateIn l;
-      held = getD l 3 0;
-      skip = getD l 4 0;
-      bad = getD l 5 0;
-      last = badAt (getD l 11 0 % 256) (getD l 12 0);
-      totals = record { taken = getD l 6 0; old = getD l 7 0; far = getD l 8 0; repeated = getD l 9 0; differing = getD l 10 0 };
+      held = getD l 4 0;
+      skip = getD l 5 0;
+      bad = getD l 6 0;
+      last = badAt (getD l 12 0 % 256) (getD l 13 0);
+      totals = record { taken = getD l 7 0; old = getD l 8 0; far = getD l 9 0; repeated = getD l 10 0; differing = getD l 11 0 };
     }
 
 -- ---- a stream over a receiver

@@ -3,7 +3,8 @@
 // bodies are read, the answer has the offset of the first byte at fault above the number's 8 bits.
 ghost use mathlib.Core.Path.{_≡_};
 ghost use Prim.Native.Nat.{_<_};
-ghost use Rattle.receiver.specs.Lent.{lent, received, started};
+ghost use Rattle.editions.specs.Editions.{editionOf};
+ghost use Rattle.receiver.specs.Lent.{stateNumbers, lent, received, started};
 ghost use Rattle.views.specs.Views.{ladderView, spreadView, countsView};
 ghost use Rattle.packet.specs.Record.{readRecord};
 ghost use Rattle.packet.specs.Packet.{readPacket};
@@ -12,12 +13,13 @@ ghost use Rattle.answer_sheet.specs.Sheet.{sheetView};
 ghost use Rattle.recording.specs.Stream.{opened, fed, cut as isCut};
 ghost use Rattle.api.specs.Calls.{withOffset, stateIn, accountNumbers, sideAsked, startCall, startAnswer, receiveCall, receiveAnswer, fillCall, ladderAnswer, call, bitsOf, spreadAnswer, countsAnswer, packetAnswer, recordAnswer, wordOf, sheetAnswer};
 ghost use Rattle.api.specs.Streams.{streamNumbers, streamFrom, openAnswer, feedCall, feedAnswer};
-ghost use Rattle.api.specs.Messages.{symbolFields, stateFields, statusFields, clearFields, addFields, modifyFields, deleteFields, executionFields, tradeFields, cancelFields, typed, bodyAnswer};
+ghost use Rattle.api.specs.Messages.{typeNumber, symbolFields, stateFields, statusFields, clearFields, addFields, modifyFields, deleteFields, executionFields, tradeFields, cancelFields, typed, bodyAnswer};
 use answer_sheet::Recording;
 use answer_sheet::SheetAnswer;
 use arbitration::Counts;
 use body::Judged;
 use book::Clock;
+use editions::Edition;
 use fields::AddOrder;
 use fields::Body;
 use fields::DeleteOrder;
@@ -43,28 +45,42 @@ use views::LadderAnswer;
 use views::Side;
 use views::SpreadAnswer;
 
-// Starts a receiver: the tables are zeroed, and state becomes next 1, second 0, stop 0.
+// A receiver's state as four numbers.
+fn state_numbers(s: State) -> [u64; 4]
+    ensures { λ r. ⌜ r ≡ stateNumbers s ⌝ }
+{
+    let clock = s.clock;
+    let e = s.edition;
+    [
+        s.next,
+        clock.second as u64,
+        s.stop as u64,
+        editions::number_of(e),
+    ]
+}
+
+// Starts a receiver of an edition: the tables are zeroed, and state becomes next 1, second 0, stop 0 and the edition's number.
 #[no_mangle]
 pub extern "C" fn rimeheath_start(
+    edition: u64,
     orders: &mut [u64],
     symbols: &mut [u8],
     shelf: &mut [u8],
-    state: &mut [u64; 3],
+    state: &mut [u64; 4],
 ) -> u8
-    ensures { λ r. ⌜ startCall r (now (state .exit)) (now (orders .exit)) (now (symbols .exit)) (now (shelf .exit)) ≡ startAnswer (started (now (orders .entry)) (now (symbols .entry)) (now (shelf .entry))) (now (state .entry)) ⌝ }
+    ensures { λ r. ⌜ startCall r (now (state .exit)) (now (orders .exit)) (now (symbols .exit)) (now (shelf .exit)) ≡ startAnswer (started (editionOf edition) (now (orders .entry)) (now (symbols .entry)) (now (shelf .entry))) (now (state .entry)) ⌝ }
 {
-    match receiver::start(orders, symbols, shelf) {
+    match receiver::start(editions::edition_of(edition), orders, symbols, shelf) {
         Started::Refused(r) => r.number,
         Started::Ready(s) => {
-            let clock = s.clock;
-            *state = [s.next, clock.second as u64, s.stop as u64];
+            *state = state_numbers(s);
             0
         }
     }
 }
 
-// A receiver's state of three lent numbers.
-fn state_in(l: &[u64; 3]) -> State
+// A receiver's state of four lent numbers.
+fn state_in(l: &[u64; 4]) -> State
     ensures { λ r. ⌜ r ≡ stateIn (now (l .entry)) ⌝ }
 {
     State {
@@ -73,6 +89,7 @@ fn state_in(l: &[u64; 3]) -> State
             second: (l[1] % 4294967296) as u32,
         },
         stop: (l[2] % 256) as u8,
+        edition: editions::edition_of(l[3]),
     }
 }
 
@@ -108,7 +125,7 @@ pub extern "C" fn rimeheath_receive(
     orders: &mut [u64],
     symbols: &mut [u8],
     shelf: &mut [u8],
-    state: &mut [u64; 3],
+    state: &mut [u64; 4],
     p: &[u8],
     account: &mut [u64; 9],
 ) -> u32
@@ -121,53 +138,54 @@ pub extern "C" fn rimeheath_receive(
         Received::Refused(e) => e.number as u32,
         Received::Bad(f) => with_offset(f),
         Received::Accepted(a) => {
-            let clock = s.clock;
-            *state = [s.next, clock.second as u64, s.stop as u64];
+            *state = state_numbers(s);
             *account = account_numbers(a);
             0
         }
     }
 }
 
-// A stream of thirteen lent numbers.
-fn stream_from(l: &[u64; 13]) -> Stream
+// A stream of fourteen lent numbers.
+fn stream_from(l: &[u64; 14]) -> Stream
     ensures { λ r. ⌜ r ≡ streamFrom (now (l .entry)) ⌝ }
 {
-    let head = [l[0], l[1], l[2]];
+    let head = [l[0], l[1], l[2], l[3]];
     let receiver = state_in(&head);
     let totals = Counts {
-        taken: l[6],
-        old: l[7],
-        far: l[8],
-        repeated: l[9],
-        differing: l[10],
+        taken: l[7],
+        old: l[8],
+        far: l[9],
+        repeated: l[10],
+        differing: l[11],
     };
     let last = Fault {
-        number: (l[11] % 256) as u8,
-        at: l[12] as usize,
+        number: (l[12] % 256) as u8,
+        at: l[13] as usize,
     };
     Stream {
         receiver,
-        held: l[3] as usize,
-        skip: l[4] as usize,
-        bad: l[5],
+        held: l[4] as usize,
+        skip: l[5] as usize,
+        bad: l[6],
         last,
         totals,
     }
 }
 
-// A stream as thirteen numbers.
-fn stream_numbers(k: Stream) -> [u64; 13]
+// A stream as fourteen numbers.
+fn stream_numbers(k: Stream) -> [u64; 14]
     ensures { λ r. ⌜ r ≡ streamNumbers k ⌝ }
 {
     let s = k.receiver;
     let clock = s.clock;
+    let e = s.edition;
     let t = k.totals;
     let last = k.last;
     [
         s.next,
         clock.second as u64,
         s.stop as u64,
+        editions::number_of(e),
         k.held as u64,
         k.skip as u64,
         k.bad,
@@ -183,7 +201,7 @@ fn stream_numbers(k: Stream) -> [u64; 13]
 
 // Opens a stream over a receiver, before the first chunk of a recording.
 #[no_mangle]
-pub extern "C" fn rimeheath_open(state: &[u64; 3], stream: &mut [u64; 13]) -> u8
+pub extern "C" fn rimeheath_open(state: &[u64; 4], stream: &mut [u64; 14]) -> u8
     ensures { λ r. ⌜ call r (now (stream .exit)) ≡ openAnswer (opened (stateIn (now (state .entry)))) ⌝ }
 {
     let k = recording::open(state_in(state));
@@ -198,7 +216,7 @@ pub extern "C" fn rimeheath_feed(
     symbols: &mut [u8],
     shelf: &mut [u8],
     hold: &mut [u8],
-    stream: &mut [u64; 13],
+    stream: &mut [u64; 14],
     chunk: &[u8],
 ) -> u8
     ensures { λ r. ⌜ feedCall r (now (stream .exit)) (now (orders .exit)) (now (symbols .exit)) (now (shelf .exit)) (now (hold .exit)) ≡ feedAnswer (fed (streamFrom (now (stream .entry))) (now (orders .entry)) (now (symbols .entry)) (now (shelf .entry)) (now (hold .entry)) (now (chunk .entry))) (now (stream .entry)) ⌝ }
@@ -214,7 +232,7 @@ pub extern "C" fn rimeheath_feed(
 
 // Whether a recording that ends here ends inside a length or packet.
 #[no_mangle]
-pub extern "C" fn rimeheath_cut(stream: &[u64; 13]) -> bool
+pub extern "C" fn rimeheath_cut(stream: &[u64; 14]) -> bool
     ensures { λ r. ⌜ r ≡ isCut (streamFrom (now (stream .entry))) ⌝ }
 {
     recording::is_cut(stream_from(stream))
@@ -295,12 +313,12 @@ pub extern "C" fn rimeheath_counts(orders: &[u64], symbols: &[u8], counts: &mut 
     }
 }
 
-// Judges a packet: the number of its records.
+// Judges a packet of an edition: the number of its records.
 #[no_mangle]
-pub extern "C" fn rimeheath_packet(p: &[u8], records: &mut [u64; 1]) -> u32
-    ensures { λ r. ⌜ call r (now (records .exit)) ≡ packetAnswer (readPacket (now (p .entry))) (now (records .entry)) ⌝ }
+pub extern "C" fn rimeheath_packet(edition: u64, p: &[u8], records: &mut [u64; 1]) -> u32
+    ensures { λ r. ⌜ call r (now (records .exit)) ≡ packetAnswer (readPacket (editionOf edition) (now (p .entry))) (now (records .entry)) ⌝ }
 {
-    match packet::read_packet(p) {
+    match packet::read_packet(editions::edition_of(edition), p) {
         Packet::Refused(r) => r.number as u32,
         Packet::Bad(f) => with_offset(f),
         Packet::Good(n) => {
@@ -310,12 +328,12 @@ pub extern "C" fn rimeheath_packet(p: &[u8], records: &mut [u64; 1]) -> u32
     }
 }
 
-// Judges the first record of what is left of a packet: its number, and the length of its body.
+// Judges the first record of what is left of a packet of an edition: its number, and the length of its body.
 #[no_mangle]
-pub extern "C" fn rimeheath_record(rest: &[u8], head: &mut [u64; 2]) -> u32
-    ensures { λ r. ⌜ call r (now (head .exit)) ≡ recordAnswer (readRecord (now (rest .entry))) (now (head .entry)) ⌝ }
+pub extern "C" fn rimeheath_record(edition: u64, rest: &[u8], head: &mut [u64; 2]) -> u32
+    ensures { λ r. ⌜ call r (now (head .exit)) ≡ recordAnswer (readRecord (editionOf edition) (now (rest .entry))) (now (head .entry)) ⌝ }
 {
-    match packet::read_record(rest) {
+    match packet::read_record(editions::edition_of(edition), rest) {
         Record::Bad(f) => with_offset(f),
         Record::Good(h) => {
             *head = [h.number, h.len as u64];
@@ -324,11 +342,30 @@ pub extern "C" fn rimeheath_record(rest: &[u8], head: &mut [u64; 2]) -> u32
     }
 }
 
-// The numbers of each message, in the order of their places: its type t first, zeros behind them.
-fn symbol_fields(t: u64, s: Symbol) -> [u64; 8]
-    ensures { λ r. ⌜ r ≡ symbolFields t s ⌝ }
+// The Security Type, which is a field in 1.3 alone.
+fn type_number(e: Edition, x: u8) -> u64
+    ensures { λ r. ⌜ r ≡ typeNumber e x ⌝ }
 {
-    [t, s.id as u64, s.lot as u64, s.market as u64, 0, 0, 0, 0]
+    match e {
+        Edition::V13 => x as u64,
+        Edition::V13b => 0,
+    }
+}
+
+// The numbers of each message, in the order of their places: its type t first, zeros behind them.
+fn symbol_fields(e: Edition, t: u64, s: Symbol, x: u8) -> [u64; 8]
+    ensures { λ r. ⌜ r ≡ symbolFields e t s x ⌝ }
+{
+    [
+        t,
+        s.id as u64,
+        s.lot as u64,
+        s.market as u64,
+        type_number(e, x),
+        0,
+        0,
+        0,
+    ]
 }
 
 fn state_fields(t: u64, s: SystemState) -> [u64; 8]
@@ -449,12 +486,12 @@ fn cancel_fields(t: u64, s: TradeCancel) -> [u64; 8]
 }
 
 // A Symbol Update and a System State hold arrays, so their numbers are read from the body.
-fn fields_of(t: u64, m: Body, b: &[u8]) -> [u64; 8]
-    ensures { λ r. ⌜ r ≡ typed t m (now (b .entry)) ⌝ }
+fn fields_of(e: Edition, t: u64, m: Body, b: &[u8]) -> [u64; 8]
+    ensures { λ r. ⌜ r ≡ typed e t m (now (b .entry)) ⌝ }
 {
     match m {
         Body::SystemTime(n) => [t, n as u64, 0, 0, 0, 0, 0, 0],
-        Body::SymbolUpdate => symbol_fields(t, fields::symbol_of(b)),
+        Body::SymbolUpdate => symbol_fields(e, t, fields::symbol_of(b), fields::security_of(b)),
         Body::SystemState => state_fields(t, fields::state_of(b)),
         Body::TradingStatus(s) => status_fields(t, s),
         Body::SymbolClear(s) => clear_fields(t, s),
@@ -468,16 +505,17 @@ fn fields_of(t: u64, m: Body, b: &[u8]) -> [u64; 8]
     }
 }
 
-// Judges a body, and reads the numbers of a good one, which starts with its type.
+// Judges a body of an edition, and reads the numbers of a good one, which starts with its type.
 #[no_mangle]
-pub extern "C" fn rimeheath_body(b: &[u8], numbers: &mut [u64; 8]) -> u32
-    ensures { λ r. ⌜ call r (now (numbers .exit)) ≡ bodyAnswer (judgeBody (now (b .entry))) (readBody (now (b .entry))) (now (b .entry)) (now (numbers .entry)) ⌝ }
+pub extern "C" fn rimeheath_body(edition: u64, b: &[u8], numbers: &mut [u64; 8]) -> u32
+    ensures { λ r. ⌜ call r (now (numbers .exit)) ≡ bodyAnswer (editionOf edition) (judgeBody (editionOf edition) (now (b .entry))) (readBody (editionOf edition) (now (b .entry))) (now (b .entry)) (now (numbers .entry)) ⌝ }
 {
-    match body::judge_body(b) {
+    let e = editions::edition_of(edition);
+    match body::judge_body(e, b) {
         Judged::Bad(f) => with_offset(f),
         Judged::Good(k) => {
             let m = fields::decode(k, b);
-            *numbers = fields_of(wire::u8_at(b, 0) as u64, m, b);
+            *numbers = fields_of(e, wire::u8_at(b, 0) as u64, m, b);
             0
         }
     }
@@ -499,7 +537,7 @@ pub extern "C" fn rimeheath_sheet(
     buf: &mut [u8],
     orders: &[u64],
     symbols: &[u8],
-    state: &[u64; 3],
+    state: &[u64; 4],
     bad: u64,
     cut: bool,
     length: &mut [u64; 1],
