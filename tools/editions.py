@@ -1,11 +1,14 @@
 """The morning of both editions: a recording, and what right receivers of 1.3 and 1.3.b make of it.
 
-    python3 tools/editions.py recording        its packets, each behind a 2-byte little-endian length
-    python3 tools/editions.py answers EDITION  the lines that `./rimeheath answers` must print for it
-                                               with `--edition EDITION`
-    python3 tools/editions.py sheet EDITION    its sheet in that edition
-    python3 tools/editions.py example          document 01's whole example as a recording of 1.3
-    python3 tools/editions.py example-sheet    the example's 1.3 sheet
+    python3 tools/editions.py recording   its packets, each behind a 2-byte little-endian length
+    python3 tools/editions.py answers EDITION
+                                          the lines that `./rimeheath answers --edition EDITION`
+                                          must print for it
+    python3 tools/editions.py sheet EDITION
+                                          its sheet in that edition
+    python3 tools/editions.py example     document 01's whole example as a recording of 1.3
+    python3 tools/editions.py example-sheet
+                                          the example's 1.3 sheet
 
 Document 02, No. 10: "version 1.3, where byte 20 of a Symbol Update is Security Type, `E` or `F`;
 from 1.3.a it is reserved". Line B is a true recording of 1.3. Line A has the same messages, but in
