@@ -1395,9 +1395,10 @@ def add_several_types(vectors):
                            lines, lines)
     # The first bad field of a Symbol Update in front of a later one without a type.
     for field in ("nanoseconds", "test", "market"):
-        lines = [refused(*bad_field(UPDATE, field))]
-        vectors.by_edition("bad %s, then byte 20 is 0" % field, record(
-            6, update(ord("F"), **{field: WRONG[field]})) + record(8, update(0)), lines, lines)
+        lines = [refused(*bad_field(UPDATE, field, 2, 15))]
+        part = record(6, update(ord("F"), **{field: WRONG[field]}))
+        vectors.by_edition("bad %s, then byte 20 is 0" % field,
+                           FRONT + part + record(8, update(0)), lines, lines)
 
 
 def add_far_types(vectors):
@@ -1414,6 +1415,15 @@ def add_far_types(vectors):
                 older = [refused(4, offset, "record %d, %s" % (count + 1, NO_TYPE))]
             vectors.by_edition("byte 20 is %d, at %d" % (byte, offset),
                                front + record(8, update(byte)), older, later)
+    ends = [(4, 10 + start, "Symbol Update, " + CALLED[field],
+             update(ord("E"), **{field: WRONG[field]})) for field, start in STARTS[UPDATE].items()]
+    ends += [(3, 10, "Symbol Update, wrong length", update(byte)[:-1]) for byte in (ord("E"), 0)]
+    for refusal, at, words, body in ends:
+        start = 1500 - 10 - len(body)
+        front, count = fill(start)
+        lines = [refused(refusal, start + at, "record %d, %s" % (count + 1, words))]
+        vectors.by_edition("1,500 bytes: %s, byte 20 is %d" % (words, body[20]),
+                           front + record(8, body), lines, lines)
 
 
 def add_byte_20_of_others(vectors):
