@@ -430,11 +430,11 @@ STARTS = {
 }
 STARTS_IN_1_3 = {UPDATE: {"nanoseconds": 1, "security": 20, "test": 21, "market": 41}}
 JUDGED = {(kind, field) for kind, starts in STARTS.items() for field in starts}
-# The judged fields as docs/MESSAGES.md calls them, and a bad value of each.
+# The judged fields as docs/MESSAGES.md calls them, and a bad value of each that 1.3.b judges.
 CALLED = {"nanoseconds": "nanoseconds", "side": "side", "price": "price", "size": "size",
           "security": "security type", "test": "test indicator", "market": "market"}
-WRONG = {"nanoseconds": 10**9, "side": ord("X"), "price": 0, "size": 0, "security": ord("G"),
-         "test": ord("X"), "market": ord("D")}
+WRONG = {"nanoseconds": 10**9, "side": ord("X"), "price": 0, "size": 0, "test": ord("X"),
+         "market": ord("D")}
 
 
 def layout(kind, edition):
@@ -922,7 +922,7 @@ def add_fields_not_judged(vectors):
                  (5, CLEAR), (6, MODIFY, {"flags": 8}), (7, DELETE))
     vectors.good("two copies of a Modify that differ in bit 5 alone",
                  (6, MODIFY, {"flags": 1}), (6, MODIFY, {"flags": 33}))
-    vectors.good("byte 20 of a Symbol Update is no type here",
+    vectors.good("bytes 20 of a Symbol Update that are a type in 1.3, and others",
                  *[(1, UPDATE, {"reserved20": byte}) for byte in b"EFG "])
     vectors.good("tickers", *[(1, UPDATE, {"ticker": ticker}) for ticker in (
         b"           ", b"A          ", b"ABCDEFGHIJK", b"\x00BC   \x7f\n   ")])
