@@ -77,9 +77,9 @@ abbrev pub fourteen : ℕ → List ℕ
 fourteen x = linesWith (116 ∷ 121 ∷ 112 ∷ 101 ∷ 61 ∷ x ∷ 10 ∷ [])
 
 -- the sheet of those tables; from 1.3.a on byte 20 is on no line
-pub example-is : sheetOf Recording.Whole 0 (after Edition.V13b) three (symbol7 0) ≡ thirteen
+pub example-is : (x : ℕ) → sheetOf Recording.Whole 0 (after Edition.V13b) three (symbol7 x) ≡ thirteen
 unfolding sheetOf linesOf headLines tableLines allEntries entryLines symbolLines typeLines recordingWord recordingKey wholeWord badKey nextKey stopKey secondKey symbolsKey ordersKey symbolKey tickerKey typeKey lotKey tickerOf trimOf trimCons shownOf countUsed countLive entries used field le padded bookLines spreadWord sideLines sideKey levelsShown levelLine levelValue markedOf lineText textOf plain lineOf spreadKey bidKey askKey noneWord decimalOf digitsOf signedOf spreadOf between ladder levelOf prices placesOf far atPrice keyOf places ins sumBy onlyIf countBy ofKey live rows rowOf pieces cut join pick both
-example-is = refl
+example-is x = refl
 
 -- "Only the 1.3 sheet shows it, as `type=` after `ticker=`": E, and a byte that is no letter as a full stop
 pub typed-is : sheetOf Recording.Whole 0 (after Edition.V13) three (symbol7 69) ≡ fourteen 69

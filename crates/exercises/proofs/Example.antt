@@ -2,11 +2,14 @@
 -- the same numbers, as in Right.antt.
 -- Assumes nothing.
 use mathlib.Core.Path.{_≡_, refl, ap, _∙_}
+use Prim.Native.Nat.{ℕ}
+use mathlib.Core.List.{List}
 use lib.ListN.{replicate}
 use Rattle.facts.specs.Limits.{shelfSize}
 use Rattle.facts.specs.Pick.{pick, both, either}
 use Rattle.facts.specs.Search.{first}
 use Rattle.facts.specs.Pieces.{cut, pieces, join, putPiece}
+use Rattle.editions.specs.declared.Edition.{Edition}
 use Rattle.wire.specs.Le.{le, toLe, field, padded}
 use Rattle.kinds.specs.Table as kinds
 use Rattle.fields.specs.Fields as fields
@@ -31,22 +34,22 @@ use Rattle.receiver.specs.Receiver as generic
 use Rattle.receiver.specs.Lent as receiver
 use Rattle.answer_sheet.specs.declared.Recording.{Recording}
 use Rattle.answer_sheet.specs.Sheet.{sheetOf}
-use Rattle.answer_sheet.proofs.Vectors.{after, three, symbol7, thirteen, example-is}
+use Rattle.answer_sheet.proofs.Vectors.{after, three, symbol7, thirteen, fourteen, example-is, typed-is}
 use Rattle.exercises.specs.Messages as messages
 use Rattle.exercises.specs.Exercises as exercises
 
--- a receiver with room for three orders and one symbol, after the whole example in one packet
-abbrev pub afterExample : receiver.Lent
-afterExample = exercises.goesOn (exercises.begins 3 1) messages.wholeExample .last .after
+-- a receiver of an edition with room for three orders and one symbol, after the whole example in one packet
+abbrev pub afterExample : Edition → receiver.Lent
+afterExample ed = exercises.goesOn (exercises.begins ed 3 1) messages.wholeExample .last .after
 
 -- all five messages are applied, and the shelf is empty again
-pub example-leaves : afterExample ≡ receiver.lent three symbol7 (replicate shelfSize 0) after
+pub example-leaves : (ed : Edition) → afterExample ed ≡ receiver.lent three (symbol7 messages.letterE) (replicate shelfSize 0) (after ed)
 unfolding exercises.begins exercises.goesOn
     messages.numbered messages.systemTime messages.symbolUpdate messages.addOrder messages.example messages.ofExample messages.wholeExample
     pick both either first cut pieces join putPiece le toLe field padded
     kinds.table kinds.lookup kinds.lengthOf kinds.kindOf
     fields.decoded
-    ranges.nanosOk ranges.oneOf ranges.sideOk ranges.priceOk ranges.sizeOk ranges.testOk ranges.marketOk
+    ranges.nanosOk ranges.oneOf ranges.sideOk ranges.priceOk ranges.sizeOk ranges.securityOk ranges.testOk ranges.marketOk
     faults.faultFrom faults.faultOf
     read.framed read.ranged read.judgeBody read.message read.readBody read.goodBody
     head.numberOk head.bodyOf head.bodyJudged head.readRecord
@@ -63,8 +66,17 @@ unfolding exercises.begins exercises.goesOn
     theory.judge theory.goodSlot theory.highest theory.count theory.countsOf theory.try theory.stop theory.drain theory.after theory.run theory.said theory.told
     shelf.goodShelf shelf.slotFrom shelf.bytesOf shelf.slotAt shelf.putSlot
     generic.receives generic.handledBy generic.fit generic.nextOk receiver.sizesOk
-example-leaves = refl
+example-leaves Edition.V13 = refl
+example-leaves Edition.V13b = refl
+
+-- its sheet
+abbrev sheetAfter : receiver.Lent → List ℕ
+sheetAfter k = sheetOf Recording.Whole 0 (receiver.stateOf k) (receiver.ordersOf k) (receiver.symbolsOf k)
 
 -- "Whole example, for numbers 1 to 5": its sheet is the thirteen lines
-pub example-sheet : sheetOf Recording.Whole 0 (receiver.stateOf afterExample) (receiver.ordersOf afterExample) (receiver.symbolsOf afterExample) ≡ thirteen
-example-sheet = ap (λ (k : receiver.Lent). sheetOf Recording.Whole 0 (receiver.stateOf k) (receiver.ordersOf k) (receiver.symbolsOf k)) example-leaves ∙ example-is
+pub example-sheet : sheetAfter (afterExample Edition.V13b) ≡ thirteen
+example-sheet = ap sheetAfter (example-leaves Edition.V13b) ∙ example-is messages.letterE
+
+-- and in 1.3 `type=E` "after `ticker=`", and nothing else (request 10)
+pub example-typed : sheetAfter (afterExample Edition.V13) ≡ fourteen messages.letterE
+example-typed = ap sheetAfter (example-leaves Edition.V13) ∙ typed-is

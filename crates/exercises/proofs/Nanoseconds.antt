@@ -8,6 +8,7 @@ use mathlib.Core.List.{List, _∷_, _++_}
 use native.Mathlib.Omega.{arith}
 use lib.ListN.{drop}
 use Rattle.facts.specs.Pick.{pick, both, either}
+use Rattle.editions.specs.declared.Edition.{Edition}
 use Rattle.wire.specs.Le.{le, toLe, field}
 use Rattle.kinds.specs.Table as kinds
 use Rattle.fields.specs.Fields as fields
@@ -28,14 +29,14 @@ buyAt n = 20 ∷ toLe 4 n ++ drop 5 (messages.addOrder 7 500 messages.buy 100000
 abbrev both-sent : List ℕ
 both-sent = messages.numbered 1 (messages.systemTime 34200) ++ messages.numbered 3 (buyAt 1000000000)
 
-pub last-good : read.goodBody (buyAt 999999999) ≡ true
+pub last-good : (ed : Edition) → read.goodBody ed (buyAt 999999999) ≡ true
 unfolding messages.addOrder pick both either le toLe field
     kinds.table kinds.lookup kinds.lengthOf kinds.kindOf
     fields.decoded
     ranges.nanosOk ranges.oneOf ranges.sideOk ranges.priceOk ranges.sizeOk
     faults.faultFrom faults.faultOf
     read.framed read.ranged read.judgeBody read.message read.readBody read.goodBody
-last-good = refl
+last-good ed = refl
 
 pub past-met : PastSecond (buyAt 1000000000)
 unfolding messages.addOrder pick both le toLe field kinds.table kinds.lookup kinds.lengthOf kinds.kindOf read.framed
@@ -45,14 +46,14 @@ pub restamped-met : Restamped (buyAt 999999999) (buyAt 1000000000)
 unfolding messages.addOrder toLe
 restamped-met = record { type-kept = refl; length-kept = refl; behind-kept = refl }
 
-pub past-in-met : PastIn both-sent
+pub past-in-met : (ed : Edition) → PastIn ed both-sent
 unfolding messages.numbered messages.systemTime messages.addOrder pick both le toLe field
     kinds.table kinds.lookup kinds.lengthOf kinds.kindOf
     fields.decoded
     faults.faultFrom faults.faultOf
     read.framed read.ranged read.judgeBody
     head.numberOk head.bodyOf head.bodyJudged head.readRecord
-past-in-met =
+past-in-met ed =
     record {
       at = 15;
       reached = past-good 0 (record { number = 1; len = 5 }) at-front (omega arith) refl;

@@ -6,6 +6,7 @@ use mathlib.Core.Path.{_≡_, refl}
 use mathlib.Core.List.{List, [], _++_}
 use lib.ListN.{length}
 use Rattle.facts.specs.Pick.{pick, both, either}
+use Rattle.editions.specs.declared.Edition.{Edition}
 use Rattle.wire.specs.Le.{le, toLe, field}
 use Rattle.kinds.specs.Table as kinds
 use Rattle.fields.specs.Fields.{badAt}
@@ -27,7 +28,7 @@ abbrev no-deal : List ℕ
 no-deal = second 2 (messages.addOrder 7 500 messages.buy 0 0)
 
 -- 15 bytes, 10 of a header, 18 up to the price
-pub price-told : packet.readPacket no-deal ≡ Packet.Bad (badAt 4 43)
+pub price-told : (ed : Edition) → packet.readPacket ed no-deal ≡ Packet.Bad (badAt 4 43)
 unfolding messages.numbered messages.systemTime messages.addOrder pick both either le toLe field
     kinds.table kinds.lookup kinds.lengthOf kinds.kindOf
     ranges.nanosOk ranges.oneOf ranges.sideOk ranges.priceOk ranges.sizeOk
@@ -35,27 +36,27 @@ unfolding messages.numbered messages.systemTime messages.addOrder pick both eith
     read.framed read.ranged read.judgeBody
     head.numberOk head.bodyOf head.bodyJudged head.readRecord
     packet.before packet.behind packet.framesFrom packet.framing packet.told packet.readPacket
-price-told = refl
+price-told ed = refl
 
-pub price-placed : FieldPlace no-deal 43
-price-placed = field-place no-deal (badAt 4 43) price-told refl
+pub price-placed : (ed : Edition) → FieldPlace ed no-deal 43
+price-placed ed = field-place ed no-deal (badAt 4 43) (price-told ed) refl
 
 -- "for an empty body, the place where it would start"
-pub end-told : packet.readPacket (second 2 []) ≡ Packet.Bad (badAt 3 (length (second 2 [])))
+pub end-told : (ed : Edition) → packet.readPacket ed (second 2 []) ≡ Packet.Bad (badAt 3 (length (second 2 [])))
 unfolding messages.numbered messages.systemTime pick both either le toLe field
     kinds.table kinds.lookup kinds.lengthOf kinds.kindOf
     faults.faultFrom faults.faultOf
     read.framed read.ranged read.judgeBody
     head.numberOk head.bodyOf head.bodyJudged head.readRecord
     packet.before packet.behind packet.framesFrom packet.framing packet.told packet.readPacket
-end-told = refl
+end-told ed = refl
 
 -- "for 5 the number's start", before its empty body
-pub number-told : packet.readPacket (second 0 []) ≡ Packet.Bad (badAt 5 15)
+pub number-told : (ed : Edition) → packet.readPacket ed (second 0 []) ≡ Packet.Bad (badAt 5 15)
 unfolding messages.numbered messages.systemTime pick both either le toLe field
     kinds.table kinds.lookup kinds.lengthOf kinds.kindOf
     faults.faultFrom faults.faultOf
     read.framed read.ranged read.judgeBody
     head.numberOk head.bodyOf head.bodyJudged head.readRecord
     packet.before packet.behind packet.framesFrom packet.framing packet.told packet.readPacket
-number-told = refl
+number-told ed = refl

@@ -11,6 +11,7 @@ use Rattle.facts.specs.Limits.{entrySize, shelfSize}
 use Rattle.facts.specs.Pick.{pick, both, either}
 use Rattle.facts.specs.Search.{first}
 use Rattle.facts.specs.Pieces.{cut, pieces, join, putPiece}
+use Rattle.editions.specs.declared.Edition.{Edition}
 use Rattle.wire.specs.Le.{le, toLe, field, padded}
 use Rattle.kinds.specs.Table as kinds
 use Rattle.fields.specs.Fields as fields
@@ -36,45 +37,60 @@ use Rattle.shelf.specs.Shelf as shelf
 use Rattle.receiver.specs.Receiver as generic
 use Rattle.receiver.specs.Lent as receiver
 use Rattle.receiver.specs.Demand3.{Given, AnsweredTo, Names}
+use Rattle.receiver.proofs.Editions.{calls-keep}
 use Rattle.receiver.proofs.Real.{real-demand, fresh-started}
 use Rattle.exercises.specs.Messages as messages
 
 -- room for four orders and one symbol
-abbrev start : receiver.Lent
-start = receiver.fresh 20 entrySize shelfSize
+abbrev start : Edition → receiver.Lent
+start ed = receiver.fresh ed 20 entrySize shelfSize
 
 abbrev given : List (List ℕ)
 given = messages.wholeExample ∷ []
 
 -- the five messages are well-formed
-all-good : WellFormed read.goodBody messages.example
+all-good : (ed : Edition) → WellFormed (read.goodBody ed) messages.example
 unfolding messages.systemTime messages.symbolUpdate messages.addOrder messages.example
     pick both either le toLe field padded
     kinds.table kinds.lookup kinds.lengthOf kinds.kindOf
     fields.decoded
-    ranges.nanosOk ranges.oneOf ranges.sideOk ranges.priceOk ranges.sizeOk ranges.testOk ranges.marketOk
+    ranges.nanosOk ranges.oneOf ranges.sideOk ranges.priceOk ranges.sizeOk ranges.securityOk ranges.testOk ranges.marketOk
     faults.faultFrom faults.faultOf
     read.framed read.ranged read.judgeBody read.message read.readBody read.goodBody
-all-good zero h = refl
-all-good (suc zero) h = refl
-all-good (suc (suc zero)) h = refl
-all-good (suc (suc (suc zero))) h = refl
-all-good (suc (suc (suc (suc zero)))) h = refl
-all-good (suc (suc (suc (suc (suc i))))) h = absurd (omega arith)
+all-good ed zero h = refl
+all-good Edition.V13 (suc zero) h = refl
+all-good Edition.V13b (suc zero) h = refl
+all-good ed (suc (suc zero)) h = refl
+all-good ed (suc (suc (suc zero))) h = refl
+all-good ed (suc (suc (suc (suc zero)))) h = refl
+all-good ed (suc (suc (suc (suc (suc i))))) h = absurd (omega arith)
 
 -- the packet's accepted records are true copies
-true-copies : Copies messages.example (theory.accepted packet.framing given)
+true-copies : (ed : Edition) → Copies messages.example (theory.accepted (packet.framing ed) given)
 unfolding messages.numbered messages.systemTime messages.symbolUpdate messages.addOrder messages.example messages.ofExample messages.wholeExample
     pick both either join le toLe field padded
     kinds.table kinds.lookup kinds.lengthOf kinds.kindOf
     fields.decoded
-    ranges.nanosOk ranges.oneOf ranges.sideOk ranges.priceOk ranges.sizeOk ranges.testOk ranges.marketOk
+    ranges.nanosOk ranges.oneOf ranges.sideOk ranges.priceOk ranges.sizeOk ranges.securityOk ranges.testOk ranges.marketOk
     faults.faultFrom faults.faultOf
     read.framed read.ranged read.judgeBody read.message read.readBody read.goodBody
     head.numberOk head.bodyOf head.bodyJudged head.readRecord
     packet.before packet.behind packet.framesFrom packet.framing
     theory.accepted
-true-copies = (
+true-copies Edition.V13 = (
+  record { in-list = leb-true 1 5 refl; same = refl },
+  (
+    record { in-list = leb-true 2 5 refl; same = refl },
+    (
+      record { in-list = leb-true 3 5 refl; same = refl },
+      (
+        record { in-list = leb-true 4 5 refl; same = refl },
+        (record { in-list = leb-true 5 5 refl; same = refl }, tt),
+      ),
+    ),
+  ),
+)
+true-copies Edition.V13b = (
   record { in-list = leb-true 1 5 refl; same = refl },
   (
     record { in-list = leb-true 2 5 refl; same = refl },
@@ -93,19 +109,19 @@ unfolding receiver.sizesOk both rows.goodRows entries.goodEntries shelf.goodShel
 sizes-good = refl
 
 -- every premise
-pub example-given : Given receiver.real messages.example (receiver.zeroBook 20 entrySize) start given
-example-given = record { well-formed = all-good; started = fresh-started 20 entrySize shelfSize sizes-good; copies = true-copies }
+pub example-given : (ed : Edition) → Given (receiver.real ed) messages.example (receiver.zeroBook 20 entrySize) (start ed) given
+example-given ed = record { well-formed = all-good ed; started = fresh-started ed 20 entrySize shelfSize sizes-good; copies = true-copies ed }
 
 -- the five are taken one after another, and applied
 all-taken : List Said
 all-taken = record { number = 1; answer = taken } ∷ record { number = 2; answer = taken } ∷ record { number = 3; answer = taken } ∷ record { number = 4; answer = taken } ∷ record { number = 5; answer = taken } ∷ []
 
-computed : (theory.said (receiver.real .store) receiver.bookEngine (theory.accepted packet.framing given) (start .rx) ≡ all-taken) × (receiver.receivedAll given start .rx .next ≡ 6)
+computed : (ed : Edition) → (theory.said (receiver.real ed .store) (receiver.bookEngine ed) (theory.accepted (packet.framing ed) given) (start ed .rx) ≡ all-taken) × (receiver.receivedAll given (start ed) .rx .next ≡ 6)
 unfolding all-taken messages.numbered messages.systemTime messages.symbolUpdate messages.addOrder messages.example messages.ofExample messages.wholeExample
     pick both either first cut pieces join putPiece le toLe field padded
     kinds.table kinds.lookup kinds.lengthOf kinds.kindOf
     fields.decoded
-    ranges.nanosOk ranges.oneOf ranges.sideOk ranges.priceOk ranges.sizeOk ranges.testOk ranges.marketOk
+    ranges.nanosOk ranges.oneOf ranges.sideOk ranges.priceOk ranges.sizeOk ranges.securityOk ranges.testOk ranges.marketOk
     faults.faultFrom faults.faultOf
     read.framed read.ranged read.judgeBody read.message read.readBody read.goodBody
     head.numberOk head.bodyOf head.bodyJudged head.readRecord
@@ -122,8 +138,9 @@ unfolding all-taken messages.numbered messages.systemTime messages.symbolUpdate 
     theory.judge theory.goodSlot theory.try theory.drain theory.after theory.run theory.said theory.accepted
     shelf.slotFrom shelf.bytesOf shelf.slotAt shelf.putSlot
     rows.goodRows entries.goodEntries shelf.goodShelf
-    generic.receivesAll generic.receives generic.handledBy generic.fit generic.nextOk receiver.sizesOk
-computed = (refl, refl)
+    receiver.receivedAll generic.receives generic.handledBy generic.fit generic.nextOk receiver.sizesOk
+computed Edition.V13 = (refl, refl)
+computed Edition.V13b = (refl, refl)
 
 -- every number up to 5 is answered
 among : (n : ℕ) → 1 ≤ n → n ≤ 5 → Among n all-taken
@@ -136,13 +153,15 @@ among (suc (suc (suc (suc zero)))) l h = later (later (later (here refl by-taken
 among (suc (suc (suc (suc (suc zero))))) l h = later (later (later (later (here refl by-taken))))
 among (suc (suc (suc (suc (suc (suc n)))))) l h = absurd (omega arith)
 
-pub example-answered : AnsweredTo receiver.real 5 given start
-example-answered n l h = subst (Among n) (sym (computed .0)) (among n l h)
+pub example-answered : (ed : Edition) → AnsweredTo (receiver.real ed) 5 given (start ed)
+example-answered ed n l h = subst (Among n) (sym (computed ed .0)) (among n l h)
 
 -- so demand 3 says of it what it says
-pub example-demanded : (5 ≤ receiver.receivedAll given start .rx .next - 1) ⊎ Names receiver.real messages.example (receiver.zeroBook 20 entrySize) (receiver.receivedAll given start)
-example-demanded = real-demand messages.example 20 entrySize .second start given example-given 5 example-answered
+pub example-demanded : (ed : Edition) → (5 ≤ receiver.receivedAll given (start ed) .rx .next - 1) ⊎ Names (receiver.real ed) messages.example (receiver.zeroBook 20 entrySize) (receiver.receivedAll given (start ed))
+example-demanded ed =
+    subst (λ (k : receiver.Lent). (5 ≤ k .rx .next - 1) ⊎ Names (receiver.real ed) messages.example (receiver.zeroBook 20 entrySize) k) (sym (calls-keep given (start ed)))
+    (real-demand ed messages.example 20 entrySize .second (start ed) given (example-given ed) 5 (example-answered ed))
 
 -- and its first side is the one that holds: all five are applied
-pub example-next : receiver.receivedAll given start .rx .next ≡ 6
-example-next = computed .1
+pub example-next : (ed : Edition) → receiver.receivedAll given (start ed) .rx .next ≡ 6
+example-next ed = computed ed .1

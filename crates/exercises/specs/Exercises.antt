@@ -9,6 +9,7 @@ use lib.ListN.{getD}
 use Rattle.facts.specs.Limits.{shelfSize}
 use Rattle.facts.specs.Pick.{pick, both}
 use Rattle.facts.specs.declared.Found.{Found}
+use Rattle.editions.specs.declared.Edition.{Edition}
 use Rattle.wire.specs.Le.{field}
 use Rattle.fields.specs.Fields.{refusal}
 use Rattle.rows.specs.declared.Row.{Row}
@@ -85,9 +86,9 @@ abbrev pub now : Lent → Handled → Now
 now k x = record { was = k; last = x }
 
 -- right after a start there is no packet yet: as if one had been refused
-unfoldable pub begins : ℕ → ℕ → Now
-begins orders symbols =
-    let k : Lent = fresh (rowSize * orders) (entrySize * symbols) shelfSize in
+unfoldable pub begins : Edition → ℕ → ℕ → Now
+begins ed orders symbols =
+    let k : Lent = fresh ed (rowSize * orders) (entrySize * symbols) shelfSize in
     now k (handled (Received.Refused (refusal 0)) k)
 
 unfoldable pub goesOn : Now → List ℕ → Now
@@ -158,12 +159,12 @@ answerTo (ahead a b) w = aheadOf a b (rows (ordersOf (w .last .after)))
 answerTo (spread symbol) w = ofSpread (spreadView symbol (ordersOf (w .last .after)) (symbolsOf (w .last .after)))
 answerTo (price bytes) w = number (field bytes 0 8)
 
--- the answers to an exercise's questions, in their order
-unfoldable pub answers : List Step → Now → List Told
-answers [] w = []
-answers (start orders symbols ∷ ss) w = answers ss (begins orders symbols)
-answers (gets p ∷ ss) w = answers ss (goesOn w p)
-answers (result a t ∷ ss) w = answerTo a w ∷ answers ss w
+-- the answers to an exercise's questions, in their order, of receivers of an edition
+unfoldable pub answers : Edition → List Step → Now → List Told
+answers ed [] w = []
+answers ed (start orders symbols ∷ ss) w = answers ed ss (begins ed orders symbols)
+answers ed (gets p ∷ ss) w = answers ed ss (goesOn w p)
+answers ed (result a t ∷ ss) w = answerTo a w ∷ answers ed ss w
 
 -- its known results, in their order
 unfoldable pub known : List Step → List Told
@@ -173,9 +174,9 @@ known (gets p ∷ ss) = known ss
 known (result a t ∷ ss) = t ∷ known ss
 
 -- exercise by exercise; until an exercise starts a receiver, there is one without room
-unfoldable pub tableAnswers : List Exercise → List (List Told)
-tableAnswers [] = []
-tableAnswers (e ∷ es) = answers (e .steps) (begins 0 0) ∷ tableAnswers es
+unfoldable pub tableAnswers : Edition → List Exercise → List (List Told)
+tableAnswers ed [] = []
+tableAnswers ed (e ∷ es) = answers ed (e .steps) (begins ed 0 0) ∷ tableAnswers ed es
 
 unfoldable pub tableResults : List Exercise → List (List Told)
 tableResults [] = []

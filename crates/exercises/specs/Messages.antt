@@ -1,5 +1,6 @@
 -- Packets of the exercises, written byte by byte (document 01, "From the tap" and "Message bodies"; docs/MESSAGES.md). Opening and closing times,
--- trade IDs and reserved bytes, which nothing judges, are zeros, and so are the nanoseconds, which are good up to 999,999,999 (request 6).
+-- trade IDs and reserved bytes, which nothing judges, are zeros, and so are the nanoseconds, which are good up to 999,999,999 (request 6). Byte 20 of a Symbol
+-- Update is an E, so that the same packets are good in every edition (request 10).
 use Prim.Native.Nat.{ℕ, _-_}
 use mathlib.Core.List.{List, [], _∷_, _++_, map}
 use lib.ListN.{length, replicate, getD}
@@ -18,10 +19,10 @@ nanoseconds = replicate 4 0
 unfoldable pub systemTime : ℕ → List ℕ
 systemTime seconds = 49 ∷ toLe 4 seconds
 
--- "Symbol Update": symbol 5-8, ticker 9-19, test 21 (N), lot 23-24, opening 25-32, closing 33-40, market 41 (H)
-unfoldable pub symbolUpdate : ℕ → List ℕ → ℕ → List ℕ
-symbolUpdate symbol ticker lot =
-    1 ∷ nanoseconds ++ (toLe 4 symbol ++ (ticker ++ (0 ∷ 78 ∷ 0 ∷ toLe 2 lot ++ (replicate 16 0 ++ (72 ∷ [])))))
+-- "Symbol Update": symbol 5-8, ticker 9-19, security type or reserved 20, test 21 (N), lot 23-24, opening 25-32, closing 33-40, market 41 (H)
+unfoldable pub symbolUpdate : ℕ → List ℕ → ℕ → ℕ → List ℕ
+symbolUpdate symbol ticker security lot =
+    1 ∷ nanoseconds ++ (toLe 4 symbol ++ (ticker ++ (security ∷ 78 ∷ 0 ∷ toLe 2 lot ++ (replicate 16 0 ++ (72 ∷ [])))))
 
 -- "side `B` or `S`"
 abbrev pub buy : ℕ
@@ -52,6 +53,10 @@ unfoldable pub execution : ℕ → ℕ → ℕ → ℕ → List ℕ
 execution symbol order price size =
     24 ∷ nanoseconds ++ (toLe 4 symbol ++ (toLe 8 order ++ (replicate 8 0 ++ (toLe 8 price ++ (toLe 4 size ++ (0 ∷ []))))))
 
+-- "Security Type, `E` or `F`" (request 10)
+abbrev pub letterE : ℕ
+letterE = 69
+
 -- ABC, "Alphanumeric": eleven bytes, with spaces behind
 abbrev pub abc : List ℕ
 abc = 65 ∷ 66 ∷ 67 ∷ replicate 8 32
@@ -61,7 +66,7 @@ abc = 65 ∷ 66 ∷ 67 ∷ replicate 8 32
 unfoldable pub example : List (List ℕ)
 example =
     systemTime 34200
-    ∷ symbolUpdate 7 abc 100
+    ∷ symbolUpdate 7 abc letterE 100
     ∷ addOrder 7 500 buy 10000000 100
     ∷ addOrder 7 501 sell 10020000 200
     ∷ addOrder 7 502 buy 10000000 50

@@ -3,7 +3,7 @@
 -- orders and 1 symbol, which is all that is needed.
 use mathlib.Core.List.{List, [], _∷_, _++_}
 use lib.ListN.{replicate}
-use Rattle.exercises.specs.Messages.{numbered, systemTime, symbolUpdate, addOrder, modifyOrder, bit0Set, bit0Clear, execution, buy, sell, abc, ofExample, wholeExample}
+use Rattle.exercises.specs.Messages.{numbered, systemTime, symbolUpdate, addOrder, modifyOrder, bit0Set, bit0Clear, execution, buy, sell, abc, letterE, ofExample, wholeExample}
 use Rattle.exercises.specs.Exercises.{Exercise, exercise, start, gets, _is_, _isMinus_, gone, result, nothing, taken, old, tooFar, applied, next, stop, refused, badByte, changed, rank, ahead, spread, price}
 
 unfoldable pub table : List Exercise
@@ -67,7 +67,7 @@ table =
     -- "bid 10.020000, offer 10.000000: spread -20000"
     ∷ exercise 9
     (start 4 1
-    ∷ gets (numbered 1 (symbolUpdate 7 abc 100) ++ (numbered 2 (addOrder 7 500 buy 10020000 100) ++ numbered 3 (addOrder 7 501 sell 10000000 200)))
+    ∷ gets (numbered 1 (symbolUpdate 7 abc letterE 100) ++ (numbered 2 (addOrder 7 500 buy 10020000 100) ++ numbered 3 (addOrder 7 501 sell 10000000 200)))
     ∷ applied is 3 ∷ spread 7 isMinus 20000
     ∷ [])
     -- "capacity 1, second Add of the live ID: 21, not 25"; 25 is what another ID meets there
