@@ -232,13 +232,7 @@ fn entry_lines(
     book_lines(buf, o, orders, symbols, s.id)
 }
 
-fn all_entries(
-    buf: &mut [u8],
-    at: usize,
-    e: Edition,
-    orders: &[u64],
-    symbols: &[u8],
-) -> usize
+fn all_entries(buf: &mut [u8], at: usize, e: Edition, orders: &[u64], symbols: &[u8]) -> usize
     requires { ⌜ goodTables (now orders) (now symbols) ≡ true ⌝ }
     ensures { λ r. ⌜ Wrote (now (buf .entry)) at (textOf (allEntries e (now (orders .entry)) (now (symbols .entry)))) (now (buf .exit)) r ⌝ }
 {

@@ -4,3 +4,4 @@ pub mod Read
 pub mod Places
 pub mod Undefined
 pub mod Nanoseconds
+pub mod Editions

@@ -2,6 +2,7 @@
 // It reads no more than 4,096 bytes and takes a read error for the end; the program `sheet` does neither.
 use answer_sheet::Recording;
 use answer_sheet::SheetAnswer;
+use editions::Edition;
 use libc::STDIN_FILENO;
 use libc::STDOUT_FILENO;
 use receiver::Started;
@@ -35,7 +36,7 @@ fn play(
     block: &mut [u8],
     text: &mut [u8],
 ) {
-    match receiver::start(orders, symbols, shelf) {
+    match receiver::start(Edition::V13b, orders, symbols, shelf) {
         Started::Refused(_) => refused(),
         Started::Ready(s) => {
             let n = io::read_full(STDIN_FILENO, block);

@@ -108,6 +108,10 @@ module _ (ed : Edition) (t : List ℕ) (h : Head) (e : h ≡ headOf t) (a : 10 �
     pub judged-inside : (f : Fault) → Judged.Bad f ≡ judgeBody ed (take (10 + h .len - 10) (drop 10 t)) → 10 + f .at ≤ length t
     judged-inside f q = omega (arith, judged-within ed (take (10 + h .len - 10) (drop 10 t)) f q, length-take-le (10 + h .len - 10) (drop 10 t) (rw length-drop (omega arith)))
 
+-- a record that is whole, with a good number, is judged by its body
+pub whole-record : (ed : Edition) (t : List ℕ) → 10 + headOf t .len ≤ length t → numberOk (headOf t .number) ≡ true → readRecord ed t ≡ bodyJudged (judgeBody ed (bodyOf t)) (headOf t)
+whole-record ed t w o = sym (record-judged ed t (headOf t) refl (omega arith) (omega arith) o (judgeBody ed (bodyOf t)) (ap (judgeBody ed) (sym (body-cut t (headOf t .len) refl))))
+
 -- what is known of a good record: its number is in range, and its body good
 pub record GoodRec (ed : Edition) (c : Rec) : Type 0 where
   pub number-from : 1 ≤ c .number

@@ -17,16 +17,12 @@ use Rattle.packet.specs.Record.{numberOk, headOf, bodyOf, bodyJudged, re
 use Rattle.packet.specs.declared.Record.{Record}
 use Rattle.packet.specs.Packet.{placed, framing}
 use Rattle.packet.specs.Nanoseconds.{PastIn}
-use Rattle.packet.proofs.Laws.{GoodRec, body-cut, record-judged, first-bad}
+use Rattle.packet.proofs.Laws.{GoodRec, whole-record, first-bad}
 
 -- a record with nothing wrong before such a body
 past-record : (ed : Edition) (t : List ℕ) → 10 + headOf t .len ≤ length t → numberOk (headOf t .number) ≡ true → PastSecond (bodyOf t) → readRecord ed t ≡ Record.Bad (badAt 4 11)
 unfolding bodyJudged
-past-record ed t w o p =
-    let a : 10 ≤ length t = omega arith in
-    let b : headOf t .len ≤ length t - 10 = omega arith in
-    let e : Judged.Bad (badAt 4 1) ≡ judgeBody ed _ = sym (ap (judgeBody ed) (body-cut t (headOf t .len) refl) ∙ past-judged ed (bodyOf t) p) in
-    sym (record-judged ed t (headOf t) refl a b o (Judged.Bad (badAt 4 1)) e)
+past-record ed t w o p = whole-record ed t w o ∙ ap (λ (j : Judged). bodyJudged j (headOf t)) (past-judged ed (bodyOf t) p)
 
 -- "Larger is refused with 4 and its offset": the packet whole, at the Timestamp
 pub past-packet : (ed : Edition) (p : List ℕ) (x : PastIn ed p) → framing ed p ≡ bad (placed (badAt 4 (x .at + 11)))

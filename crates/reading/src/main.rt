@@ -1,4 +1,5 @@
 // Reads packets behind two-byte lengths from standard input and prints what the readers find: the vectors of tools/vectors.py.
+use editions::Edition;
 use fields::AddOrder;
 use fields::Body;
 use fields::DeleteOrder;
@@ -12,23 +13,46 @@ use fields::Trade;
 use fields::TradeCancel;
 use fields::TradingStatus;
 use kinds::Kind;
+use libc::STDERR_FILENO;
 use libc::STDIN_FILENO;
 use libc::STDOUT_FILENO;
 use packet::Packet;
 use packet::Record;
+use words::Named;
 
 // The longest packet that a two-byte length can announce.
 const LONGEST: usize = 65535;
 
 fn main() {
     let mut held = [0u8; LONGEST];
-    read_all(&mut held);
+    answer(&mut held);
 }
 
-fn read_all(held: &mut [u8]) {
+// The edition that the words ask for.
+fn edition_asked() -> Named {
+    let mut first = [0u8; 16];
+    let mut second = [0u8; 16];
+    let n = os::arg(1, &mut first);
+    let m = os::arg(2, &mut second);
+    words::edition_asked(os::arg_count(), &first[..n], &second[..m])
+}
+
+fn answer(held: &mut [u8]) {
+    match edition_asked() {
+        Named::Known(e) => read_all(e, held),
+        Named::Unknown => {
+            io::write_all(
+                STDERR_FILENO,
+                b"rimeheath: read takes no word but --edition with 1.3, 1.3.a or 1.3.b; the recording comes on standard input\n",
+            );
+        }
+    }
+}
+
+fn read_all(e: Edition, held: &mut [u8]) {
     let mut turns = u64::MAX;
     while 0 < turns {
-        if !read_one(held) {
+        if !read_one(e, held) {
             return;
         }
         turns = turns - 1;
@@ -36,7 +60,7 @@ fn read_all(held: &mut [u8]) {
 }
 
 // One packet; false at the end of the input.
-fn read_one(held: &mut [u8]) -> bool {
+fn read_one(e: Edition, held: &mut [u8]) -> bool {
     let mut length = [0u8; 2];
     if io::read_full(STDIN_FILENO, &mut length) < 2 {
         return false;
@@ -45,7 +69,7 @@ fn read_one(held: &mut [u8]) -> bool {
     if !fill(held, n) {
         return false;
     }
-    show_first(held, n);
+    show_first(e, held, n);
     true
 }
 
@@ -56,47 +80,47 @@ fn fill(held: &mut [u8], n: usize) -> bool {
     io::read_full(STDIN_FILENO, &mut held[..n]) == n
 }
 
-fn show_first(held: &[u8], n: usize) {
+fn show_first(e: Edition, held: &[u8], n: usize) {
     if held.len() < n {
         return;
     }
-    show_packet(&held[..n]);
+    show_packet(e, &held[..n]);
 }
 
-fn show_packet(p: &[u8]) {
-    match packet::read_packet(p) {
+fn show_packet(e: Edition, p: &[u8]) {
+    match packet::read_packet(e, p) {
         Packet::Refused(r) => {
             io::write_all(STDOUT_FILENO, b"refused");
             also(r.number as u64);
             end_line();
         }
-        Packet::Bad(f) => show_fault(p, f),
+        Packet::Bad(f) => show_fault(e, p, f),
         Packet::Good(n) => {
             io::write_all(STDOUT_FILENO, b"records ");
             io::print_decimal(STDOUT_FILENO, n as u64);
             end_line();
-            show_records(p);
+            show_records(e, p);
         }
     }
 }
 
 // Number and offset, and in words where a reader finds it: the record, counted from 1, and what in it is wrong.
-fn show_fault(p: &[u8], f: Fault) {
+fn show_fault(e: Edition, p: &[u8], f: Fault) {
     io::write_all(STDOUT_FILENO, b"refused");
     also(f.number as u64);
     io::write_all(STDOUT_FILENO, b" at");
     also(f.at as u64);
     io::write_all(STDOUT_FILENO, b": record");
-    show_first_bad(p);
+    show_first_bad(e, p);
     end_line();
 }
 
 // Over the good records to the first bad one, which is counted from 1.
-fn show_first_bad(p: &[u8]) {
+fn show_first_bad(e: Edition, p: &[u8]) {
     let mut at = 0;
     let mut count: usize = 1;
     while at < p.len() {
-        match packet::read_record(&p[at..]) {
+        match packet::read_record(e, &p[at..]) {
             Record::Bad(f) => {
                 also(count as u64);
                 show_bad(&p[at..], f);
@@ -207,7 +231,7 @@ fn show_field(k: Kind, at: usize) {
         return;
     }
     match k {
-        Kind::SymbolUpdate => show_market(at),
+        Kind::SymbolUpdate => show_letter(at),
         Kind::Add => show_order(at),
         Kind::Modify => show_deal(at, 27),
         Kind::Execution => show_deal(at, 35),
@@ -215,8 +239,11 @@ fn show_field(k: Kind, at: usize) {
     }
 }
 
-fn show_market(at: usize) {
-    if at == 31 {
+// The letters of a Symbol Update.
+fn show_letter(at: usize) {
+    if at == 30 {
+        io::write_all(STDOUT_FILENO, b", security type");
+    } else if at == 31 {
         io::write_all(STDOUT_FILENO, b", test indicator");
     } else {
         io::write_all(STDOUT_FILENO, b", market");
@@ -240,7 +267,7 @@ fn show_deal(at: usize, price: usize) {
     }
 }
 
-fn show_records(p: &[u8]) {
+fn show_records(e: Edition, p: &[u8]) {
     let mut at = 0;
     while at < p.len() {
         let h = packet::head_at(p, at);
@@ -252,17 +279,17 @@ fn show_records(p: &[u8]) {
             return;
         }
         io::print_decimal(STDOUT_FILENO, h.number);
-        show_body(packet::body_at(p, at));
+        show_body(e, packet::body_at(p, at));
         at = at + 10 + n;
     }
 }
 
 // The type byte, and the fields in the order of their places.
-fn show_body(b: &[u8]) {
+fn show_body(e: Edition, b: &[u8]) {
     also(wire::u8_at(b, 0) as u64);
-    match body::read_body(b) {
+    match body::read_body(e, b) {
         Body::SystemTime(seconds) => also(seconds as u64),
-        Body::SymbolUpdate => show_symbol(fields::symbol_of(b)),
+        Body::SymbolUpdate => show_symbol(e, fields::symbol_of(b), fields::security_of(b)),
         Body::SystemState => show_state(fields::state_of(b)),
         Body::TradingStatus(m) => show_status(m),
         Body::SymbolClear(m) => show_clear(m),
@@ -304,12 +331,21 @@ fn also_deal(price: u64, size: u32) {
     also(size as u64);
 }
 
-fn show_symbol(s: Symbol) {
+// The Security Type is a field in 1.3 alone.
+fn show_type(e: Edition, x: u8) {
+    match e {
+        Edition::V13 => also(x as u64),
+        Edition::V13b => {}
+    }
+}
+
+fn show_symbol(e: Edition, s: Symbol, x: u8) {
     let ticker = s.ticker;
     let opening = s.opening;
     let closing = s.closing;
     also(s.id as u64);
     also_each(&ticker);
+    show_type(e, x);
     also(s.lot as u64);
     also_each(&opening);
     also_each(&closing);

@@ -82,13 +82,7 @@ pub struct Worked {
 }
 
 // One turn of the drain: the slot for next is tried once.
-fn turn(
-    e: Edition,
-    orders: &mut [u64],
-    symbols: &mut [u8],
-    shelf: &mut [u8],
-    at: Place,
-) -> Turned
+fn turn(e: Edition, orders: &mut [u64], symbols: &mut [u8], shelf: &mut [u8], at: Place) -> Turned
     requires { ⌜ at .next ≤ lastNumber + 300000 ⌝ }
     ensures { λ r. ⌜ (rx (r .at .next) (r .at .clock) (now (orders .exit)) (now (symbols .exit)) (now (shelf .exit)) ≡ turnTo shelfStore (bookEngine e) (rx (at .next) (at .clock) (now (orders .entry)) (now (symbols .entry)) (now (shelf .entry)))) × (r .on ≡ goesOn shelfStore (bookEngine e) (rx (at .next) (at .clock) (now (orders .entry)) (now (symbols .entry)) (now (shelf .entry)))) ⌝ }
 {
@@ -258,7 +252,15 @@ fn work(
     while at < p.len() {
         let h = packet::head_at(p, at);
         let n = h.len;
-        w = offer(e, orders, symbols, shelf, w, h.number, packet::body_at(p, at));
+        w = offer(
+            e,
+            orders,
+            symbols,
+            shelf,
+            w,
+            h.number,
+            packet::body_at(p, at),
+        );
         at = at + (10 + n);
     }
     w

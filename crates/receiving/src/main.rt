@@ -1,5 +1,7 @@
 // Plays a recording from standard input packet by packet, prints each answer, and then the tables and the views: what the second
 // program prints of the same recording (second/src/bin/answers.rs).
+use editions::Edition;
+use libc::STDERR_FILENO;
 use libc::STDIN_FILENO;
 use libc::STDOUT_FILENO;
 use receiver::Account;
@@ -10,6 +12,7 @@ use rows::Row;
 use views::LadderAnswer;
 use views::Side;
 use views::SpreadAnswer;
+use words::Named;
 
 // Full capacities: five numbers a row.
 const ORDERS: usize = rows::ROW_SIZE * facts::MOST_ROWS;
@@ -28,7 +31,7 @@ fn main() {
     let mut shelf = [0u8; facts::SHELF_SIZE];
     let mut held = [0u8; LONGEST];
     let mut levels = [0u64; LEVELS];
-    play(
+    answer(
         &mut orders,
         &mut symbols,
         &mut shelf,
@@ -37,14 +40,42 @@ fn main() {
     );
 }
 
-fn play(
+// The edition that the words ask for.
+fn edition_asked() -> Named {
+    let mut first = [0u8; 16];
+    let mut second = [0u8; 16];
+    let n = os::arg(1, &mut first);
+    let m = os::arg(2, &mut second);
+    words::edition_asked(os::arg_count(), &first[..n], &second[..m])
+}
+
+fn answer(
     orders: &mut [u64],
     symbols: &mut [u8],
     shelf: &mut [u8],
     held: &mut [u8],
     levels: &mut [u64],
 ) {
-    match receiver::start(orders, symbols, shelf) {
+    match edition_asked() {
+        Named::Known(e) => play(e, orders, symbols, shelf, held, levels),
+        Named::Unknown => {
+            io::write_all(
+                STDERR_FILENO,
+                b"rimeheath: answers takes no word but --edition with 1.3, 1.3.a or 1.3.b; the recording comes on standard input\n",
+            );
+        }
+    }
+}
+
+fn play(
+    e: Edition,
+    orders: &mut [u64],
+    symbols: &mut [u8],
+    shelf: &mut [u8],
+    held: &mut [u8],
+    levels: &mut [u64],
+) {
+    match receiver::start(e, orders, symbols, shelf) {
         Started::Refused(_) => {
             io::write_all(STDOUT_FILENO, b"refused\n");
         }

@@ -2,6 +2,7 @@
 // carved out by `recording`, and the sheet is what `answer_sheet` writes.
 use answer_sheet::Recording;
 use answer_sheet::SheetAnswer;
+use editions::Edition;
 use libc::STDERR_FILENO;
 use libc::STDIN_FILENO;
 use libc::STDOUT_FILENO;
@@ -9,6 +10,7 @@ use receiver::Started;
 use receiver::State;
 use recording::Fed;
 use recording::Stream;
+use words::Named;
 
 // "It uses full capacities"
 const ORDERS: usize = rows::ROW_SIZE * facts::MOST_ROWS;
@@ -20,7 +22,7 @@ const BLOCK: usize = 65536;
 
 // What the program is asked for.
 pub enum Task {
-    Sheet,
+    Sheet(Edition),
     Help,
     Version,
     Unknown,
@@ -74,12 +76,15 @@ fn answer(
 ) {
     match task_asked() {
         Task::Help => help(),
-        Task::Version => say(STDOUT_FILENO, b"rimeheath 1.0, for DoM 1.3.b\n"),
+        Task::Version => say(
+            STDOUT_FILENO,
+            b"rimeheath 1.0, for DoM 1.3, 1.3.a and 1.3.b\n",
+        ),
         Task::Unknown => say(
             STDERR_FILENO,
-            b"rimeheath: sheet takes no word but --help and --version; the recording comes on standard input\n",
+            b"rimeheath: sheet takes no word but --help, --version, and --edition with 1.3, 1.3.a or 1.3.b; the recording comes on standard input\n",
         ),
-        Task::Sheet => work(orders, symbols, shelf, hold, block, text),
+        Task::Sheet(e) => work(e, orders, symbols, shelf, hold, block, text),
     }
 }
 
@@ -98,17 +103,38 @@ fn help() {
     );
     say(
         STDOUT_FILENO,
+        b"  --edition  names its edition: 1.3, where byte 20 of a Symbol Update is its\n",
+    );
+    say(
+        STDOUT_FILENO,
+        b"             type, or 1.3.a or 1.3.b, where it is reserved; 1.3.b if not named\n",
+    );
+    say(
+        STDOUT_FILENO,
         b"  --help     prints this\n  --version  prints the program's version\n",
     );
 }
 
-// One word is understood; a second makes both unknown.
+// The edition that the words ask for.
+fn edition_asked() -> Named {
+    let mut first = [0u8; 16];
+    let mut second = [0u8; 16];
+    let n = os::arg(1, &mut first);
+    let m = os::arg(2, &mut second);
+    words::edition_asked(os::arg_count(), &first[..n], &second[..m])
+}
+
+// A sheet, in the edition that the words ask for; or one word alone.
 fn task_asked() -> Task {
-    let count = os::arg_count();
-    if count <= 1 {
-        return Task::Sheet;
+    match edition_asked() {
+        Named::Known(e) => Task::Sheet(e),
+        Named::Unknown => word_alone(),
     }
-    if 2 < count {
+}
+
+// One word is understood; a second makes both unknown.
+fn word_alone() -> Task {
+    if 2 < os::arg_count() {
         return Task::Unknown;
     }
     let mut word = [0u8; 16];
@@ -126,6 +152,7 @@ fn task_asked() -> Task {
 }
 
 fn work(
+    e: Edition,
     orders: &mut [u64],
     symbols: &mut [u8],
     shelf: &mut [u8],
@@ -133,7 +160,7 @@ fn work(
     block: &mut [u8],
     text: &mut [u8],
 ) {
-    match receiver::start(orders, symbols, shelf) {
+    match receiver::start(e, orders, symbols, shelf) {
         Started::Refused(_) => refused(),
         Started::Ready(s) => follow(orders, symbols, shelf, hold, block, s, text),
     }

@@ -7,10 +7,10 @@ use Rattle.reading.proofs.read_all.Statement.{statement}
 use Rattle.reading.proofs.read_all.Tie as tie
 
 abbrev Inv-loop : tie.InvT-loop
-Inv-loop held₀ turns₀ held turns = length held ≡ length held₀
+Inv-loop e held₀ turns₀ held turns = length held ≡ length held₀
 
 abbrev μ-loop : tie.MeasureT-loop
-μ-loop held₀ turns₀ held turns = turns
+μ-loop e held₀ turns₀ held turns = turns
 
 loop-holds : tie.Need-loop-holds Inv-loop μ-loop
 loop-holds c = search needs

@@ -7,10 +7,10 @@ use Rattle.reading.proofs.show_first_bad.Statement.{statement}
 use Rattle.reading.proofs.show_first_bad.Tie as tie
 
 abbrev Inv-loop : tie.InvT-loop
-Inv-loop p at₀ count₀ at count = (at ≤ length p) × (count ≤ at + 1)
+Inv-loop e p at₀ count₀ at count = (at ≤ length p) × (count ≤ at + 1)
 
 abbrev μ-loop : tie.MeasureT-loop
-μ-loop p at₀ count₀ at count = length p - at
+μ-loop e p at₀ count₀ at count = length p - at
 
 loop-holds : tie.Need-loop-holds Inv-loop μ-loop
 loop-holds c = search needs

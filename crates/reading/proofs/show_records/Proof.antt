@@ -7,10 +7,10 @@ use Rattle.reading.proofs.show_records.Statement.{statement}
 use Rattle.reading.proofs.show_records.Tie as tie
 
 abbrev Inv-loop : tie.InvT-loop
-Inv-loop p at₀ at = at ≤ length p
+Inv-loop e p at₀ at = at ≤ length p
 
 abbrev μ-loop : tie.MeasureT-loop
-μ-loop p at₀ at = length p - at
+μ-loop e p at₀ at = length p - at
 
 loop-holds : tie.Need-loop-holds Inv-loop μ-loop
 loop-holds c = search needs
