@@ -1,3 +1,4 @@
 pub mod Keys
 pub mod Lines
 pub mod Sheet
+pub mod Types

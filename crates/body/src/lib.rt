@@ -6,7 +6,6 @@ use kinds::Kind;
 ghost use mathlib.Core.Path.{_≡_};
 ghost use Prim.Native.Nat.{_+_};
 ghost use lib.Dec.{leb};
-ghost use lib.ListN.{getD};
 ghost use Rattle.facts.specs.Pick.{pick, both};
 ghost use Rattle.wire.specs.Le.{field};
 ghost use Rattle.body.specs.Ranges.{nanosOk, sideOk, priceOk, sizeOk, securityOk, testOk, marketOk};
@@ -100,20 +99,14 @@ fn deal_fault(b: &[u8], at: u8) -> usize
     fault_at(price_ok(wire::u64_at(b, i)), i, size)
 }
 
-// The Security Type, then what is found behind it.
-fn security_fault(e: Edition, b: &[u8], behind: usize) -> usize
-    ensures { λ r. ⌜ r ≡ pick (securityOk e (getD (now (b .entry)) 20 0)) behind 20 ⌝ }
-{
-    fault_at(security_ok(e, wire::u8_at(b, 20)), 20, behind)
-}
-
 fn symbol_fault(e: Edition, b: &[u8]) -> usize
     ensures { λ r. ⌜ r ≡ faultOf e Kind.SymbolUpdate (now (b .entry)) ⌝ }
 {
+    let security = security_ok(e, wire::u8_at(b, 20));
     let test = test_ok(wire::u8_at(b, 21));
     let market = market_ok(wire::u8_at(b, 41));
     let behind = fault_at(test, 21, fault_at(market, 41, 0));
-    stamp_fault(b, security_fault(e, b, behind))
+    stamp_fault(b, fault_at(security, 20, behind))
 }
 
 // An Add is judged alike in every edition.

@@ -1,9 +1,9 @@
-use mathlib.Core.Path.{_≡_, sym, ap, _∙_}
-use Prim.Native.Nat.{ℕ}
+-- A used entry's symbol is known, so no view of it is refused; an entry not in use has no lines.
+-- Assumes nothing.
+use mathlib.Core.Path.{sym, ap, _∙_}
 use mathlib.Core.List.{[], _++_}
 use lib.ListN.{getD}
 use borrow.Author.Tests.{not-true, not-false}
-use Rattle.fields.specs.Fields.{securityOf}
 use Rattle.fields.specs.declared.Symbol.{Symbol}
 use Rattle.rows.specs.Rows.{rows}
 use Rattle.symbols.specs.Entries.{entries}
@@ -16,45 +16,30 @@ use Rattle.answer_sheet.proofs.Views.{used-shown, unused-lines, used-li
 use borrow.Author.Needs.{needs}
 use Rattle.answer_sheet.proofs.entry_lines.Statement.{statement}
 use Rattle.answer_sheet.proofs.entry_lines.Tie as tie
-use Rattle.answer_sheet.proofs.entry_lines.Reads as reads
-use Rattle.answer_sheet.proofs.entry_lines.Lts as lts
-use Rattle.answer_sheet.proofs.book_lines.Reads as book-lines-reads
-use Rattle.answer_sheet.proofs.security_at.Reads as security-at-reads
-use Rattle.answer_sheet.proofs.symbol_lines.Reads as symbol-lines-reads
-use Rattle.symbols.proofs.entry_at.Reads as entry-at-reads
-use Rattle.symbols.proofs.is_used_at.Reads as is-used-at-reads
 
--- src/lib.rt:226:9
 is-used-at-requires : tie.Need-is-used-at-requires
 is-used-at-requires c κs = search needs
 
--- src/lib.rt:227:9
 returns : tie.Need-returns
 returns c = wrote-as (unused-lines (c .before .before .before .before .before .args .e) (rows (c .before .before .before .before .before .args .orders .now)) (getD (entries (c .before .before .before .before .before .args .symbols .now)) (c .before .before .before .before .before .args .i) []) (sym (c .before .is-used-at .ensures) ∙ not-true _ (c .if1 .taken))) (wrote-none (search needs))
 
--- src/lib.rt:229:9
 security-at-requires : tie.Need-security-at-requires
 security-at-requires c κs = search needs
 
--- src/lib.rt:230:9
 entry-at-requires : tie.Need-entry-at-requires
 entry-at-requires c κs = search needs
 
--- src/lib.rt:231:9
 symbol-lines-requires : tie.Need-symbol-lines-requires
 symbol-lines-requires c κs = search needs
 
--- src/lib.rt:232:5
 book-lines-requires : tie.Need-book-lines-requires
 book-lines-requires c κs =
     let u = sym (c .before .before .before .before .before .before .before .before .is-used-at .ensures) ∙ not-false _ (c .before .before .before .before .before .before .before .if1 .left) in
     ap (λ (s : Symbol). viewFault (s .id) (c .before .before .before .before .before .before .before .before .before .before .before .before .args .orders .now) (c .before .before .before .before .before .before .before .before .before .before .before .before .args .symbols .now)) (c .before .before .before .before .before .entry-at .ensures) ∙ used-shown (c .before .before .before .before .before .before .before .before .before .before .before .before .args .orders .now) (c .before .before .before .before .before .before .before .before .before .before .before .before .args .symbols .now) (c .before .before .before .before .before .before .before .before .before .before .before .before .args .i) (c .before .before .before .before .before .before .before .before .before .before .before .before .pre) u
 
--- src/lib.rt:215:1
 same-length : tie.Need-same-length
 same-length c = search needs
 
--- src/lib.rt:215:1
 returns-2 : tie.Need-returns-2
 returns-2 c =
     let u = sym (c .before .before .before .before .before .before .before .before .before .before .before .is-used-at .ensures) ∙ not-false _ (c .before .before .before .before .before .before .before .before .before .before .if1 .left) in

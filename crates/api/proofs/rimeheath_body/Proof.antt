@@ -1,60 +1,43 @@
-use mathlib.Core.Path.{_≡_, sym, _∙_}
+-- A refused body leaves what is lent; any other is told by its first byte and its numbers.
+-- Assumes nothing.
+use mathlib.Core.Path.{sym, _∙_}
 use native.Mathlib.Omega.{arith}
 use Rattle.body.proofs.Places.{judged-small}
 use Rattle.api.proofs.Handing.{body-refused, body-told}
 use borrow.Author.Needs.{needs}
 use Rattle.api.proofs.rimeheath_body.Statement.{statement}
 use Rattle.api.proofs.rimeheath_body.Tie as tie
-use Rattle.api.proofs.rimeheath_body.Reads as reads
-use Rattle.api.proofs.rimeheath_body.Lts as lts
-use Rattle.api.proofs.fields_of.Reads as fields-of-reads
-use Rattle.api.proofs.with_offset.Reads as with-offset-reads
-use Rattle.body.proofs.judge_body.Reads as judge-body-reads
-use Rattle.editions.proofs.edition_of.Reads as edition-of-reads
-use Rattle.fields.proofs.decode.Reads as decode-reads
-use Rattle.wire.proofs.u8_at.Reads as u8-at-reads
 
--- src/lib.rt:513:9
 edition-of-requires : tie.Need-edition-of-requires
 edition-of-requires c κs = search needs
 
--- src/lib.rt:514:11
 judge-body-requires : tie.Need-judge-body-requires
 judge-body-requires c κs = search needs
 
--- src/lib.rt:515:21
 enum-known-f : tie.Need-enum-known-f
 enum-known-f c = search needs
 
--- src/lib.rt:515:27
 with-offset-requires : tie.Need-with-offset-requires
 with-offset-requires c κs = omega (arith, judged-small _ (c .before .before .before .before .before .before .args .b .now) _ (sym (c .before .f .given .1) ∙ c .before .before .before .judge-body .ensures))
 
--- src/lib.rt:516:22
 enum-known-k : tie.Need-enum-known-k
 enum-known-k c = search needs
 
--- src/lib.rt:517:17
 decode-requires : tie.Need-decode-requires
 decode-requires c κs = search needs
 
--- src/lib.rt:518:37
 u8-at-requires : tie.Need-u8-at-requires
 u8-at-requires c κs = search needs
 
--- src/lib.rt:518:37
 cast-fields-of : tie.Need-cast-fields-of
 cast-fields-of c = search needs
 
--- src/lib.rt:518:24
 fields-of-requires : tie.Need-fields-of-requires
 fields-of-requires c κs = search needs
 
--- src/lib.rt:509:1
 returns : tie.Need-returns
 returns c = rw (← c .before .before .before .before .before .edition-of .ensures) (body-refused _ _ _ _ (c .before .before .before .before .judge-body .ensures) _ (c .before .before .f .given .1) _ (c .with-offset .ensures))
 
--- src/lib.rt:509:1
 returns-2 : tie.Need-returns-2
 returns-2 c = rw (← c .before .before .before .before .before .before .before .edition-of .ensures) (body-told _ _ _ _ (c .before .before .before .before .before .before .judge-body .ensures) _ (c .before .before .before .before .k .given .1) _ (c .before .u8-at .ensures) _ (c .before .before .decode .ensures) _ (c .fields-of .ensures))
 

@@ -1,3 +1,5 @@
+-- Both answers to a record are handed on; an offset in one is small.
+-- Assumes nothing.
 use mathlib.Core.Path.{sym, _∙_}
 use native.Mathlib.Omega.{arith}
 use Rattle.packet.proofs.Places.{record-small}
@@ -6,37 +8,25 @@ use Rattle.api.proofs.Handing.{record-handed, record-bad}
 use borrow.Author.Needs.{needs}
 use Rattle.api.proofs.rimeheath_record.Statement.{statement}
 use Rattle.api.proofs.rimeheath_record.Tie as tie
-use Rattle.api.proofs.rimeheath_record.Reads as reads
-use Rattle.api.proofs.rimeheath_record.Lts as lts
-use Rattle.api.proofs.with_offset.Reads as with-offset-reads
-use Rattle.editions.proofs.edition_of.Reads as edition-of-reads
-use Rattle.packet.proofs.read_record.Reads as read-record-reads
 
--- src/lib.rt:336:31
 edition-of-requires : tie.Need-edition-of-requires
 edition-of-requires c κs = search needs
 
--- src/lib.rt:336:11
 read-record-requires : tie.Need-read-record-requires
 read-record-requires c κs = search needs
 
--- src/lib.rt:337:21
 enum-known-f : tie.Need-enum-known-f
 enum-known-f c = search needs
 
--- src/lib.rt:337:27
 with-offset-requires : tie.Need-with-offset-requires
 with-offset-requires c κs = omega (arith, record-small _ (c .before .before .before .before .before .before .args .rest .now) _ (sym (c .before .f .given .1) ∙ c .before .before .before .read-record .ensures))
 
--- src/lib.rt:338:22
 enum-known-h : tie.Need-enum-known-h
 enum-known-h c = search needs
 
--- src/lib.rt:332:1
 returns : tie.Need-returns
 returns c = record-bad _ _ _ (c .before .before .f .given .1) (rw (c .before .before .before .before .before .edition-of .ensures) at (c .before .before .before .before .read-record .ensures)) _ _ (c .with-offset .ensures)
 
--- src/lib.rt:332:1
 returns-2 : tie.Need-returns-2
 unfolding recordAnswer
 returns-2 c = record-handed _ _ _ (c .before .before .h .given .1) (rw (c .before .before .before .before .before .edition-of .ensures) at (c .before .before .before .before .read-record .ensures)) (c .before .before .before .before .before .before .before .args .head .now)

@@ -1,67 +1,48 @@
-use Rattle.api.specs.Calls.{startAnswer, startCall}
-use mathlib.Core.Path.{_≡_, ap, _∙_}
-use mathlib.Core.List.{List}
-use Prim.Native.Nat.{ℕ}
+-- A refused start leaves the state; another tells it.
+-- Assumes nothing.
+use Rattle.api.specs.Calls.{startAnswer}
 use Rattle.api.proofs.Handing.{start-handed, start-ready}
 use borrow.Author.Needs.{needs}
 use Rattle.api.proofs.rimeheath_start.Statement.{statement}
 use Rattle.api.proofs.rimeheath_start.Tie as tie
-use Rattle.api.proofs.rimeheath_start.Reads as reads
-use Rattle.api.proofs.rimeheath_start.Lts as lts
-use Rattle.api.proofs.state_numbers.Reads as state-numbers-reads
-use Rattle.editions.proofs.edition_of.Reads as edition-of-reads
-use Rattle.receiver.proofs.start.Reads as start-reads
 
--- src/lib.rt:73:27
 edition-of-requires : tie.Need-edition-of-requires
 edition-of-requires c κs = search needs
 
--- src/lib.rt:73:11
 start-requires : tie.Need-start-requires
 start-requires c κs = search needs
 
--- src/lib.rt:74:26
 enum-known-r : tie.Need-enum-known-r
 enum-known-r c = search needs
 
--- src/lib.rt:75:24
 enum-known-s : tie.Need-enum-known-s
 enum-known-s c = search needs
 
--- src/lib.rt:76:22
 state-numbers-requires : tie.Need-state-numbers-requires
 state-numbers-requires c κs = search needs
 
--- src/lib.rt:63:1
 same-length : tie.Need-same-length
 same-length c = search needs
 
--- src/lib.rt:63:1
 same-length-2 : tie.Need-same-length-2
 same-length-2 c = search needs
 
--- src/lib.rt:63:1
 same-length-3 : tie.Need-same-length-3
 same-length-3 c = search needs
 
--- src/lib.rt:63:1
 returns : tie.Need-returns
 unfolding startAnswer
 returns c = start-handed _ _ (c .before .r .given .1) _ _ _ _ (rw (c .before .before .before .before .before .before .before .before .before .before .before .before .before .edition-of .ensures) at (c .before .before .before .before .before .before .before .before .before .start .ensures)) (c .before .before .before .before .before .before .before .before .before .before .before .before .before .before .before .before .before .args .state .now)
 
--- src/lib.rt:63:1
 same-length-4 : tie.Need-same-length-4
 same-length-4 c = search needs
 
--- src/lib.rt:63:1
 same-length-5 : tie.Need-same-length-5
 same-length-5 c = search needs
 
--- src/lib.rt:63:1
 same-length-6 : tie.Need-same-length-6
 same-length-6 c = search needs
 
--- src/lib.rt:63:1
 returns-2 : tie.Need-returns-2
 returns-2 c = start-ready _ _ (c .before .before .s .given .1) _ _ _ _ (rw (c .before .before .before .before .before .before .before .before .before .before .before .before .before .before .edition-of .ensures) at (c .before .before .before .before .before .before .before .before .before .before .start .ensures)) (c .before .before .before .before .before .before .before .before .before .before .before .before .before .before .before .before .before .before .args .state .now) _ (c .state-numbers .ensures)
 

@@ -1,75 +1,57 @@
+-- The first four numbers are a receiver's state; of the last refusal's number the low 8 bits count; the others are themselves.
+-- Assumes nothing.
 use borrow.Author.Needs.{needs}
 use Rattle.api.proofs.stream_from.Statement.{statement}
 use Rattle.api.proofs.stream_from.Tie as tie
-use Rattle.api.proofs.stream_from.Reads as reads
-use Rattle.api.proofs.stream_from.Lts as lts
-use Rattle.api.proofs.state_in.Reads as state-in-reads
 
--- src/lib.rt:152:17
 element-copy-out-t8 : tie.Need-element-copy-out-t8
 element-copy-out-t8 c = search needs
 
--- src/lib.rt:152:23
 element-copy-out-t11 : tie.Need-element-copy-out-t11
 element-copy-out-t11 c = search needs
 
--- src/lib.rt:152:29
 element-copy-out-t14 : tie.Need-element-copy-out-t14
 element-copy-out-t14 c = search needs
 
--- src/lib.rt:152:35
 element-copy-out-t17 : tie.Need-element-copy-out-t17
 element-copy-out-t17 c = search needs
 
--- src/lib.rt:153:9
 state-in-requires : tie.Need-state-in-requires
 state-in-requires c κs = search needs
 
--- src/lib.rt:155:16
 element-copy-out-t8-2 : tie.Need-element-copy-out-t8-2
 element-copy-out-t8-2 c = search needs
 
--- src/lib.rt:156:14
 element-copy-out-t17-2 : tie.Need-element-copy-out-t17-2
 element-copy-out-t17-2 c = search needs
 
--- src/lib.rt:157:14
 element-copy-out-t14-2 : tie.Need-element-copy-out-t14-2
 element-copy-out-t14-2 c = search needs
 
--- src/lib.rt:158:19
 element-copy-out-t11-2 : tie.Need-element-copy-out-t11-2
 element-copy-out-t11-2 c = search needs
 
--- src/lib.rt:159:20
 element-copy-out-t29 : tie.Need-element-copy-out-t29
 element-copy-out-t29 c = search needs
 
--- src/lib.rt:162:18
 element-copy-out-t8-3 : tie.Need-element-copy-out-t8-3
 element-copy-out-t8-3 c = search needs
 
--- src/lib.rt:162:17
 cast-t32 : tie.Need-cast-t32
 cast-t32 c = search needs
 
--- src/lib.rt:163:13
 element-copy-out-t11-3 : tie.Need-element-copy-out-t11-3
 element-copy-out-t11-3 c = search needs
 
--- src/lib.rt:167:15
 element-copy-out-t14-3 : tie.Need-element-copy-out-t14-3
 element-copy-out-t14-3 c = search needs
 
--- src/lib.rt:168:15
 element-copy-out-t11-4 : tie.Need-element-copy-out-t11-4
 element-copy-out-t11-4 c = search needs
 
--- src/lib.rt:169:14
 element-copy-out-t17-3 : tie.Need-element-copy-out-t17-3
 element-copy-out-t17-3 c = search needs
 
--- src/lib.rt:149:1
 returns : tie.Need-returns
 returns c = rw (c .before .before .before .before .before .before .before .before .before .before .state-in .ensures)
 

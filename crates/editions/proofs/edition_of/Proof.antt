@@ -5,15 +5,11 @@ use Rattle.facts.specs.Pick.{pick}
 use Rattle.editions.specs.Editions.{editionOf}
 use Rattle.editions.proofs.edition_of.Statement.{statement}
 use Rattle.editions.proofs.edition_of.Tie as tie
-use Rattle.editions.proofs.edition_of.Reads as reads
-use Rattle.editions.proofs.edition_of.Lts as lts
 
--- src/lib.rt:22:1
 returns : tie.Need-returns
 unfolding editionOf pick
 returns c = simp (eq-eqb _ _ (c .if1 .taken))
 
--- src/lib.rt:22:1
 returns-2 : tie.Need-returns-2
 unfolding editionOf pick
 returns-2 c = simp (ne-eqb _ _ (c .if1 .left))

@@ -1,3 +1,5 @@
+-- The count decides first, then the first word, then the name.
+-- Assumes nothing.
 use borrow.Author.Tests.{le-leb, lt-leb, eq-eqb, ne-eqb, not-true, not-false}
 use Rattle.facts.specs.Pick.{pick, both}
 use Rattle.words.specs.Words.{editionWord, editionAsked}
@@ -5,39 +7,28 @@ use Rattle.words.proofs.Laws.{word-is}
 use borrow.Author.Needs.{needs}
 use Rattle.words.proofs.edition_asked.Statement.{statement}
 use Rattle.words.proofs.edition_asked.Tie as tie
-use Rattle.words.proofs.edition_asked.Reads as reads
-use Rattle.words.proofs.edition_asked.Lts as lts
-use Rattle.check.proofs.same.Reads as same-reads
-use Rattle.words.proofs.edition_named.Reads as edition-named-reads
 
--- src/lib.rt:32:9
 returns : tie.Need-returns
 unfolding editionAsked pick
 returns c = simp (le-leb (c .before .before .before .args .count) 1 (c .if1 .taken))
 
--- src/lib.rt:35:9
 returns-2 : tie.Need-returns-2
 unfolding editionAsked pick both
 returns-2 c = simp (lt-leb (c .before .before .before .before .args .count) 1 (c .before .if1 .left), ne-eqb _ _ (c .if2 .taken))
 
--- src/lib.rt:37:28
 slice-aggregate-same : tie.Need-slice-aggregate-same
 slice-aggregate-same c = search needs
 
--- src/lib.rt:37:9
 same-requires : tie.Need-same-requires
 same-requires c κs = search needs
 
--- src/lib.rt:38:9
 returns-3 : tie.Need-returns-3
 unfolding editionAsked pick both
 returns-3 c = simp (lt-leb (c .before .before .before .before .before .before .before .args .count) 1 (c .before .before .before .before .if1 .left), eq-eqb _ _ (c .before .before .before .if2 .left), word-is (c .before .same .result) (c .before .before .before .before .before .before .before .args .first .now) editionWord (c .before .same .ensures .0) (c .before .same .ensures .1), not-true (c .before .same .result) (c .if3 .taken))
 
--- src/lib.rt:40:5
 edition-named-requires : tie.Need-edition-named-requires
 edition-named-requires c κs = search needs
 
--- src/lib.rt:28:1
 returns-4 : tie.Need-returns-4
 unfolding editionAsked pick both
 returns-4 c = simp (lt-leb (c .before .before .before .before .before .before .before .before .args .count) 1 (c .before .before .before .before .before .if1 .left), eq-eqb _ _ (c .before .before .before .before .if2 .left), word-is (c .before .before .same .result) (c .before .before .before .before .before .before .before .before .args .first .now) editionWord (c .before .before .same .ensures .0) (c .before .before .same .ensures .1), not-false (c .before .before .same .result) (c .before .if3 .left), ← c .edition-named .ensures)

@@ -1,54 +1,42 @@
-use mathlib.Core.Path.{_≡_, _∙_}
-use Rattle.facts.specs.Pick.{pick, both, either}
+-- Each comparison is the definition's own test.
+-- Assumes nothing.
+use Rattle.facts.specs.Pick.{pick, either}
 use Rattle.words.specs.Words.{older, lettered, current, editionNamed}
 use Rattle.words.proofs.Laws.{word-is}
 use borrow.Author.Needs.{needs}
 use Rattle.words.proofs.edition_named.Statement.{statement}
 use Rattle.words.proofs.edition_named.Tie as tie
-use Rattle.words.proofs.edition_named.Reads as reads
-use Rattle.words.proofs.edition_named.Lts as lts
-use Rattle.check.proofs.same.Reads as same-reads
 
--- src/lib.rt:15:23
 slice-aggregate-same : tie.Need-slice-aggregate-same
 slice-aggregate-same c = search needs
 
--- src/lib.rt:15:8
 same-requires : tie.Need-same-requires
 same-requires c κs = search needs
 
--- src/lib.rt:16:9
 returns : tie.Need-returns
 unfolding editionNamed pick
 returns c = simp (word-is (c .before .same .result) (c .before .before .before .before .args .w .now) older (c .before .same .ensures .0) (c .before .same .ensures .1), c .if1 .taken)
 
--- src/lib.rt:18:23
 slice-aggregate-same-2 : tie.Need-slice-aggregate-same-2
 slice-aggregate-same-2 c = search needs
 
--- src/lib.rt:18:8
 same-requires-2 : tie.Need-same-requires-2
 same-requires-2 c κs = search needs
 
--- src/lib.rt:19:9
 returns-2 : tie.Need-returns-2
 unfolding editionNamed pick either
 returns-2 c = simp (word-is (c .before .before .before .before .same .result) (c .before .before .before .before .before .before .before .args .w .now) older (c .before .before .before .before .same .ensures .0) (c .before .before .before .before .same .ensures .1), c .before .before .before .if1 .left, word-is (c .before .same2 .result) (c .before .before .before .before .before .before .before .args .w .now) lettered (c .before .same2 .ensures .0) (c .before .same2 .ensures .1), c .if2 .taken)
 
--- src/lib.rt:21:23
 slice-aggregate-same-3 : tie.Need-slice-aggregate-same-3
 slice-aggregate-same-3 c = search needs
 
--- src/lib.rt:21:8
 same-requires-3 : tie.Need-same-requires-3
 same-requires-3 c κs = search needs
 
--- src/lib.rt:22:9
 returns-3 : tie.Need-returns-3
 unfolding editionNamed pick either
 returns-3 c = simp (word-is (c .before .before .before .before .before .before .before .same .result) (c .before .before .before .before .before .before .before .before .before .before .args .w .now) older (c .before .before .before .before .before .before .before .same .ensures .0) (c .before .before .before .before .before .before .before .same .ensures .1), c .before .before .before .before .before .before .if1 .left, word-is (c .before .before .before .before .same2 .result) (c .before .before .before .before .before .before .before .before .before .before .args .w .now) lettered (c .before .before .before .before .same2 .ensures .0) (c .before .before .before .before .same2 .ensures .1), c .before .before .before .if2 .left, word-is (c .before .same3 .result) (c .before .before .before .before .before .before .before .before .before .before .args .w .now) current (c .before .same3 .ensures .0) (c .before .same3 .ensures .1), c .if3 .taken)
 
--- src/lib.rt:12:1
 returns-4 : tie.Need-returns-4
 unfolding editionNamed pick either
 returns-4 c = simp (word-is (c .before .before .before .before .before .before .before .same .result) (c .before .before .before .before .before .before .before .before .before .before .args .w .now) older (c .before .before .before .before .before .before .before .same .ensures .0) (c .before .before .before .before .before .before .before .same .ensures .1), c .before .before .before .before .before .before .if1 .left, word-is (c .before .before .before .before .same2 .result) (c .before .before .before .before .before .before .before .before .before .before .args .w .now) lettered (c .before .before .before .before .same2 .ensures .0) (c .before .before .before .before .same2 .ensures .1), c .before .before .before .if2 .left, word-is (c .before .same3 .result) (c .before .before .before .before .before .before .before .before .before .before .args .w .now) current (c .before .same3 .ensures .0) (c .before .same3 .ensures .1), c .if3 .left)
