@@ -1,7 +1,7 @@
 //! The lines of `answers`.
 
 mod common;
-use common::{example_file, example_path, seeds, Reference};
+use common::{example_file, example_path, seeds, Edition, Reference, V1_3b, EDITIONS};
 use second::answers::answers_of_recording;
 use second::examples::*;
 use second::morning::{drawn_recording, packed, recording};
@@ -26,7 +26,11 @@ ask 10020000 200 1
 ";
 
 fn text(recording: &[u8]) -> String {
-    String::from_utf8(answers_of_recording(recording).unwrap()).unwrap()
+    text_in(V1_3b, recording)
+}
+
+fn text_in(edition: Edition, recording: &[u8]) -> String {
+    String::from_utf8(answers_of_recording(edition, recording).unwrap()).unwrap()
 }
 
 #[test]
@@ -83,12 +87,12 @@ fn joined<T: Display>(word: &str, numbers: &[T]) -> String {
 
 /// The front: a line for each whole packet, which tells of as many records as it has, and a next
 /// number that grows by what was applied. Answers the lines behind, the last next and the last stop.
-fn packets_told<'a>(bytes: &[u8], lines: &'a str) -> (Vec<&'a str>, u64, u64) {
+fn packets_told<'a>(edition: Edition, bytes: &[u8], lines: &'a str) -> (Vec<&'a str>, u64, u64) {
     let mut rest = lines.lines();
     let (mut next, mut stop) = (1, 0);
     for packet in packets_of(bytes).0 {
         let line = rest.next().expect("a line for each packet");
-        match read_packet(packet) {
+        match read_packet(edition, packet) {
             Err(Refusal {
                 number,
                 offset: None,
@@ -181,9 +185,9 @@ fn program_prints(name: &str, lines: &str) {
 fn the_long_recording_line_by_line() {
     let stored = example_file("long.rec");
     let lines = text(&stored);
-    let (back, next, stop) = packets_told(&stored, &lines);
+    let (back, next, stop) = packets_told(V1_3b, &stored, &lines);
     let list = long_list();
-    let mut made = Reference::new(&list, MOST_ROWS, MOST_ENTRIES);
+    let mut made = Reference::new(V1_3b, &list, MOST_ROWS, MOST_ENTRIES);
     made.go_to(next - 1);
     assert_eq!((made.rule_of_next(), stop), (Some(24), 24));
     assert_eq!(back, tables_told(made.second, &made.orders, &made.symbols));
@@ -220,10 +224,11 @@ fn the_morning_of_every_bad_field_line_by_line() {
 #[test]
 fn seeded_recordings_line_by_line() {
     for seed in seeds(40) {
-        let bytes = drawn_recording(seed);
-        let lines = text(&bytes);
-        let (back, next, stop) = packets_told(&bytes, &lines);
-        let desk = play(&bytes).desk;
+        let edition = EDITIONS[(seed % 2) as usize];
+        let bytes = drawn_recording(edition, seed);
+        let lines = text_in(edition, &bytes);
+        let (back, next, stop) = packets_told(edition, &bytes, &lines);
+        let desk = play(edition, &bytes).desk;
         assert_eq!((next, stop), (desk.state.next, u64::from(desk.state.stop)));
         let wanted = tables_told(desk.state.second, &desk.orders, &desk.symbols);
         assert_eq!(back, wanted, "seed {seed}");

@@ -1,7 +1,7 @@
 //! The programs as they are run.
 
 mod common;
-use common::{example_file, example_path};
+use common::{example_file, example_path, V1_3b};
 use second::examples::{morning_recording, MORNING_SHEET};
 use std::fs::File;
 use std::path::PathBuf;
@@ -65,5 +65,5 @@ fn make_examples_and_seeded_write_the_same_bytes_again() {
         .output()
         .unwrap();
     assert!(seeded.status.success());
-    assert!(seeded.stdout == second::morning::drawn_recording(17));
+    assert!(seeded.stdout == second::morning::drawn_recording(V1_3b, 17));
 }

@@ -12,18 +12,21 @@ use second::stream::LEAST_HOLD;
 
 fn example() -> (Proved, Vec<u8>) {
     let packet = packet(&numbered(&example_list(), 1, 5));
-    (Proved::new(10, 4).expect("sizes in the limits"), packet)
+    (
+        Proved::new(V1_3b, 10, 4).expect("sizes in the limits"),
+        packet,
+    )
 }
 
 #[test]
 fn the_example_through_every_call() {
     let (mut receiver, packet) = example();
-    assert_eq!(proved::packet(&packet), Ok(5));
+    assert_eq!(proved::packet(V1_3b, &packet), Ok(5));
     let head = Head {
         number: 1,
         length: 5,
     };
-    assert_eq!(proved::record(&packet), Ok(head));
+    assert_eq!(proved::record(V1_3b, &packet), Ok(head));
     let answer = receiver.receive(&packet).expect("a good packet");
     assert_eq!(answer.counts(), [5, 0, 0, 0, 0]);
     assert_eq!((answer.next, answer.applied, answer.stop), (6, 5, 0));
@@ -34,7 +37,7 @@ fn the_example_through_every_call() {
     assert_eq!(receiver.ladder(7, Side::Buy, &mut run), Ok(1));
     assert_eq!(run, [10_000_000, 150, 2, 9]);
     assert_eq!(receiver.sheet(0, false), Ok(MORNING_SHEET.into()));
-    receiver.start().expect("sizes in the limits");
+    receiver.start(V1_3b).expect("sizes in the limits");
     assert_eq!(receiver, example().0);
     assert_eq!(receiver.counts().map(|counts| counts.orders), Ok(0));
 }
@@ -42,7 +45,7 @@ fn the_example_through_every_call() {
 #[test]
 fn each_refusal() {
     let (mut receiver, packet) = example();
-    assert_eq!(Proved::new(0, 4), Err(Refusal::alone(6)));
+    assert_eq!(Proved::new(V1_3b, 0, 4), Err(Refusal::alone(6)));
     assert_eq!(receiver.receive(&[]), Err(Refusal::alone(1)));
     assert_eq!(receiver.receive(&packet[..9]), Err(Refusal::at(2, 0)));
     let numberless = record(0, &time(1));
@@ -112,7 +115,7 @@ fn numbers_and_offsets_in_one_answer() {
 /// A book that is crossed has a negative spread (P9), and one with an empty side has none.
 #[test]
 fn spreads_of_either_sign() {
-    let mut receiver = Proved::new(10, 4).expect("sizes in the limits");
+    let mut receiver = Proved::new(V1_3b, 10, 4).expect("sizes in the limits");
     let list = [
         update(7),
         buy(7, 1, 10_020_000, 1),
@@ -129,7 +132,7 @@ fn spreads_of_either_sign() {
 /// Every row with the most shares at one price, and books as wide as prices allow.
 #[test]
 fn the_largest_sums_and_the_widest_spreads() {
-    let mut receiver = Proved::new(1_600, 1).expect("sizes in the limits");
+    let mut receiver = Proved::new(V1_3b, 1_600, 1).expect("sizes in the limits");
     let answer = receiver.receive(&record(1, &update(7)));
     assert_eq!(answer.map(|answer| answer.applied), Ok(1));
     let most = u64::from(u32::MAX);
@@ -194,7 +197,7 @@ fn feed(receiver: &mut Proved, hold: &mut [u8], stream: &mut lent::Stream, chunk
 }
 
 fn message(body: &[u8]) -> Body {
-    let fields = proved::body(body).expect("a good body");
+    let fields = proved::body(V1_3b, body).expect("a good body");
     fields.message().expect("a known type")
 }
 

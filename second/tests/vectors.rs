@@ -1,5 +1,6 @@
 //! The packets of tools/vectors.py, and the text that it says a right reader prints.
 
+use second::edition::Edition::V1_3b;
 use second::packet::*;
 use second::reading::lines_of_packet;
 use std::path::PathBuf;
@@ -26,7 +27,7 @@ fn the_reader_prints_what_the_vectors_say() {
     let mut at = 0;
     while at < packets.len() {
         let length = little(&packets[at..at + 2]) as usize;
-        text.push_str(&lines_of_packet(&packets[at + 2..at + 2 + length]));
+        text.push_str(&lines_of_packet(V1_3b, &packets[at + 2..at + 2 + length]));
         at += 2 + length;
         count += 1;
     }
@@ -49,13 +50,13 @@ fn a_symbol_update_keeps_all_42_bytes() {
             _ => at,
         })
         .collect();
-    match read_body(&body) {
+    match read_body(V1_3b, &body) {
         Ok(Message::SymbolUpdate(update)) => {
             assert_eq!(update.body[..], body[..]);
             assert_eq!(update.nanoseconds.to_le_bytes(), body[1..5]);
             assert_eq!(update.symbol.to_le_bytes(), body[5..9]);
             assert_eq!(update.ticker, body[9..20]);
-            assert_eq!((update.reserved20, update.test), (20, b'Y'));
+            assert_eq!((update.security_type, update.test), (None, b'Y'));
             assert_eq!(update.reserved22, 22);
             assert_eq!(update.lot.to_le_bytes(), body[23..25]);
             assert_eq!(update.opening, body[25..33]);
