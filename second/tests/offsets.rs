@@ -121,7 +121,7 @@ impl Reader for Proved {
 
     fn open() -> Self::Fed {
         let receiver = Proved::started(V1_3b, 2, 2);
-        let mut stream = [9; 13];
+        let mut stream = [9; 14];
         assert_eq!(lent::open(&receiver.state, &mut stream), 0);
         (receiver, stream, vec![7; LEAST_HOLD])
     }
@@ -141,11 +141,11 @@ impl Feed for (Proved, lent::Stream, Vec<u8>) {
     }
 
     fn last(&self) -> (u64, u64) {
-        (self.1[11], self.1[12])
+        (self.1[12], self.1[13])
     }
 
     fn lend_last(&mut self, number: u8, offset: u64) {
-        (self.1[11], self.1[12]) = (number.into(), offset);
+        (self.1[12], self.1[13]) = (number.into(), offset);
     }
 
     fn lend_next(&mut self, next: u64) {
@@ -157,7 +157,7 @@ impl Feed for (Proved, lent::Stream, Vec<u8>) {
     }
 
     fn counts(&self) -> (u64, u64) {
-        (self.1[5], self.1[6] + self.1[7])
+        (self.1[6], self.1[7] + self.1[8])
     }
 }
 

@@ -91,7 +91,7 @@ fn numbers_and_offsets_in_one_answer() {
         (&bad, 256 * 28 + 4),
         (&[0; 10], 5),
     ] {
-        assert_eq!(lent::packet(bytes, &mut [0]), answer);
+        assert_eq!(lent::packet(0, bytes, &mut [0]), answer);
         let Proved {
             orders,
             symbols,
@@ -104,12 +104,15 @@ fn numbers_and_offsets_in_one_answer() {
         let received = lent::receive(&mut [], symbols, shelf, state, bytes, &mut [0; 9]);
         assert_eq!(received, 6);
     }
-    assert_eq!(lent::record(&[], &mut [0; 2]), 2);
-    assert_eq!(lent::record(&longest[1_490..], &mut [0; 2]), 256 * 10 + 3);
-    assert_eq!(lent::record(&bad, &mut [0; 2]), 256 * 28 + 4);
-    assert_eq!(lent::body(&[], &mut [0; 8]), 3);
-    assert_eq!(lent::body(&bad[10..], &mut [0; 8]), 256 * 18 + 4);
-    assert_eq!(lent::body(&time(1), &mut [0; 8]), 0);
+    assert_eq!(lent::record(0, &[], &mut [0; 2]), 2);
+    assert_eq!(
+        lent::record(0, &longest[1_490..], &mut [0; 2]),
+        256 * 10 + 3
+    );
+    assert_eq!(lent::record(0, &bad, &mut [0; 2]), 256 * 28 + 4);
+    assert_eq!(lent::body(0, &[], &mut [0; 8]), 3);
+    assert_eq!(lent::body(0, &bad[10..], &mut [0; 8]), 256 * 18 + 4);
+    assert_eq!(lent::body(0, &time(1), &mut [0; 8]), 0);
 }
 
 /// A book that is crossed has a negative spread (P9), and one with an empty side has none.
@@ -157,18 +160,18 @@ fn the_example_in_pieces() {
     let bytes = morning_recording();
     for first in 0..=bytes.len() {
         let (mut receiver, _) = example();
-        let mut stream = [9; 13];
+        let mut stream = [9; 14];
         assert_eq!(lent::open(&receiver.state, &mut stream), 0);
-        assert_eq!(stream, [1, 0, 0, 0, 0, 0, 0, 0, 0, 0, 0, 0, 0]);
+        assert_eq!(stream, [1, 0, 0, 0, 0, 0, 0, 0, 0, 0, 0, 0, 0, 0]);
         let mut hold = [9; LEAST_HOLD];
         let inside = first != 0 && first != bytes.len();
         for (chunk, cut) in [(&bytes[..first], inside), (&bytes[first..], false)] {
             let number = feed(&mut receiver, &mut hold, &mut stream, chunk);
             assert_eq!((number, lent::cut(&stream)), (0, cut), "cut at {first}");
         }
-        assert_eq!(stream, [6, 34_200, 0, 0, 0, 0, 5, 0, 0, 0, 0, 0, 0]);
+        assert_eq!(stream, [6, 34_200, 0, 0, 0, 0, 0, 5, 0, 0, 0, 0, 0, 0]);
         assert_eq!(hold, [0; LEAST_HOLD]);
-        receiver.state.copy_from_slice(&stream[..3]);
+        receiver.state.copy_from_slice(&stream[..4]);
         assert_eq!(receiver.sheet(0, false), Ok(MORNING_SHEET.into()));
     }
 }
@@ -177,12 +180,12 @@ fn the_example_in_pieces() {
 #[test]
 fn a_refused_piece() {
     let (mut receiver, _) = example();
-    let mut stream = [1, 0, 0, 0, 0, 0, 0, 0, 0, 0, 0, 4, 28];
+    let mut stream = [1, 0, 0, 0, 0, 0, 0, 0, 0, 0, 0, 0, 4, 28];
     let mut hold = [9; LEAST_HOLD - 1];
     let bytes = morning_recording();
     assert_eq!(feed(&mut receiver, &mut hold, &mut stream, &bytes), 6);
     assert_eq!(receiver, example().0);
-    assert_eq!(stream, [1, 0, 0, 0, 0, 0, 0, 0, 0, 0, 0, 4, 28]);
+    assert_eq!(stream, [1, 0, 0, 0, 0, 0, 0, 0, 0, 0, 0, 0, 4, 28]);
     assert_eq!(hold, [9; LEAST_HOLD - 1]);
 }
 
@@ -255,6 +258,7 @@ fn messages_beside_the_book() {
         symbol: 7,
         lot: 100,
         market: b'H'.into(),
+        security_type: 0,
     };
     assert_eq!(message(&common::update(7)), update);
     let state = Body::SystemState {
