@@ -152,12 +152,21 @@ impl Tally {
                 "sheets of 1.3 with a full stop for it",
                 self.typed_sheets[1],
             ),
-            ("another edition number at a start", self.other_numbers[0]),
-            ("the same, a packet accepted", self.other_numbers[1]),
-            ("the same, a packet refused", self.other_numbers[2]),
-            ("the same, a piece", self.other_numbers[3]),
-            ("the same, an opened stream", self.other_numbers[4]),
-            ("the same, a sheet", self.other_numbers[5]),
+            ("another edition number, a start", self.other_numbers[0]),
+            (
+                "another edition number, a packet accepted",
+                self.other_numbers[1],
+            ),
+            (
+                "another edition number, a packet refused",
+                self.other_numbers[2],
+            ),
+            ("another edition number, a piece", self.other_numbers[3]),
+            (
+                "another edition number, an opened stream",
+                self.other_numbers[4],
+            ),
+            ("another edition number, a sheet", self.other_numbers[5]),
             (
                 "a differing copy by undefined bits alone",
                 self.differing_by_undefined_bits,

@@ -128,29 +128,33 @@ fn changed_between_packets(dice: &mut Dice, twins: &mut Twins) -> Outcome {
     for _ in 0..6 {
         let number = edition_number(dice);
         twins.set_edition_number(number);
-        let (symbol, byte) = (dice.between(7, 9) as u32, some_byte_20(dice));
+        // One time in four with a bad test indicator, which every edition refuses.
+        let (byte, others) = (some_byte_20(dice), dice.pick(&[0, 0, 0, 2]));
+        let (body, told) = beside_others(dice, number, byte, others);
         let next = twins.second.state.next;
         // Behind a System Time, whose record has 15 bytes, or before it.
-        let mut records = vec![
-            (next, update_with(symbol, byte)),
-            (next + 1, system_time(9)),
-        ];
-        let mut offset = 30;
+        let mut records = vec![(next, body), (next + 1, system_time(9))];
+        let mut start = 0;
         if dice.chance(500) {
             records.swap(0, 1);
-            offset = 45;
+            start = 15;
         }
-        let (wanted, kept) = match good(number, byte) {
-            true => (Ok((next + 2, 0)), u64::from(number == 1)),
-            false => (Err(Refusal::at(4, offset)), number),
+        let (wanted, kept) = match told {
+            None => (Ok((next + 2, 0)), u64::from(number == 1)),
+            Some(refusal) => (Err(refusal.behind(start + 10)), number),
         };
         comes_to(twins, &packet(&records), wanted)?;
-        if twins.proved.state[3] != kept {
-            let told = twins.proved.state[3];
-            return Err(format!("both: edition {told}, and {kept} is told"));
-        }
+        keeps(twins.proved.state[3], kept)?;
     }
     Ok(())
+}
+
+/// What must stand as the edition's number.
+fn keeps(told: u64, wanted: u64) -> Outcome {
+    match told == wanted {
+        true => Ok(()),
+        false => Err(format!("both: edition {told}, and {wanted} is told")),
+    }
 }
 
 /// A Symbol Update waits on the shelf, which one edition let in, when the caller puts another number into the state:
@@ -201,39 +205,60 @@ fn without_a_free_entry(dice: &mut Dice, twins: &mut Twins) -> Outcome {
     Ok(())
 }
 
-/// A recording of Symbol Updates in pieces, over a receiver with any number, which the caller changes once: each
+/// Recordings of Symbol Updates in pieces, over receivers with any number, which the caller changes once more: each
 /// packet is bad or not by the number as it stands when its last byte comes.
 fn in_a_stream(dice: &mut Dice, twins: &mut Twins) -> Outcome {
-    let started = edition_number(dice);
-    example(twins, started, 3)?;
-    let (mut bad, mut next, mut last) = (0, NEXT, (0, 0));
-    let first = edition_number(dice);
-    twins.set_edition_number(first);
-    // Opening writes 0 or 1 into the stream, and no number into the state.
-    twins.open(LEAST_HOLD)?;
-    for number in [first, edition_number(dice), other_number(dice)] {
+    for number in [edition_number(dice), 1, other_number(dice)] {
+        let started = edition_number(dice);
+        example(twins, started, 3)?;
         twins.set_edition_number(number);
-        for _ in 0..4 {
-            let byte = some_byte_20(dice);
-            let packet = record(next, &update_with(8, byte));
-            for piece in cut(dice, &recording(&[packet])) {
-                twins.feed(piece)?;
-            }
-            if good(number, byte) {
-                next += 1;
-            } else {
-                bad += 1;
-                last = (4, 30);
-            }
-            let stream = twins.stream;
-            let told = (stream.bad, twins.second.state.next);
-            if told != (bad, next) || (stream.last_number, stream.last_offset) != last {
-                return Err(format!(
-                    "both: {stream:?}, and {bad} bad, {next}, {last:?} are told"
-                ));
-            }
+        twins.open(LEAST_HOLD)?;
+        let mut told = (0, NEXT, (0, 0));
+        some_updates(dice, twins, number, &mut told)?;
+        let other = edition_number(dice);
+        refused_piece(twins, other)?;
+        some_updates(dice, twins, other, &mut told)?;
+    }
+    Ok(())
+}
+
+/// Four packets with Symbol Updates as the next message, each in pieces. Told are the bad ones, the next number, and
+/// number and offset of the last that was refused.
+fn some_updates(
+    dice: &mut Dice,
+    twins: &mut Twins,
+    number: u64,
+    told: &mut (u64, u64, (u8, u64)),
+) -> Outcome {
+    for _ in 0..4 {
+        let byte = some_byte_20(dice);
+        let packet = record(told.1, &update_with(8, byte));
+        for piece in cut(dice, &recording(&[packet])) {
+            twins.feed(piece)?;
+        }
+        match good(number, byte) {
+            true => told.1 += 1,
+            false => (told.0, told.2) = (told.0 + 1, (4, 30)),
+        }
+        let stream = twins.stream;
+        let last = (stream.last_number, stream.last_offset);
+        if (stream.bad, twins.second.state.next, last) != *told {
+            return Err(format!("both: {stream:?}, and {told:?} is told"));
         }
     }
+    Ok(())
+}
+
+/// The caller puts this number into a stream whose next number is bad: a piece is refused by 6 and leaves both, the
+/// next number until the caller puts it right.
+fn refused_piece(twins: &mut Twins, number: u64) -> Outcome {
+    let next = twins.second.state.next;
+    twins.alter(|desk| desk.state.next = 0);
+    twins.set_edition_number(number);
+    twins.feed(&[1])?;
+    keeps(twins.proved.state[3], number)?;
+    twins.alter(|desk| desk.state.next = next);
+    twins.set_edition_number(number);
     Ok(())
 }
 
