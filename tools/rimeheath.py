@@ -15,14 +15,15 @@ import time
 
 ROOT = os.path.dirname(os.path.dirname(os.path.realpath(__file__)))
 # The program `sheet` says the same of itself; tools/try-command holds them to each other.
-VERSION = "rimeheath 1.0, for DoM 1.3.b\n"
+VERSION = "rimeheath 1.0, for DoM 1.3, 1.3.a and 1.3.b\n"
+EDITIONS = ("1.3", "1.3.a", "1.3.b")
 BLOCK = 65536
 IN_MEMORY = 1 << 26  # longer outputs wait on disk
 
 USAGE = """\
-usage: ./rimeheath sheet   [--progress] [RECORDING]
-       ./rimeheath answers [--progress] [RECORDING]
-       ./rimeheath read    [--progress] [RECORDING]
+usage: ./rimeheath sheet   [--edition 1.3|1.3.a|1.3.b] [--progress] [RECORDING]
+       ./rimeheath answers [--edition 1.3|1.3.a|1.3.b] [--progress] [RECORDING]
+       ./rimeheath read    [--edition 1.3|1.3.a|1.3.b] [--progress] [RECORDING]
        ./rimeheath --help | --version
 
 sheet    prints the order book that a recording leaves, as an answer sheet
@@ -35,6 +36,9 @@ A recording is packets, each behind its length in two bytes, low byte first. It
 is read from the file RECORDING, or from standard input. Nothing is printed
 before it has been read to its end.
 
+  --edition   names the edition of the recording: 1.3, where byte 20 of a Symbol
+              Update is the security type, 'E' or 'F'; or 1.3.a or 1.3.b, where
+              that byte is reserved, as where no edition is named
   --progress  tells on standard error how many MB have been read, and how many
               percent where the size is known; a terminal is told unasked, where
               the reading takes longer than a second
@@ -49,15 +53,16 @@ says why, and 2 where the words are wrong.
 """
 
 SHEET = """\
-usage: ./rimeheath sheet [--progress] [RECORDING]
+usage: ./rimeheath sheet [--edition 1.3|1.3.a|1.3.b] [--progress] [RECORDING]
 
 Prints the order book that a recording leaves, as an answer sheet: whether the
 recording is whole or cut, bad packets, next, stop, second, and each symbol with
-its ladders. A packet that the recording cuts off is not taken.
+its ladders, in 1.3 with its security type too. A packet that the recording cuts
+off is not taken.
 """
 
 ANSWERS = """\
-usage: ./rimeheath answers [--progress] [RECORDING]
+usage: ./rimeheath answers [--edition 1.3|1.3.a|1.3.b] [--progress] [RECORDING]
 
 Prints the receiver's answer to each packet: records taken, old, too far,
 repeated, differing; next, applied, highest on the shelf, stop; or 'refused' and
@@ -67,13 +72,14 @@ levels and spread. A packet that the recording cuts off is left out.
 """
 
 READ = """\
-usage: ./rimeheath read [--progress] [RECORDING]
+usage: ./rimeheath read [--edition 1.3|1.3.a|1.3.b] [--progress] [RECORDING]
 
 Prints what each packet holds: 'records' and how many, and for each record a
 line with its sequence number, its type byte and its fields in the order of
-their places; or 'refused' and the number and, but for 1, 'at' and the offset of
-the first byte at fault, from 0 in the packet, then which record that is, from
-1, and what is wrong there. A packet that the recording cuts off is left out.
+their places, in 1.3 the security type too; or 'refused' and the number and, but
+for 1, 'at' and the offset of the first byte at fault, from 0 in the packet,
+then which record that is, from 1, and what is wrong there. A packet that the
+recording cuts off is left out.
 """
 
 # What each command runs and says of itself, and whether its program prints something of every recording.
@@ -301,10 +307,10 @@ def feed(fd, name, pipe, progress):
         progress.add(len(block))
 
 
-# Runs the program and holds what it prints. Where the recording cannot be read to its end, the program is ended before its input is, so
-# that it never takes an error for the end.
-def run(program, fd, name, progress, held):
-    child = subprocess.Popen([f"{ROOT}/tools/run-program", program], stdin=subprocess.PIPE, stdout=subprocess.PIPE, bufsize=0)
+# Runs the program with these words and holds what it prints. Where the recording cannot be read to its end, the program is ended before its
+# input is, so that it never takes an error for the end.
+def run(program, words, fd, name, progress, held):
+    child = subprocess.Popen([f"{ROOT}/tools/run-program", program, *words], stdin=subprocess.PIPE, stdout=subprocess.PIPE, bufsize=0)
     trouble = []
 
     def hold():
@@ -359,13 +365,22 @@ def main(words):
     else:
         wrong(f"unknown word '{first}'; try ./rimeheath --help")
 
-    path, asked = None, False
-    for word in rest:
+    path, asked, edition = None, False, None
+    left = iter(rest)
+    for word in left:
         if word in answers:
             if len(rest) > 1:
                 wrong(f"{word} stands alone")
         elif word == "--progress":
             asked = True
+        elif word == "--edition":
+            if edition is not None:
+                wrong(f"a second edition: {first} reads one recording")
+            edition = next(left, None)
+            if edition is None:
+                wrong(f"no edition is named; try ./rimeheath {first} --help")
+            if edition not in EDITIONS:
+                wrong(f"unknown edition '{edition}': there are {', '.join(EDITIONS)}")
         elif word.startswith("-") or word == "":
             wrong(f"unknown word '{word}'; try ./rimeheath {first} --help")
         elif path is not None:
@@ -381,7 +396,7 @@ def main(words):
     fd, name, size = open_recording(path, closed)
     make_ready(program)
     with tempfile.SpooledTemporaryFile(IN_MEMORY) as held:
-        run(program, fd, name, Progress(asked, size), held)
+        run(program, ["--edition", edition] if edition else [], fd, name, Progress(asked, size), held)
         if prints and held.tell() == 0:
             sys.exit(1)  # the program has said why
         held.seek(0)

@@ -1,14 +1,21 @@
-"""Packets for the reader of tap packets (DoM 1.3.b), and what must be printed for them.
+"""Packets for the reader of tap packets (DoM 1.3, 1.3.a, 1.3.b), and what must be printed for them.
 
-    python3 tools/vectors.py stdin       all packets, each behind a 2-byte little-endian length
-    python3 tools/vectors.py stdout      the text that a right reader prints for them
-    python3 tools/vectors.py check FILE  compare FILE with that text, show the first difference
-    python3 tools/vectors.py messages FILE  compare the tables of docs/MESSAGES.md with the script's
-    python3 tools/vectors.py counts      how many packets are good or refused (to standard error)
+    python3 tools/vectors.py stdin   all packets, each behind a 2-byte little-endian length
+    python3 tools/vectors.py stdout [EDITION]
+                                     the text that a right reader of that edition prints for them
+    python3 tools/vectors.py check FILE [EDITION]
+                                     compare FILE with that text, show the first difference
+    python3 tools/vectors.py messages FILE
+                                     compare the tables of docs/MESSAGES.md with the script's
+    python3 tools/vectors.py counts [EDITION]
+                                     how many packets are good or refused (to standard error)
 
-The script rests on document 01, on Nos. 2, 5 and 6 of document 02 and on section 4 of document 003
-alone. It shares nothing with the library, so that a slip in one shows against the other. Every run
-gives the same bytes.
+The edition is 1.3, 1.3.a or 1.3.b, and 1.3.b where none is named; 1.3.a and 1.3.b are one edition
+here. The packets are the same for all.
+
+The script rests on document 01, on Nos. 2, 5, 6 and 10 of document 02 and on section 4 of documents
+003 (1.3.b) and 000 (1.3) alone. It shares nothing with the library, so that a slip in one shows
+against the other. Every run gives the same bytes.
 
 The text, packet by packet:
 
@@ -25,17 +32,23 @@ of 4 the message and the field. Messages and judged fields have the names of doc
 
 All is decimal, with one space between, and each line ends with one line feed. A field of more
 than one letter is printed byte by byte; the Attributable ID of an Add is one number. Reserved
-bytes are not printed, nor are the nanoseconds and the test byte of a Symbol Update.
+bytes are not printed, nor are the nanoseconds and the test byte of a Symbol Update. Its byte 20 is
+printed in 1.3, where it is the security type, and not from 1.3.a on, where it is reserved.
 
 The script has four parts. The tables are copied from the documents: those of 003, section 4, and
 document 01's table of five messages. The reader cuts fields out by offsets. The composer puts
 bodies together field behind field. The list of packets states by hand what most packets must
-give, a fault's offset as the sum of what was put in front of it. Each run compares the four with
-each other and fails with a message if they disagree.
+give, a fault's offset as the sum of what was put in front of it. Each part is of 1.3.b, and says
+once what 1.3 has in its place. Each run compares the four with each other, edition by edition, and
+fails with a message if they disagree.
 """
 
 import itertools
 import sys
+
+# Document 02, No. 10: "Our older recordings are version 1.3", and "from 1.3.a it is reserved".
+OLDER, LATER = EDITIONS = "1.3", "1.3.b"
+NAMES = {"1.3": OLDER, "1.3.a": LATER, "1.3.b": LATER}
 
 # ---------------------------------------------------------------------------------------------
 # The tables of the documents
@@ -77,6 +90,10 @@ PRINTED = {
     11: ("4.11", "Trade Cancel", [TYPE, STAMP, SYMBOL, TRADE_ID, CORRECTION, PRICE, SIZE]),
 }
 
+# 000, section 4, prints the same of version 1.3, but for one field: by type and place in the table,
+# what it has where 003 has a reserved byte.
+PRINTED_IN_1_3 = {(1, 4): ("Security Type", 1, "Alphanumeric")}
+
 # Document 01's table of message bodies, word by word: type, length, fields.
 SCOPE = {
     49: (5, "seconds 1-4"),
@@ -87,16 +104,22 @@ SCOPE = {
     21: (30, "nanoseconds 1-4, symbol 5-8, order 9-16, price 17-24, size 25-28, flags 29"),
     23: (17, "nanoseconds 1-4, symbol 5-8, order 9-16"),
 }
+# What document 02, No. 10, has in its place: "version 1.3, where byte 20 of a Symbol Update is
+# Security Type".
+SCOPE_IN_1_3 = {1: ("reserved 20", "Security Type 20")}
 
 # Document 01's field ranges, by the name of the field in 003, and the messages that have them:
 # "The price and size ranges hold in all eleven messages", the others where document 01 has them.
 # Document 02, No. 2: "the field range for flags is struck out". No. 6: "The largest good value is
 # 999,999,999, in every message that carries the field", which 003 prints as Timestamp, a NanoTime.
+# No. 10: "Security Type, `E` or `F`", and "Under 1.3 any other byte is refused with 4"; no table of
+# 1.3.b has a field of that name.
 RANGES = {
     "Timestamp": ("0 to 999,999,999", [1, 83, 4, 5, 20, 21, 23, 24, 10, 11]),
     "Order Side": ("`B` or `S`", [20]),
     "Price": ("1 to 10^15", [20, 21, 24, 10, 11]),
     "Size": ("1 or more", [20, 21, 24, 10, 11]),
+    "Security Type": ("`E` or `F`", [1]),
     "Test Security Indicator": ("`Y` or `N`", [1]),
     "Primary Market Code": ("one of A B C H I J K L M N P Q U V W X Y Z", [1]),
 }
@@ -114,17 +137,25 @@ REFUSALS_IN_ORDER = {
 }
 
 
-def places(kind):
-    """The fields of a message as 003 prints them: name, first and last offset, data type."""
+def printed(kind, edition):
+    """The fields of a message as the edition's document prints them: name, length, data type."""
+    fields = PRINTED[kind][2]
+    if edition == LATER:
+        return fields
+    return [PRINTED_IN_1_3.get((kind, place), field) for place, field in enumerate(fields)]
+
+
+def places(kind, edition=LATER):
+    """The same with their places: name, first and last offset, data type."""
     at = 0
-    for name, width, data_type in PRINTED[kind][2]:
+    for name, width, data_type in printed(kind, edition):
         yield name, at, at + width - 1, data_type
         at += width
 
 
-def length_of(kind):
-    """The sum of the lengths that 003 prints, the type byte included."""
-    return sum(width for _, width, _ in PRINTED[kind][2])
+def length_of(kind, edition=LATER):
+    """The sum of the lengths that are printed, the type byte included."""
+    return sum(width for _, width, _ in printed(kind, edition))
 
 
 def span(first, last):
@@ -141,7 +172,8 @@ LARGEST_NUMBER = 10**12
 LARGEST_PRICE = 10**15
 LARGEST_NANOSECOND = 999_999_999
 MARKETS = b"ABCHIJKLMNPQUVWXYZ"
-IN_WORDS = {"test": "test indicator"}  # judged fields with another name in the text
+# Judged fields with another name in the text.
+IN_WORDS = {"security": "security type", "test": "test indicator"}
 
 NUMBER = "one number"
 BYTES = "byte by byte"
@@ -219,6 +251,16 @@ MESSAGES = {
         ("price", 18, 25, NUMBER),
         ("size", 26, 29, NUMBER)]),
 }
+# Version 1.3 has this where the others have a reserved byte: by type and offset.
+MESSAGES_IN_1_3 = {(1, 20): ("security", 20, 20, NUMBER)}
+
+
+def read_fields(kind, edition):
+    """The fields of a message, each as (name, first offset, last offset, how it is printed)."""
+    fields = MESSAGES[kind][2]
+    if edition == LATER:
+        return fields
+    return [MESSAGES_IN_1_3.get((kind, field[1]), field) for field in fields]
 
 
 class Refused(Exception):
@@ -238,8 +280,8 @@ def little(part):
 
 
 def in_range(field, value):
-    """Document 01's field ranges, without that of the flags and with that of the nanoseconds. What
-    has none is always in range."""
+    """Document 01's field ranges, without that of the flags and with those of the nanoseconds and
+    the security type. What has none is always in range."""
     if field == "nanoseconds":
         return value <= LARGEST_NANOSECOND
     if field == "price":
@@ -248,6 +290,8 @@ def in_range(field, value):
         return value >= 1
     if field == "side":
         return value in b"BS"
+    if field == "security":
+        return value in b"EF"
     if field == "test":
         return value in b"YN"
     if field == "market":
@@ -255,20 +299,20 @@ def in_range(field, value):
     return True
 
 
-def read_body(body):
+def read_body(body, edition):
     """The type and the fields (a dictionary) of a good body; else Refused 3 or 4, in the body."""
     if len(body) == 0:
         raise Refused(3, 0, "empty body")
     kind = body[0]
     if kind not in MESSAGES:
         raise Refused(3, 0, "unknown type")
-    name, length, fields = MESSAGES[kind]
+    name, length, _ = MESSAGES[kind]
     if len(body) != length:
         raise Refused(3, 0, name + ", wrong length")
     values, faults = {}, []
-    for field, first, last, printed in fields:
+    for field, first, last, form in read_fields(kind, edition):
         part = body[first:last + 1]
-        values[field] = part if printed == BYTES else little(part)
+        values[field] = part if form == BYTES else little(part)
         if not in_range(field, values[field]):
             faults.append((first, "%s, %s" % (name, IN_WORDS.get(field, field))))
     if faults:
@@ -276,7 +320,7 @@ def read_body(body):
     return kind, values
 
 
-def read_record(rest):
+def read_record(rest, edition):
     """The record in front of these bytes, as (sequence number, type, fields), and how many bytes it
     has; else Refused, in the record."""
     if len(rest) < HEADER:
@@ -288,13 +332,13 @@ def read_record(rest):
     if number == 0 or number > LARGEST_NUMBER:
         raise Refused(5, 0, "sequence number")
     try:
-        kind, values = read_body(rest[HEADER:HEADER + length])
+        kind, values = read_body(rest[HEADER:HEADER + length], edition)
     except Refused as fault:
         raise Refused(fault.number, HEADER + fault.offset, fault.words) from None
     return (number, kind, values), HEADER + length
 
 
-def read_packet(packet):
+def read_packet(packet, edition):
     """The records of a good packet, each as (sequence number, type, fields); else Refused."""
     if len(packet) == 0 or len(packet) > LARGEST_PACKET:
         raise Refused(1)
@@ -302,7 +346,7 @@ def read_packet(packet):
     at = 0
     while at < len(packet):
         try:
-            one, length = read_record(packet[at:])
+            one, length = read_record(packet[at:], edition)
         except Refused as fault:
             words = "record %d, %s" % (len(records) + 1, fault.words)
             raise Refused(fault.number, at + fault.offset, words) from None
@@ -311,10 +355,10 @@ def read_packet(packet):
     return records
 
 
-def expected_lines(packet):
+def expected_lines(packet, edition=LATER):
     """The lines to be printed for one packet, without their line feeds."""
     try:
-        records = read_packet(packet)
+        records = read_packet(packet, edition)
     except Refused as fault:
         if fault.offset is None:
             return ["refused %d" % fault.number]
@@ -322,10 +366,10 @@ def expected_lines(packet):
     lines = ["records %d" % len(records)]
     for number, kind, values in records:
         words = [str(number), str(kind)]
-        for field, _, _, printed in MESSAGES[kind][2]:
-            if printed == NUMBER:
+        for field, _, _, form in read_fields(kind, edition):
+            if form == NUMBER:
                 words.append(str(values[field]))
-            elif printed == BYTES:
+            elif form == BYTES:
                 words.extend(str(byte) for byte in values[field])
         lines.append(" ".join(words))
     return lines
@@ -361,6 +405,8 @@ LAYOUT = {
     CANCEL: [("nanoseconds", 4, 1010), ("symbol", 4, 7), ("trade", 8, 901), ("correction", 1, 0),
              ("price", 8, 10005000), ("size", 4, 60)],
 }
+# Version 1.3 has this where the others have a reserved byte: by type and field.
+LAYOUT_IN_1_3 = {(UPDATE, "reserved20"): ("security", 1, ord("E"))}
 KINDS = list(LAYOUT)
 UNPRINTED = {(UPDATE, "nanoseconds"), (UPDATE, "reserved20"), (UPDATE, "test"),
              (UPDATE, "reserved22")}
@@ -378,26 +424,41 @@ STARTS = {
     TRADE: {"nanoseconds": 1, "price": 18, "size": 26},
     CANCEL: {"nanoseconds": 1, "price": 18, "size": 26},
 }
+STARTS_IN_1_3 = {UPDATE: {"nanoseconds": 1, "security": 20, "test": 21, "market": 41}}
 JUDGED = {(kind, field) for kind, starts in STARTS.items() for field in starts}
 # The judged fields as docs/MESSAGES.md calls them, and a bad value of each.
 CALLED = {"nanoseconds": "nanoseconds", "side": "side", "price": "price", "size": "size",
-          "test": "test indicator", "market": "market"}
-WRONG = {"nanoseconds": 10**9, "side": ord("X"), "price": 0, "size": 0, "test": ord("X"),
-         "market": ord("D")}
+          "security": "security type", "test": "test indicator", "market": "market"}
+WRONG = {"nanoseconds": 10**9, "side": ord("X"), "price": 0, "size": 0, "security": ord("G"),
+         "test": ord("X"), "market": ord("D")}
 
 
-def whole(kind, changes):
+def layout(kind, edition):
+    """The fields of a message, each as (name, length, an ordinary value)."""
+    if edition == LATER:
+        return LAYOUT[kind]
+    return [LAYOUT_IN_1_3.get((kind, field[0]), field) for field in LAYOUT[kind]]
+
+
+def starts_in(kind, edition):
+    """Where the judged fields of a message start."""
+    starts = STARTS.get(kind, {})
+    return starts if edition == LATER else STARTS_IN_1_3.get(kind, starts)
+
+
+def whole(kind, edition, changes):
     """The values of all fields of a message, the ordinary ones where `changes` has none."""
-    unknown = set(changes) - {field for field, _, _ in LAYOUT[kind]}
+    unknown = set(changes) - {field for field, _, _ in layout(kind, edition)}
     if unknown:
         sys.exit("no such field in a message of type %d: %s" % (kind, unknown))
-    return [(field, width, changes.get(field, usual)) for field, width, usual in LAYOUT[kind]]
+    return [(field, width, changes.get(field, usual))
+            for field, width, usual in layout(kind, edition)]
 
 
-def compose(kind, **changes):
+def compose(kind, edition=LATER, **changes):
     """The body of a message, the fields one behind the other."""
     body = bytes([kind])
-    for _, width, value in whole(kind, changes):
+    for _, width, value in whole(kind, edition, changes):
         part = value if isinstance(value, bytes) else value.to_bytes(width, "little")
         if len(part) != width:
             sys.exit("a field of type %d has %d bytes, not %d" % (kind, len(part), width))
@@ -405,10 +466,10 @@ def compose(kind, **changes):
     return body
 
 
-def stated_line(number, kind, **changes):
+def stated_line(number, kind, edition=LATER, **changes):
     """The line that must be printed for a good record, from the values it was composed of."""
     words = [number, kind]
-    for field, _, value in whole(kind, changes):
+    for field, _, value in whole(kind, edition, changes):
         if (kind, field) not in UNPRINTED:
             words.extend(value if isinstance(value, bytes) else [value])
     return " ".join(str(word) for word in words)
@@ -460,9 +521,9 @@ class Dice:
         letters = bytes(self.between(65, 90) for _ in range(self.between(1, width)))
         return letters.ljust(width)
 
-    def message(self):
-        """The type and the fields of a good message of any kind."""
-        kind = self.pick(KINDS)
+    def message(self, kind=None):
+        """The type and the fields of a good message, of any kind where none is given."""
+        kind = self.pick(KINDS) if kind is None else kind
         changes = {}
         for field, width, usual in LAYOUT[kind]:
             if field == "nanoseconds":
@@ -490,12 +551,35 @@ class Dice:
 
 
 class Vector:
-    """A packet, what it is for, and the lines stated for it by hand (None if none are)."""
+    """A packet, what it is for, and by edition the lines stated for it (None if none are)."""
 
     def __init__(self, label, packet, stated):
         self.label = label
         self.packet = packet
         self.stated = stated
+
+
+def refused(number, offset, words):
+    """The line of a packet that is refused with 2, 3, 4 or 5, at this offset and in these words."""
+    return "refused %d at %d: %s" % (number, offset, words)
+
+
+def renamed(kind, changes):
+    """The values of a message of 1.3.b under the names of version 1.3."""
+    return {LAYOUT_IN_1_3.get((kind, field), (field,))[0]: value
+            for field, _, value in whole(kind, LATER, changes)}
+
+
+def untyped(packet, offset):
+    """Of a packet that 1.3.b refuses at this offset: the place and start of the first Symbol Update
+    whose byte 20 lies in front of that and is no security type, so that 1.3 refuses it there. The
+    records before the fault are good, and their lengths lead from one to the next."""
+    place, start = 1, 0
+    while start + 10 + 20 < offset:
+        if packet[start + 10] == UPDATE and packet[start + 10 + 20] not in b"EF":
+            return place, start
+        place, start = place + 1, start + 10 + little(packet[start + 8:start + 10])
+    return None
 
 
 class Vectors:
@@ -505,24 +589,37 @@ class Vectors:
         self.list = []
 
     def good(self, label, *records):
-        """A good packet; each record is (number, type) or (number, type, {field: value})."""
-        packet = b""
-        lines = ["records %d" % len(records)]
-        for number, kind, *rest in records:
+        """A packet that is good in 1.3.b; each record is (number, type) or (number, type, {field:
+        value}). In 1.3 it is good but for a Symbol Update without a security type."""
+        packet, untyped_lines = b"", []
+        lines = {edition: ["records %d" % len(records)] for edition in EDITIONS}
+        for place, (number, kind, *rest) in enumerate(records, 1):
             changes = rest[0] if rest else {}
+            older = renamed(kind, changes)
+            if older.get("security", ord("E")) not in b"EF":
+                untyped_lines.append(refused(*bad_field(kind, "security", place, len(packet))))
             packet += record(number, compose(kind, **changes))
-            lines.append(stated_line(number, kind, **changes))
-        self.list.append(Vector(label, packet, lines))
+            lines[LATER].append(stated_line(number, kind, **changes))
+            lines[OLDER].append(stated_line(number, kind, OLDER, **older))
+        self.list.append(Vector(label, packet, {
+            OLDER: untyped_lines[:1] or lines[OLDER], LATER: lines[LATER]}))
         return packet
 
     def bad(self, label, number, offset, words, packet):
-        """A packet that must be refused with 2, 3, 4 or 5, at this offset and in these words."""
-        stated = "refused %d at %d: %s" % (number, offset, words)
-        self.list.append(Vector(label, packet, [stated]))
+        """A packet that must be refused with 2, 3, 4 or 5, at this offset and in these words,
+        unless 1.3 refuses a Symbol Update without a security type before that."""
+        stated = refused(number, offset, words)
+        first = untyped(packet, offset)
+        older = refused(*bad_field(UPDATE, "security", *first)) if first else stated
+        self.list.append(Vector(label, packet, {OLDER: [older], LATER: [stated]}))
 
     def bad_length(self, label, packet):
         """A packet of no bytes or too many, which is refused as a whole: with 1 alone."""
-        self.list.append(Vector(label, packet, ["refused 1"]))
+        self.by_edition(label, packet, ["refused 1"], ["refused 1"])
+
+    def by_edition(self, label, packet, older, later):
+        """A packet, and the lines of 1.3 and of 1.3.b for it."""
+        self.list.append(Vector(label, packet, {OLDER: older, LATER: later}))
 
     def judge(self, label, in_order, kind, field, value):
         """Record 1 alone, with a judged field: good if `in_order`, else refused with 4."""
@@ -534,13 +631,14 @@ class Vectors:
 
     def unstated(self, label, packet):
         """A packet of which only the reader says what it gives."""
-        self.list.append(Vector(label, packet, None))
+        self.by_edition(label, packet, None, None)
 
 
 def bad_field(kind, field, place=1, start=0):
     """Number, offset and words of a bad field in the record that starts at this byte: its header of
-    10 bytes and the body's first bytes stand in front of the field."""
-    return (4, start + 10 + STARTS[kind][field],
+    10 bytes and the body's first bytes stand in front of the field. 1.3 judges all fields that
+    1.3.b does."""
+    return (4, start + 10 + starts_in(kind, OLDER)[field],
             "record %d, %s, %s" % (place, PRINTED[kind][1], CALLED[field]))
 
 
@@ -579,9 +677,9 @@ def add_exercises(vectors):
         sys.exit("the composed example is not the one written out by hand")
     for one in EXAMPLE:
         vectors.good("the example, number %d alone" % one[0], one)
-    vectors.list.append(Vector(
-        "P1: price 10.000000 is bytes 80 96 98 00 00 00 00 00", EXAMPLE_BYTES[2],
-        ["records 1", "3 20 0 7 500 66 10000000 100 538976288"]))
+    price = ["records 1", "3 20 0 7 500 66 10000000 100 538976288"]
+    vectors.by_edition("P1: price 10.000000 is bytes 80 96 98 00 00 00 00 00", EXAMPLE_BYTES[2],
+                       price, price)
     vectors.good("P2: number 64", (64, TIME))
     vectors.good("P2: number 65", (65, TIME))
     vectors.good("P3: numbers 68, 69 and 4", (68, CLEAR), (69, CLEAR), (4, CLEAR))
@@ -1148,30 +1246,288 @@ def add_random(vectors):
         vectors.unstated("damaged packet %d" % (turn + 1), damage(dice, packet))
 
 
+# A byte 20 that is no security type: next to the letters, the letters in lower case, no letter.
+NO_TYPES = (0, ord(" "), ord("D"), ord("G"), ord("e"), ord("f"), 255)
+NO_TYPE = "Symbol Update, security type"
+
+
+def update(byte, **others):
+    """A Symbol Update with this byte at 20, the same whichever edition composes it."""
+    body = compose(UPDATE, OLDER, security=byte, **others)
+    if body != compose(UPDATE, LATER, reserved20=byte, **others):
+        sys.exit("the editions compose another Symbol Update")
+    return body
+
+
+def update_line(number, byte, edition):
+    """The line of a good Symbol Update with this byte at 20: only 1.3 prints it."""
+    field = {OLDER: "security", LATER: "reserved20"}[edition]
+    return stated_line(number, UPDATE, edition, **{field: byte})
+
+
+def add_byte_20(vectors):
+    """Every value of byte 20 in a Symbol Update alone; document 01's example with both types; and
+    the letters in the places beside it."""
+    for byte in range(256):
+        later = ["records 1", update_line(1, byte, LATER)]
+        older = ["records 1", update_line(1, byte, OLDER)]
+        if chr(byte) not in "EF":
+            older = ["refused 4 at 30: record 1, " + NO_TYPE]
+        vectors.by_edition("byte 20 is %d" % byte, record(1, update(byte)), older, later)
+    for letter, byte in (("E", 69), ("F", 70)):
+        symbol = EXAMPLE_BYTES[1][:30] + letter.encode("ascii") + EXAMPLE_BYTES[1][31:]
+        front, behind = ("2 1 7 65 66 67 32 32 32 32 32 32 32 32",
+                         "100 48 57 58 51 48 58 48 48 49 54 58 48 48 58 48 48 72")
+        adds = ["3 20 0 7 500 66 10000000 100 538976288", "4 20 0 7 501 83 10020000 200 538976288",
+                "5 20 0 7 502 66 10000000 50 538976288"]
+        vectors.by_edition(
+            "the example with type %s" % letter,
+            b"".join([EXAMPLE_BYTES[0], symbol, *EXAMPLE_BYTES[2:]]),
+            ["records 5", "1 49 34200", "%s %d %s" % (front, byte, behind), *adds],
+            ["records 5", "1 49 34200", "%s %s" % (front, behind), *adds])
+    for letter in b"EF":
+        beside = {"ticker": bytes([letter] * 11), "reserved22": letter}
+        for byte in NO_TYPES:
+            packet = record(1, update(byte, **beside))
+            vectors.by_edition(
+                "byte 20 is %d between letters %c" % (byte, letter), packet,
+                ["refused 4 at 30: record 1, " + NO_TYPE],
+                ["records 1", stated_line(1, UPDATE, reserved20=byte, **beside)])
+        for other in (0, 255):
+            beside = {"ticker": bytes([other] * 11), "reserved22": other}
+            vectors.by_edition(
+                "type %c between bytes %d" % (letter, other), record(1, update(letter, **beside)),
+                ["records 1", stated_line(1, UPDATE, OLDER, security=letter, **beside)],
+                ["records 1", stated_line(1, UPDATE, reserved20=letter, **beside)])
+
+
+def between(place, line):
+    """The lines of a good packet of three whose record of this place has this line."""
+    lines = ["7 49 34200", "9 5 1004 7"]  # FRONT and REAR
+    lines.insert(place - 1, line)
+    return ["records 3", *lines]
+
+
+def add_types_beside_bad_fields(vectors):
+    """Types, and bytes that are none, beside every choice of the other judged fields of a Symbol
+    Update, alone and as each of three records: of several bad ones the first by its place is told,
+    and byte 20 lies behind the Timestamp and in front of test and market."""
+    offsets = {"nanoseconds": 1, "test": 21, "market": 41}
+    words = {"nanoseconds": "nanoseconds", "test": "test indicator", "market": "market"}
+    choices = [fields for count in range(4) for fields in itertools.combinations(offsets, count)]
+    for byte, fields in itertools.product((*b"EF", *NO_TYPES), choices):
+        part = record(8, update(byte, **{field: WRONG[field] for field in fields}))
+        label = "byte 20 is %d, bad %s" % (byte, " and ".join(fields) or "nothing else")
+        for where, place, start, before, behind in [("alone", 1, 0, b"", b""), *PLACES]:
+            if fields:
+                told = "record %d, Symbol Update, %s" % (place, words[fields[0]])
+                later = [refused(4, start + 10 + offsets[fields[0]], told)]
+            elif where == "alone":
+                continue  # it stands above, with every byte
+            else:
+                later = between(place, update_line(8, byte, LATER))
+            if byte not in b"EF" and "nanoseconds" not in fields:
+                older = [refused(4, start + 10 + 20, "record %d, %s" % (place, NO_TYPE))]
+            else:
+                older = later if fields else between(place, update_line(8, byte, OLDER))
+            vectors.by_edition("%s, %s" % (label, where), before + part + behind, older, later)
+
+
+def add_types_beside_other_faults(vectors):
+    """Types, and bytes that are none, beside a wrong length, a bad number and a body past the end,
+    as each of three records: 2, 5 and 3 come before 4, so both editions tell the same."""
+    for byte, one in itertools.product((*b"EF", 0, ord("G")), PLACES):
+        where, place, start, before, behind = one
+        good = update(byte)
+
+        def alike(label, number, offset, words, part):
+            lines = [refused(number, start + offset, "record %d, %s" % (place, words))]
+            vectors.by_edition("byte 20 is %d, %s, %s" % (byte, label, where),
+                               before + part + behind, lines, lines)
+        for length in (1, 20, 21, 22, 41, 43, 64, 74, 256 + 42):
+            alike("%d bytes" % length, 3, 10, "Symbol Update, wrong length",
+                  record(8, (good + bytes(256))[:length]))
+        alike("a type that is none", 3, 10, "unknown type", record(8, b"\x02" + good[1:]))
+        for number in (0, 10**12 + 1, 2**64 - 1):
+            alike("number %d" % number, 5, 0, "sequence number", record(number, good))
+        alike("number 0 and 41 bytes", 5, 0, "sequence number", record(0, good[:-1]))
+        for more in (1, 1500):
+            alike("%d past the end" % more, 2, 0, "body past the end",
+                  record(8, good, len(good) + len(behind) + more))
+        alike("number 0, past the end", 2, 0, "body past the end",
+              record(0, good, len(good) + len(behind) + 1))
+        for length in (1501, 1502):
+            packet = before + record(8, good) + behind
+            vectors.bad_length("%d bytes with byte 20 %d, %s" % (length, byte, where),
+                               packet + bytes(length - len(packet)))
+
+
+def add_several_types(vectors):
+    """Symbol Updates that are good in 1.3.b alone, before and behind other records: 1.3 tells the
+    first of them, and 1.3.b what else there is. No record is good in 1.3 alone."""
+    bytes_20 = (*b"EF", 0, ord("G"))
+    for first, second in itertools.product(bytes_20, bytes_20):
+        older = ["records 2", update_line(6, first, OLDER), update_line(8, second, OLDER)]
+        if second not in b"EF":
+            older = ["refused 4 at %d: record 2, %s" % (52 + 30, NO_TYPE)]
+        if first not in b"EF":
+            older = ["refused 4 at 30: record 1, " + NO_TYPE]
+        vectors.by_edition(
+            "bytes 20 of two are %d and %d" % (first, second),
+            record(6, update(first)) + record(8, update(second)), older,
+            ["records 2", update_line(6, first, LATER), update_line(8, second, LATER)])
+    faults = ONE_OF_EACH[:-1]
+    faults.append(("market D", 4, 10 + 41, "Symbol Update, market",
+                   record(8, update(ord("E"), market=ord("D")))))
+    for label, refusal, at, words, part in faults:
+        for letter in b"EF":
+            lines = [refused(refusal, 15 + 52 + at, "record 3, %s" % words)]
+            vectors.by_edition("type %c, then %s" % (letter, label),
+                               FRONT + record(6, update(letter)) + part, lines, lines)
+        for byte in NO_TYPES:
+            vectors.by_edition(
+                "byte 20 is %d, then %s" % (byte, label), FRONT + record(6, update(byte)) + part,
+                [refused(4, 15 + 30, "record 2, %s" % NO_TYPE)],
+                [refused(refusal, 15 + 52 + at, "record 3, %s" % words)])
+    for label, refusal, at, words, part in faults[2:]:  # nothing can stand behind the others
+        lines = [refused(refusal, 15 + at, "record 2, %s" % words)]
+        vectors.by_edition("%s, then byte 20 is 0" % label, FRONT + part + record(9, update(0)),
+                           lines, lines)
+    # The first bad field of a Symbol Update in front of a later one without a type.
+    for field in ("nanoseconds", "test", "market"):
+        lines = [refused(*bad_field(UPDATE, field, 2, 15))]
+        part = record(6, update(ord("F"), **{field: WRONG[field]}))
+        vectors.by_edition("bad %s, then byte 20 is 0" % field,
+                           FRONT + part + record(8, update(0)), lines, lines)
+
+
+def add_far_types(vectors):
+    """Bytes that are no security type at offsets that one byte cannot tell, and the last that a
+    packet of 1,500 bytes has."""
+    for offset in (255, 256, 257, 511, 512, 1023, 1024, 1500 - 42 + 20):
+        front, count = fill(offset - 30)
+        kinds = REST[(offset - 30) % 15]
+        lines = [stated_line(1, kind) for kind in kinds] + ["7 49 34200"] * (count - len(kinds))
+        for byte in (*b"EF", 0, ord("G")):
+            later, older = (["records %d" % (count + 1), *lines, update_line(8, byte, edition)]
+                            for edition in (LATER, OLDER))
+            if byte not in b"EF":
+                older = [refused(4, offset, "record %d, %s" % (count + 1, NO_TYPE))]
+            vectors.by_edition("byte 20 is %d, at %d" % (byte, offset),
+                               front + record(8, update(byte)), older, later)
+    ends = [(4, 10 + start, "Symbol Update, " + CALLED[field],
+             update(ord("E"), **{field: WRONG[field]})) for field, start in STARTS[UPDATE].items()]
+    ends += [(3, 10, "Symbol Update, wrong length", update(byte)[:-1]) for byte in (ord("E"), 0)]
+    for refusal, at, words, body in ends:
+        start = 1500 - 10 - len(body)
+        front, count = fill(start)
+        lines = [refused(refusal, start + at, "record %d, %s" % (count + 1, words))]
+        vectors.by_edition("1,500 bytes: %s, byte 20 is %d" % (words, body[20]),
+                           front + record(8, body), lines, lines)
+
+
+def add_byte_20_of_others(vectors):
+    """All eleven messages with letters and other bytes at their own byte 20, where they have one,
+    and behind them where the next record has it: only a Symbol Update is judged there."""
+    def other(kind, field, at, byte):
+        """The message with this byte in the place that is `at` bytes behind the field's first."""
+        usual = dict((name, value) for name, _, value in LAYOUT[kind])[field]
+        value = usual & ~(255 << 8 * at) | byte << 8 * at
+        if compose(kind, **{field: value})[20] != byte:
+            sys.exit("byte 20 of type %d is not %d" % (kind, byte))
+        return kind, {field: value}
+    for byte in (*b"EF", *NO_TYPES):
+        parts = [other(ADD, "price", 2, byte), other(MODIFY, "price", 3, byte),
+                 other(EXECUTION, "trade", 3, byte), other(TRADE, "price", 2, byte),
+                 other(CANCEL, "price", 2, byte)]
+        for kind, changes in parts:
+            vectors.good("type %d, its byte 20 is %d" % (kind, byte), (1, kind, changes))
+        # A Delete has 17 bytes, a Symbol Clear 9, a System Time 5.
+        vectors.good("byte %d at 20 from a Delete's type, in the next number" % byte,
+                     (1, DELETE), (byte * 2**24 + 1, TIME))
+        vectors.good("byte %d at 20 from a Symbol Clear's type, in the next nanoseconds" % byte,
+                     (1, CLEAR), (2, CLEAR, {"nanoseconds": byte}))
+        vectors.good("byte %d at 20 from a System Time's type, in the next symbol" % byte,
+                     (1, TIME), (2, CLEAR, {"symbol": byte}))
+        short = [(TIME, {}), (STATE, {}), (STATUS, {}), (CLEAR, {}), (DELETE, {})]
+        for letter in (byte, ord("E")):
+            later, older = (
+                ["records 11", *(stated_line(number, kind, **changes)
+                                 for number, (kind, changes) in enumerate(short + parts, 1)),
+                 update_line(11, letter, edition)] for edition in (LATER, OLDER))
+            # In front of it stand 15 + 25 + 22 + 19 + 27 + 44 + 40 + 48 + 41 + 40 bytes.
+            if letter not in b"EF":
+                older = [refused(4, 321 + 30, "record 11, %s" % NO_TYPE)]
+            vectors.by_edition(
+                "all eleven, byte 20 is %d, of the Symbol Update %d" % (byte, letter),
+                b"".join(record(number, compose(kind, **changes))
+                         for number, (kind, changes) in enumerate(short + parts, 1))
+                + record(11, update(letter)), older, later)
+
+
+def add_random_types(vectors):
+    """Random good packets with Symbol Updates of both types and of none, and damaged copies."""
+    dice = Dice(20200715)
+    packets = []
+    for turn in range(150):
+        records = random_records(dice, 1 + turn % 3)
+        kind, changes = dice.message(UPDATE)
+        records.insert(dice.below(len(records) + 1), (dice.between(1, 10**6), kind, changes))
+        for _, kind, changes in records:
+            if kind == UPDATE:
+                changes["reserved20"] = dice.pick(b"EEEFFF\x00G")
+        packets.append(vectors.good("random good packet with a type %d" % (turn + 1), *records))
+    for turn, packet in enumerate(packets):
+        vectors.unstated("damaged packet with a type %d" % (turn + 1), damage(dice, packet))
+
+
 def compare_tables():
-    """The reader, the composer and document 01's table against the tables of 003."""
+    """The reader, the composer and document 01's table against the tables that are printed."""
     if not set(PRINTED) == set(MESSAGES) == set(LAYOUT):
         sys.exit("the tables have not the same types")
-    for kind, (_, name, _) in PRINTED.items():
-        spans = [(first, last) for _, first, last, _ in places(kind)][1:]
-        if MESSAGES[kind][:2] != (name, length_of(kind)):
-            sys.exit("%s: the reader has another name or length" % name)
-        if [(first, last) for _, first, last, _ in MESSAGES[kind][2]] != spans:
-            sys.exit("%s: the reader has other offsets" % name)
-        if [width for _, width, _ in LAYOUT[kind]] != [last - first + 1 for first, last in spans]:
-            sys.exit("%s: the composer has other lengths" % name)
-        judged = [(MESSAGES[kind][2][place - 1][0], first)
-                  for place, (field, first, _, _) in enumerate(places(kind))
-                  if field in RANGES and kind in RANGES[field][1]]
-        if judged != list(STARTS.get(kind, {}).items()):
-            sys.exit("%s: other fields are judged, or start elsewhere" % name)
-    for kind, (length, fields) in SCOPE.items():
-        listed = ", ".join(
-            "%s %s" % ({"reserved20": "reserved", "reserved22": "reserved",
-                        "attributable": "attributable ID"}.get(field, field), span(first, last))
-            for field, first, last, _ in MESSAGES[kind][2])
-        if (length, fields) != (MESSAGES[kind][1], listed):
-            sys.exit("type %d: document 01 has %d bytes, %s" % (kind, length, fields))
+    for edition in EDITIONS:
+        for kind in PRINTED:
+            compare_message(kind, edition)
+        for kind in SCOPE:
+            compare_scope(kind, edition)
+
+
+def compare_message(kind, edition):
+    """What the reader and the composer have of a message against its printed table."""
+    name = PRINTED[kind][1]
+    told = "%s in %s" % (name, edition)
+    spans = [(first, last) for _, first, last, _ in places(kind, edition)][1:]
+    fields = read_fields(kind, edition)
+    if MESSAGES[kind][:2] != (name, length_of(kind, edition)):
+        sys.exit("%s: the reader has another name or length" % told)
+    if [(first, last) for _, first, last, _ in fields] != spans:
+        sys.exit("%s: the reader has other offsets" % told)
+    composed = layout(kind, edition)
+    if [width for _, width, _ in composed] != [last - first + 1 for first, last in spans]:
+        sys.exit("%s: the composer has other lengths" % told)
+    if [field for field, _, _ in composed] != [field for field, _, _, _ in fields]:
+        sys.exit("%s: the reader and the composer have other fields" % told)
+    unprinted = [field for field, _, _, form in fields if form == HIDDEN]
+    if unprinted != [field for field, _, _ in composed if (kind, field) in UNPRINTED]:
+        sys.exit("%s: the reader does not print what is stated" % told)
+    judged = [(fields[place - 1][0], first)
+              for place, (field, first, _, _) in enumerate(places(kind, edition))
+              if field in RANGES and kind in RANGES[field][1]]
+    if judged != list(starts_in(kind, edition).items()):
+        sys.exit("%s: other fields are judged, or start elsewhere" % told)
+
+
+def compare_scope(kind, edition):
+    """What the reader has of a message against document 01, and for 1.3 document 02."""
+    length, fields = SCOPE[kind]
+    if edition == OLDER and kind in SCOPE_IN_1_3:
+        fields = fields.replace(*SCOPE_IN_1_3[kind])
+    called = {"reserved20": "reserved", "reserved22": "reserved", "security": "Security Type",
+              "attributable": "attributable ID"}
+    listed = ", ".join("%s %s" % (called.get(field, field), span(first, last))
+                       for field, first, last, _ in read_fields(kind, edition))
+    if (length, fields) != (MESSAGES[kind][1], listed):
+        sys.exit("type %d in %s: the documents have %d bytes, %s" % (kind, edition, length, fields))
 
 
 def all_vectors():
@@ -1193,18 +1549,31 @@ def all_vectors():
     add_faults_of_two_records(vectors)
     add_faults_at_once(vectors)
     add_random(vectors)
+    add_byte_20(vectors)
+    add_types_beside_bad_fields(vectors)
+    add_types_beside_other_faults(vectors)
+    add_several_types(vectors)
+    add_far_types(vectors)
+    add_byte_20_of_others(vectors)
+    add_random_types(vectors)
     for place, vector in enumerate(vectors.list, 1):
-        lines = expected_lines(vector.packet)
-        if vector.stated is not None and lines != vector.stated:
-            sys.exit("packet %d (%s): the reader gives %s, stated is %s" % (
-                place, vector.label, lines, vector.stated))
-        if lines[0].startswith("records"):
-            again = b"".join(record(number, compose(kind, **values))
-                             for number, kind, values in read_packet(vector.packet))
-            if again != vector.packet:
-                sys.exit("packet %d (%s): what was read does not compose to the same bytes" % (
-                    place, vector.label))
+        for edition in EDITIONS:
+            compare_vector(place, vector, edition)
     return vectors.list
+
+
+def compare_vector(place, vector, edition):
+    """What the reader gives for a packet against what is stated, and composed again."""
+    stated, lines = vector.stated[edition], expected_lines(vector.packet, edition)
+    if stated is not None and lines != stated:
+        sys.exit("packet %d (%s) in %s: the reader gives %s, stated is %s" % (
+            place, vector.label, edition, lines, stated))
+    if lines[0].startswith("records"):
+        again = b"".join(record(number, compose(kind, edition, **values))
+                         for number, kind, values in read_packet(vector.packet, edition))
+        if again != vector.packet:
+            sys.exit("packet %d (%s) in %s: what was read does not compose to the same bytes" % (
+                place, vector.label, edition))
 
 
 # ---------------------------------------------------------------------------------------------
@@ -1217,18 +1586,18 @@ def recording(vectors):
     return b"".join(len(v.packet).to_bytes(2, "little") + v.packet for v in vectors)
 
 
-def expected_text(vectors):
+def expected_text(vectors, edition):
     """All lines, each ended by a line feed."""
-    lines = [line for v in vectors for line in expected_lines(v.packet)]
+    lines = [line for v in vectors for line in expected_lines(v.packet, edition)]
     return "".join(line + "\n" for line in lines).encode("ascii")
 
 
-def check(vectors, path):
+def check(vectors, path, edition):
     """Compare a file with the expected text; 0 if they are equal, else 1."""
     with open(path, "rb") as file:
         given = file.readlines()
     wanted = [(place, (line + "\n").encode("ascii"))
-              for place, v in enumerate(vectors, 1) for line in expected_lines(v.packet)]
+              for place, v in enumerate(vectors, 1) for line in expected_lines(v.packet, edition)]
     for index in range(max(len(given), len(wanted))):
         line = given[index] if index < len(given) else None
         place, want = wanted[index] if index < len(wanted) else (None, None)
@@ -1371,32 +1740,38 @@ def check_page(path):
     return 1 if faults else 0
 
 
-def print_counts(vectors):
+def print_counts(vectors, edition):
     """The number of packets by outcome, and the sizes of both outputs."""
     outcomes = {}
     for vector in vectors:
-        first = expected_lines(vector.packet)[0]
+        first = expected_lines(vector.packet, edition)[0]
         outcome = "good" if first.startswith("records") else first.split(" at ")[0]
         outcomes[outcome] = outcomes.get(outcome, 0) + 1
     for outcome in sorted(outcomes):
         print("%s: %d" % (outcome, outcomes[outcome]), file=sys.stderr)
     print("packets: %d" % len(vectors), file=sys.stderr)
-    print("not stated by hand: %d" % sum(v.stated is None for v in vectors), file=sys.stderr)
+    unstated = sum(v.stated[edition] is None for v in vectors)
+    print("not stated by hand: %d" % unstated, file=sys.stderr)
     print("bytes of stdin: %d" % len(recording(vectors)), file=sys.stderr)
-    print("bytes of stdout: %d" % len(expected_text(vectors)), file=sys.stderr)
+    print("bytes of stdout: %d" % len(expected_text(vectors, edition)), file=sys.stderr)
 
 
 def main(arguments):
-    if arguments == ["stdin"]:
+    part, rest = (arguments or [""])[0], arguments[1:]
+    files = 1 if part in ("check", "messages") else 0
+    edition = NAMES.get(rest[files] if len(rest) > files else LATER)
+    if part in ("stdin", "messages") and len(rest) > files or len(rest) not in (files, files + 1):
+        part = ""
+    if part == "stdin":
         sys.stdout.buffer.write(recording(all_vectors()))
-    elif arguments == ["stdout"]:
-        sys.stdout.buffer.write(expected_text(all_vectors()))
-    elif arguments == ["counts"]:
-        print_counts(all_vectors())
-    elif len(arguments) == 2 and arguments[0] == "check":
-        return check(all_vectors(), arguments[1])
-    elif len(arguments) == 2 and arguments[0] == "messages":
-        return check_page(arguments[1])
+    elif part == "messages":
+        return check_page(rest[0])
+    elif part == "stdout" and edition:
+        sys.stdout.buffer.write(expected_text(all_vectors(), edition))
+    elif part == "counts" and edition:
+        print_counts(all_vectors(), edition)
+    elif part == "check" and edition:
+        return check(all_vectors(), rest[0], edition)
     else:
         print(__doc__, file=sys.stderr)
         return 2
