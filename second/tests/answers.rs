@@ -1,7 +1,7 @@
 //! The lines of `answers`.
 
 mod common;
-use common::{example_file, example_path, seeds, Edition, Reference, V1_3b, EDITIONS};
+use common::{example_file, example_path, seeds, Edition, Reference, V1_3b, EDITIONS, V1_3};
 use second::answers::answers_of_recording;
 use second::examples::*;
 use second::morning::{drawn_recording, packed, recording};
@@ -167,11 +167,17 @@ fn book_told(symbol: u32, orders: &[u64]) -> Vec<String> {
 
 /// The program prints these lines for a file of examples/, piped to it or named.
 fn program_prints(name: &str, lines: &str) {
+    program_prints_in(&[], name, lines);
+}
+
+/// The same where these words name an edition.
+fn program_prints_in(words: &[&str], name: &str, lines: &str) {
     for (input, arguments) in [
         (File::open(example_path(name)).unwrap().into(), vec![]),
         (Stdio::null(), vec![example_path(name)]),
     ] {
         let output = Command::new(env!("CARGO_BIN_EXE_answers"))
+            .args(words)
             .args(arguments)
             .stdin(input)
             .output()
@@ -196,14 +202,22 @@ fn the_long_recording_line_by_line() {
 
 /// A morning comes to the lines that its script in tools/ states for it.
 fn comes_to_what_is_stated(morning: &str) {
+    comes_to_what_is_stated_as(morning, morning);
+}
+
+fn comes_to_what_is_stated_as(morning: &str, stated: &str) {
     let recording = format!("{morning}.rec");
-    let wanted = String::from_utf8(example_file(&format!("{morning}.answers"))).unwrap();
+    let wanted = String::from_utf8(example_file(&format!("{stated}.answers"))).unwrap();
     let lines = text(&example_file(&recording));
+    is_what_is_stated(&lines, &wanted);
+    program_prints(&recording, &wanted);
+}
+
+fn is_what_is_stated(lines: &str, wanted: &str) {
     for (place, (line, want)) in lines.lines().zip(wanted.lines()).enumerate() {
         assert_eq!(line, want, "line {}", place + 1);
     }
     assert_eq!(lines, wanted);
-    program_prints(&recording, &wanted);
 }
 
 #[test]
@@ -219,6 +233,19 @@ fn the_morning_of_the_tap_fault_line_by_line() {
 #[test]
 fn the_morning_of_every_bad_field_line_by_line() {
     comes_to_what_is_stated("offsets");
+}
+
+/// Each edition's lines for the morning of both, as tools/editions.py states them.
+#[test]
+fn the_morning_of_both_editions_line_by_line() {
+    for (edition, name) in [(V1_3, "1.3"), (V1_3b, "1.3.b")] {
+        let wanted = example_file(&format!("editions.{name}.answers"));
+        let wanted = String::from_utf8(wanted).unwrap();
+        let lines = text_in(edition, &example_file("editions.rec"));
+        is_what_is_stated(&lines, &wanted);
+        program_prints_in(&["--edition", name], "editions.rec", &wanted);
+    }
+    comes_to_what_is_stated_as("editions", "editions.1.3.b");
 }
 
 #[test]

@@ -27,6 +27,28 @@ fn sheet2_reads_standard_input_or_a_file() {
     }
 }
 
+/// The sheets of the morning of both editions, and of document 01's example as a recording of 1.3, as
+/// tools/editions.py states them. Read in 1.3.b, the example comes to document 01's sheet.
+#[test]
+fn sheet2_in_each_edition() {
+    for (name, edition, stated) in [
+        ("editions", "1.3", "editions.1.3"),
+        ("editions", "1.3.a", "editions.1.3.b"),
+        ("editions", "1.3.b", "editions.1.3.b"),
+        ("morning-1.3", "1.3", "morning-1.3"),
+        ("morning-1.3", "1.3.a", "morning"),
+        ("morning-1.3", "1.3.b", "morning"),
+    ] {
+        let wanted = example_file(&format!("{stated}.sheet"));
+        let path = example_path(&format!("{name}.rec"));
+        let words = ["--edition".into(), edition.into()];
+        let piped = sheet2(File::open(&path).unwrap().into(), &words);
+        assert!(piped.status.success() && piped.stdout == wanted);
+        let named = sheet2(Stdio::null(), &[&words[..], &[path]].concat());
+        assert!(named.status.success() && named.stdout == wanted);
+    }
+}
+
 #[test]
 fn a_read_error_prints_no_sheet() {
     let folder = PathBuf::from(env!("CARGO_MANIFEST_DIR"));

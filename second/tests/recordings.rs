@@ -385,6 +385,54 @@ fn the_morning_of_every_bad_field() {
     assert_eq!(others, wanted);
 }
 
+/// The morning of both editions comes to the sheets that tools/editions.py states for it, and has what it is there
+/// for: packets that 1.3 alone refuses, by byte 20, and packets that both refuse, each by the field it judges first.
+#[test]
+fn the_morning_of_both_editions() {
+    let stored = example_file("editions.rec");
+    for (edition, name) in [(V1_3, "1.3"), (V1_3b, "1.3.b")] {
+        let wanted = example_file(&format!("editions.{name}.sheet"));
+        let wanted = String::from_utf8(wanted).unwrap();
+        let text = sheet_of_recording(edition, &stored).unwrap();
+        assert_eq!(String::from_utf8(text).unwrap(), wanted);
+    }
+    let field = |edition, packet| match first_fault(edition, packet) {
+        None => None,
+        Some((_, _, Fault::Field(place))) => Some(JUDGED_FIELDS[place].2),
+        Some(_) => Some("another fault"),
+    };
+    let mut faults = BTreeSet::new();
+    for packet in packets_of(&stored).0 {
+        faults.insert((field(V1_3, packet), field(V1_3b, packet)));
+    }
+    for pair in [
+        (None, None),
+        (Some("security type"), None),
+        (Some("nanoseconds"), Some("nanoseconds")),
+        (Some("security type"), Some("test indicator")),
+        (Some("security type"), Some("market")),
+        (Some("another fault"), Some("another fault")),
+    ] {
+        assert!(faults.contains(&pair), "{pair:?} is not in {faults:?}");
+    }
+}
+
+/// Document 01's example as a recording of 1.3: byte 20 is an `E`, and all others are those of examples/morning.rec.
+#[test]
+fn the_example_of_1_3() {
+    let (typed, plain) = (example_file("morning-1.3.rec"), morning_recording());
+    let differ = |at: &usize| typed[*at] != plain[*at];
+    assert_eq!(typed.len(), plain.len());
+    // Behind the packet's length, a System Time of 15 bytes and a header of 10.
+    let places: Vec<_> = (0..plain.len()).filter(differ).collect();
+    assert_eq!(places, [2 + 15 + 10 + 20]);
+    assert_eq!(typed[places[0]], b'E');
+    let wanted = MORNING_SHEET.replace("lot=", "type=E\nlot=");
+    assert!(example_file("morning-1.3.sheet") == wanted.as_bytes());
+    assert!(sheet_of_recording(V1_3, &typed).unwrap() == wanted.as_bytes());
+    assert_eq!(sheet_text(&typed), MORNING_SHEET);
+}
+
 /// Seeded recordings: every one gives a sheet, and together they show every rule and both words.
 #[test]
 fn seeded_recordings() {
