@@ -18,6 +18,16 @@ use std::fmt::Debug;
 /// What two programs answered differently, in words.
 pub type Difference = String;
 
+/// The calls that an edition number decides something in, or that write it.
+const EDITION_CALLS: [&str; 6] = [
+    "a start",
+    "a packet accepted",
+    "a packet refused",
+    "a piece",
+    "an opened stream",
+    "a sheet",
+];
+
 /// What was compared, so that a run can say that it tried everything.
 #[derive(Clone, Debug, Default, PartialEq, Eq)]
 pub struct Tally {
@@ -45,9 +55,8 @@ pub struct Tally {
     pub stops_by_byte_20: u64,
     /// Sheets of 1.3 with a Security Type, and with a full stop in its place.
     pub typed_sheets: [u64; 2],
-    /// Calls that were given another edition number than 0 and 1: starts, packets accepted and refused, pieces,
-    /// opened streams, sheets.
-    pub other_numbers: [u64; 6],
+    /// Calls that were given another edition number than 0 and 1, by the places of `EDITION_CALLS`.
+    pub other_numbers: [u64; EDITION_CALLS.len()],
     pub applied: u64,
     pub bodies: u64,
     /// Starts, views and sheets: those that were not refused by 6, and those that were.
@@ -110,6 +119,14 @@ impl Tally {
         add_each(&mut self.widest_spreads, &other.widest_spreads);
     }
 
+    /// A call, by its name in `EDITION_CALLS`, that was given this edition number.
+    fn note_number(&mut self, call: &str, number: u64) {
+        let place = EDITION_CALLS.iter().position(|known| *known == call);
+        if number > 1 {
+            self.other_numbers[place.expect("a call of an edition")] += 1;
+        }
+    }
+
     /// All that a long run must have seen, and how often this one has.
     pub fn seen(&self) -> Vec<(String, u64)> {
         let mut seen = Vec::new();
@@ -140,6 +157,9 @@ impl Tally {
             seen.push((format!("type {kind}, Timestamp of 999,999,999"), at));
             seen.push((format!("type {kind}, Timestamp above that alone"), beyond));
         }
+        for (call, count) in EDITION_CALLS.iter().zip(self.other_numbers) {
+            seen.push((format!("another edition number, {call}"), count));
+        }
         for (what, count) in [
             ("stop 27 by a Timestamp alone", self.stops_by_timestamp),
             ("stop 27 by byte 20 alone", self.stops_by_byte_20),
@@ -152,21 +172,6 @@ impl Tally {
                 "sheets of 1.3 with a full stop for it",
                 self.typed_sheets[1],
             ),
-            ("another edition number, a start", self.other_numbers[0]),
-            (
-                "another edition number, a packet accepted",
-                self.other_numbers[1],
-            ),
-            (
-                "another edition number, a packet refused",
-                self.other_numbers[2],
-            ),
-            ("another edition number, a piece", self.other_numbers[3]),
-            (
-                "another edition number, an opened stream",
-                self.other_numbers[4],
-            ),
-            ("another edition number, a sheet", self.other_numbers[5]),
             (
                 "a differing copy by undefined bits alone",
                 self.differing_by_undefined_bits,
@@ -331,7 +336,7 @@ impl Twins {
             &mut proved.state,
         );
         self.tally.starts[usize::from(wanted == 6)] += 1;
-        self.tally.other_numbers[0] += u64::from(self.start_number > 1);
+        self.tally.note_number("a start", self.start_number);
         same("start: answer", &number, &wanted)?;
         same("start: state", &self.proved.state, &state)?;
         self.same_tables("start")
@@ -344,11 +349,10 @@ impl Twins {
         self.bad = 0;
         self.proved_hold.clone_from(&self.hold);
         self.proved_stream = [MARK; 14];
-        self.tally.other_numbers[4] += u64::from(self.proved.state[3] > 1);
-        let state = self.proved.state;
+        self.tally
+            .note_number("an opened stream", self.proved.state[3]);
         let number = lent::open(&self.proved.state, &mut self.proved_stream);
         same("open: answer", &number, &0)?;
-        same("open: state", &self.proved.state, &state)?;
         same("open: stream", &self.proved_stream, &self.stream_numbers())
     }
 
@@ -356,7 +360,7 @@ impl Twins {
     /// unfinished packet, all tables, and whether a recording that ended here would be cut.
     pub fn feed(&mut self, chunk: &[u8]) -> Result<(), Difference> {
         let before = self.stream;
-        self.tally.other_numbers[3] += u64::from(self.proved_stream[3] > 1);
+        self.tally.note_number("a piece", self.proved_stream[3]);
         let wanted = told(self.stream.feed(&mut self.second, &mut self.hold, chunk));
         let wanted_stream = match wanted {
             0 => self.stream_numbers(),
@@ -409,7 +413,7 @@ impl Twins {
         let edition = self.second.state.edition;
         let proved = &mut self.proved;
         let mut wanted_state = proved.state;
-        let other_number = proved.state[3] > 1;
+        let number = proved.state[3];
         let told = lent::receive(
             &mut proved.orders,
             &mut proved.symbols,
@@ -428,9 +432,12 @@ impl Twins {
         same("receive: account", &account, &wanted_account)?;
         same("receive: state", &self.proved.state, &wanted_state)?;
         self.same_tables("receive")?;
-        if other_number {
-            self.tally.other_numbers[1 + usize::from(answer.is_err())] += 1;
-        }
+        let call = if answer.is_ok() {
+            "a packet accepted"
+        } else {
+            "a packet refused"
+        };
+        self.tally.note_number(call, number);
         self.note(edition, packet, &answer);
         Ok(answer)
     }
@@ -652,7 +659,7 @@ impl Twins {
     }
 
     fn note_sheet(&mut self, wanted: &Result<Vec<u8>, u8>) {
-        self.tally.other_numbers[5] += u64::from(self.proved.state[3] > 1);
+        self.tally.note_number("a sheet", self.proved.state[3]);
         let text = wanted.as_deref().map_or(String::new(), shown);
         let has = |wanted: &str| text.lines().any(|line| line == wanted);
         self.tally.typed_sheets[0] += u64::from(has("type=E") || has("type=F"));
