@@ -49,6 +49,10 @@ import sys
 # Document 02, No. 10: "Our older recordings are version 1.3", and "from 1.3.a it is reserved".
 OLDER, LATER = EDITIONS = "1.3", "1.3.b"
 NAMES = {"1.3": OLDER, "1.3.a": LATER, "1.3.b": LATER}
+# Each source document's version and revision date, by its own title.
+DOCUMENTS = {"000": ("1.3", "07/15/2020"), "001": ("1.3", "07/15/2020"),
+             "002": ("1.3.a", "11/05/2020"), "003": ("1.3.b", "09/25/2023"),
+             "004": ("1.3.b", "09/25/2023")}
 
 # ---------------------------------------------------------------------------------------------
 # The tables of the documents
@@ -426,11 +430,11 @@ STARTS = {
 }
 STARTS_IN_1_3 = {UPDATE: {"nanoseconds": 1, "security": 20, "test": 21, "market": 41}}
 JUDGED = {(kind, field) for kind, starts in STARTS.items() for field in starts}
-# The judged fields as docs/MESSAGES.md calls them, and a bad value of each.
+# The judged fields as docs/MESSAGES.md calls them, and a bad value of each that 1.3.b judges.
 CALLED = {"nanoseconds": "nanoseconds", "side": "side", "price": "price", "size": "size",
           "security": "security type", "test": "test indicator", "market": "market"}
-WRONG = {"nanoseconds": 10**9, "side": ord("X"), "price": 0, "size": 0, "security": ord("G"),
-         "test": ord("X"), "market": ord("D")}
+WRONG = {"nanoseconds": 10**9, "side": ord("X"), "price": 0, "size": 0, "test": ord("X"),
+         "market": ord("D")}
 
 
 def layout(kind, edition):
@@ -918,7 +922,7 @@ def add_fields_not_judged(vectors):
                  (5, CLEAR), (6, MODIFY, {"flags": 8}), (7, DELETE))
     vectors.good("two copies of a Modify that differ in bit 5 alone",
                  (6, MODIFY, {"flags": 1}), (6, MODIFY, {"flags": 33}))
-    vectors.good("byte 20 of a Symbol Update is no type here",
+    vectors.good("bytes 20 of a Symbol Update that are a type in 1.3, and others",
                  *[(1, UPDATE, {"reserved20": byte}) for byte in b"EFG "])
     vectors.good("tickers", *[(1, UPDATE, {"ticker": ticker}) for ticker in (
         b"           ", b"A          ", b"ABCDEFGHIJK", b"\x00BC   \x7f\n   ")])
@@ -1649,8 +1653,56 @@ SECOND_RECORDS = [
     ("an Add with price 0 and size 0", record(2, compose(ADD, price=0, size=0))),
     ("an Add with size 0", record(2, compose(ADD, size=0))),
     ("a Modify with size 0", record(2, compose(MODIFY, size=0))),
-    ("a Symbol Update with market `D`", record(2, compose(UPDATE, market=ord("D")))),
+    ("a Symbol Update with market `D`", record(2, update(ord("E"), market=ord("D")))),
 ]
+
+
+# And Symbol Updates in that place, by their byte 20, which the editions read otherwise.
+SECOND_UPDATES = [
+    ("`E`", update(ord("E"))),
+    ("`F`", update(ord("F"))),
+    ("`G`", update(ord("G"))),
+    ("0", update(0)),
+    ("`G`, and 1,000,000,000 nanoseconds", update(ord("G"), nanoseconds=10**9)),
+    ("`G`, and test indicator `X`", update(ord("G"), test=ord("X"))),
+    ("`E`, and test indicator `X`", update(ord("E"), test=ord("X"))),
+    ("`G`, and market `D`", update(ord("G"), market=ord("D"))),
+    ("`G`, and a byte too many", update(ord("G")) + b"\x00"),
+]
+
+
+def outcome(part, edition):
+    """What becomes of a packet of the example's System Time and this record: number and offset."""
+    first = expected_lines(EXAMPLE_BYTES[0] + part, edition)[0]
+    return "good" if first.startswith("records") else first.split(":")[0].split(" ", 1)[1]
+
+
+def tables_of_editions():
+    """The tables of docs/MESSAGES.md about the editions: the documents, what they print otherwise
+    in any message, and what becomes of a Symbol Update."""
+    called = {edition: " and ".join(name for name in NAMES if NAMES[name] == edition)
+              for edition in EDITIONS}
+    yield (["Document", "Version", "Revision date", "Edition here"],
+           [[document, version, date, called[NAMES[version]]]
+            for document, (version, date) in DOCUMENTS.items()])
+    rows = []
+    for kind in PRINTED:
+        fields = {edition: list(places(kind, edition)) for edition in EDITIONS}
+        for place, (older, later) in enumerate(zip(*fields.values())):
+            if older != later:
+                rows += [[PRINTED[kind][1], called[edition], field, span(first, last),
+                          str(last - first + 1), data_type, range_of(kind, field)]
+                         for edition in EDITIONS
+                         for field, first, last, data_type in [fields[edition][place]]]
+    yield ["Message", "Edition", "Field", "Offset", "Length", "Data type", "Range"], rows
+    yield (["Byte 20", "In 1.3", "In 1.3.a and 1.3.b"],
+           [[label, *(outcome(record(2, body), edition) for edition in EDITIONS)]
+            for label, body in SECOND_UPDATES])
+
+
+def range_of(kind, field):
+    """The range of a printed field, as the tables of docs/MESSAGES.md have it."""
+    return RANGES[field][0] if kind in RANGES.get(field, ("", []))[1] else "not judged"
 
 
 def wanted_tables():
@@ -1661,7 +1713,8 @@ def wanted_tables():
                 for field, (_, kinds) in RANGES.items()}
     sums = [kind for kind in PRINTED if kind not in SCOPE]
     refusals = [[str(number), offset] for number, offset in REFUSALS_IN_ORDER.items()]
-    second = [[label, expected_lines(EXAMPLE_BYTES[0] + part)[0].split(":")[0].split(" ", 1)[1]]
+    # A cell that no page has, if the editions differ.
+    second = [[label, " or ".join({outcome(part, edition) for edition in EDITIONS})]
               for label, part in SECOND_RECORDS]
     wanted = {
         "Types and lengths": [
@@ -1687,16 +1740,18 @@ def wanted_tables():
                     ("side", "`B` (66) or `S` (83)", messages["Order Side"]),
                     ("price", price, messages["Price"]),
                     ("size", "1 to 4,294,967,295 (the most that 4 bytes hold)", "the same five"),
+                    ("security", "`E` (69) or `F` (70)",
+                     "%s, in 1.3 alone" % messages["Security Type"]),
                     ("test", "`Y` (89) or `N` (78)", messages["Test Security Indicator"]),
                     ("market", RANGES["Primary Market Code"][0],
                      messages["Primary Market Code"]))])],
+        "Editions (document 02, No. 10)": list(tables_of_editions()),
     }
     for kind, (section, name, _) in PRINTED.items():
         rows = []
         for field, first, last, data_type in places(kind):
-            judged = kind in RANGES.get(field, ("", []))[1]
             row = [field, span(first, last), str(last - first + 1), data_type,
-                   RANGES[field][0] if judged else "not judged"]
+                   range_of(kind, field)]
             rows.append(row if first else row[:4] + ["decides the message"])
         title = "%s (%s): type %d, %d bytes" % (name, section, kind, length_of(kind))
         wanted[title] = [(["Field", "Offset", "Length", "Data type", "Range"], rows)]
