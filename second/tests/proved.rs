@@ -261,6 +261,18 @@ fn messages_beside_the_book() {
         security_type: 0,
     };
     assert_eq!(message(&common::update(7)), update);
+    let typed = Body::SymbolUpdate {
+        symbol: 7,
+        lot: 100,
+        market: b'H'.into(),
+        security_type: b'F'.into(),
+    };
+    let mut body = common::update(7);
+    assert_eq!(proved::body(V1_3, &body), Err(Refusal::at(4, 20)));
+    body[20] = b'F';
+    let fields = proved::body(V1_3, &body).expect("a good body");
+    assert_eq!(fields.message(), Some(typed));
+    assert_eq!(message(&body), update);
     let state = Body::SystemState {
         nanoseconds: 1,
         session: 2,

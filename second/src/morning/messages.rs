@@ -35,8 +35,8 @@ pub fn symbol_update(nanoseconds: u32, symbol: u32, ticker: &[u8; 11], lot: u16)
     )
 }
 
-/// A good body of 1.3.b, or of either edition, as one of this edition: a Symbol Update gets a Security Type where
-/// the edition wants one. Its nanoseconds tell which, since a draw would change what every seed means.
+/// A good body as an edition writes it: a Symbol Update without a Security Type gets one where the edition wants it.
+/// Its nanoseconds tell which, since a draw would change what every seed means.
 pub fn written_in(edition: Edition, mut body: Vec<u8>) -> Vec<u8> {
     let wants = body[0] == SYMBOL_UPDATE && edition.has_security_type();
     if wants && !b"EF".contains(&body[BYTE_20]) {
