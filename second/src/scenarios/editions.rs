@@ -3,7 +3,7 @@
 //! a slip of both programs shows too.
 
 use super::pieces::cut;
-use super::{edition_number, other_number, Outcome};
+use super::{comes_to, edition_number, other_number, Outcome};
 use crate::desk::Desk;
 use crate::edition::{Edition, EDITIONS};
 use crate::examples::example_list;
@@ -16,9 +16,6 @@ use crate::twins::Twins;
 
 /// The number behind document 01's example, which most trials begin with.
 const NEXT: u64 = 6;
-
-/// What a packet must come to: this next number and stop, or this refusal.
-type Wanted = Result<(u64, u8), Refusal>;
 
 pub(super) fn editions(dice: &mut Dice, twins: &mut Twins) -> Outcome {
     every_byte_20(dice, twins)?;
@@ -50,15 +47,6 @@ fn update_with(symbol: u32, byte: u8) -> Vec<u8> {
     let mut body = symbol_update(3, symbol, b"TYPED      ", 100);
     body[20] = byte;
     body
-}
-
-/// A packet that must come to this.
-fn comes_to(twins: &mut Twins, packet: &[u8], wanted: Wanted) -> Outcome {
-    let answer = twins.receive(packet)?;
-    if answer.map(|answer| (answer.next, answer.stop)) == wanted {
-        return Ok(());
-    }
-    Err(format!("both: {answer:?}, and {wanted:?} is told"))
 }
 
 /// The example, numbers 1 to 5, with so many entries, in a receiver that was started with this number.

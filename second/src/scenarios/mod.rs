@@ -11,6 +11,7 @@ mod timestamps;
 
 use crate::edition::Edition;
 use crate::morning::Dice;
+use crate::packet::Refusal;
 use crate::twins::{Difference, Tally, Twins};
 
 type Outcome = Result<(), Difference>;
@@ -123,6 +124,15 @@ fn give(dice: &mut Dice, twins: &mut Twins, packet: &[u8]) -> Outcome {
         twins.sheet(dice)?;
     }
     Ok(())
+}
+
+/// A packet that must come to this next number and stop, or to this refusal.
+fn comes_to(twins: &mut Twins, packet: &[u8], wanted: Result<(u64, u8), Refusal>) -> Outcome {
+    let answer = twins.receive(packet)?;
+    if answer.map(|answer| (answer.next, answer.stop)) == wanted {
+        return Ok(());
+    }
+    Err(format!("both: {answer:?}, and {wanted:?} is told"))
 }
 
 fn give_all(dice: &mut Dice, twins: &mut Twins, packets: &[Vec<u8>]) -> Outcome {

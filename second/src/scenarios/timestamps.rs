@@ -1,7 +1,7 @@
 //! Timestamps around their limit (request 6), in each of the eleven messages, in packets and on the shelf.
 //! What must come of each is told here, so that a slip of both programs shows too.
 
-use super::Outcome;
+use super::{comes_to, Outcome};
 use crate::edition::Edition;
 use crate::examples::example_list;
 use crate::morning::*;
@@ -110,13 +110,4 @@ fn example(twins: &mut Twins) -> Outcome {
     let list = all_written_in(twins.edition(), example_list());
     let opening = packet(&numbered(&list, 1, 5));
     comes_to(twins, &opening, Ok((NEXT, 0)))
-}
-
-/// A packet that must come to this next number and stop, or to this refusal.
-fn comes_to(twins: &mut Twins, packet: &[u8], wanted: Result<(u64, u8), Refusal>) -> Outcome {
-    let answer = twins.receive(packet)?;
-    if answer.map(|answer| (answer.next, answer.stop)) == wanted {
-        return Ok(());
-    }
-    Err(format!("both: {answer:?}, and {wanted:?} is told"))
 }
