@@ -3,6 +3,7 @@
 //! recording must come to the same bytes.
 
 use crate::desk::Desk;
+use crate::edition::Edition;
 use crate::packet::{Refusal, Side};
 use crate::receiver::Answer;
 use crate::sheet::play_telling;
@@ -11,9 +12,10 @@ use crate::views::{ladder, spread};
 use std::fmt::Display;
 
 /// The lines of a recording played from a start at full capacities. A cut last piece gives none.
-pub fn answers_of_recording(recording: &[u8]) -> Result<Vec<u8>, u8> {
+/// They have the same form in each edition.
+pub fn answers_of_recording(edition: Edition, recording: &[u8]) -> Result<Vec<u8>, u8> {
     let mut text = Vec::new();
-    let desk = play_telling(recording, |answer| packet_line(&mut text, answer)).desk;
+    let desk = play_telling(edition, recording, |answer| packet_line(&mut text, answer)).desk;
     line(&mut text, "second", &[desk.state.second]);
     table_lines(&mut text, &desk);
     for place in 0..entries_in(&desk.symbols) {

@@ -1,5 +1,6 @@
 //! A receiver with the tables and the shelf that are lent to it.
 
+use crate::edition::Edition;
 use crate::packet::Refusal;
 use crate::receiver::{receive, start, Answer, State, SHELF_BYTES};
 use crate::tables::{ENTRY_BYTES, MOST_ENTRIES, MOST_ROWS, ROW_NUMBERS};
@@ -24,6 +25,7 @@ impl Desk {
                 next: 9,
                 second: 9,
                 stop: 9,
+                edition: Edition::default(),
             },
             orders: vec![MARK; rows * ROW_NUMBERS],
             symbols: vec![MARK_BYTE; entries * ENTRY_BYTES],
@@ -31,20 +33,21 @@ impl Desk {
         }
     }
 
-    /// A started receiver. It panics where the capacities are outside the limits.
-    pub fn new(rows: usize, entries: usize) -> Desk {
+    /// A started receiver of an edition. It panics where the capacities are outside the limits.
+    pub fn new(edition: Edition, rows: usize, entries: usize) -> Desk {
         let mut desk = Desk::unstarted(rows, entries);
-        desk.start().expect("capacities in the limits");
+        desk.start(edition).expect("capacities in the limits");
         desk
     }
 
     /// The sheet program's: "It uses full capacities."
-    pub fn full() -> Desk {
-        Desk::new(MOST_ROWS, MOST_ENTRIES)
+    pub fn full(edition: Edition) -> Desk {
+        Desk::new(edition, MOST_ROWS, MOST_ENTRIES)
     }
 
-    pub fn start(&mut self) -> Result<(), u8> {
-        self.state = start(&mut self.orders, &mut self.symbols, &mut self.shelf)?;
+    pub fn start(&mut self, edition: Edition) -> Result<(), u8> {
+        let (orders, symbols, shelf) = (&mut self.orders, &mut self.symbols, &mut self.shelf);
+        self.state = start(edition, orders, symbols, shelf)?;
         Ok(())
     }
 

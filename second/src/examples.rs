@@ -1,10 +1,13 @@
-//! The recordings in `examples/`: document 01's whole example, and a long one.
+//! The recordings in `examples/` of 1.3.b: document 01's whole example, and a long one.
 
 use crate::desk::Desk;
+use crate::edition::Edition;
 use crate::morning::*;
 use crate::packet::{little, read_packet};
 use crate::receiver::{highest_number, slot, slot_number};
 use crate::tables::{MOST_ENTRIES, MOST_ROWS};
+
+const EDITION: Edition = Edition::V1_3b;
 
 /// Document 01's example: "second 34200; symbol 7, ABC, lot 100; buy 500 at 10.000000 for 100;
 /// sell 501 at 10.020000 for 200; buy 502 at 10.000000 for 50".
@@ -189,13 +192,16 @@ pub fn long_packets() -> Vec<Vec<u8>> {
     };
     let mut dice = Dice::new(93_000);
     let mut writer = Writer {
-        desk: Desk::full(),
+        desk: Desk::full(EDITION),
         packets: Vec::new(),
     };
     let mut missed = (0, 0); // a next number, and for how many packets it has been missed
-    for (place, mut packet) in delivery(43, &list, settings).into_iter().enumerate() {
+    for (place, mut packet) in delivery(EDITION, 43, &list, settings)
+        .into_iter()
+        .enumerate()
+    {
         if place % 60 == 24 {
-            packet = with_tap_fault(&packet);
+            packet = with_tap_fault(EDITION, &packet);
         }
         writer.give(packet);
         let next = writer.desk.state.next;
@@ -203,13 +209,13 @@ pub fn long_packets() -> Vec<Vec<u8>> {
             if let Some(number) = shelved_number(&mut dice, &writer.desk.shelf, next) {
                 let slot = slot(&writer.desk.shelf, number);
                 let length = little(&slot[8..10]) as usize;
-                let copy = differing_copy(dice.bits(), &slot[10..10 + length]);
+                let copy = differing_copy(EDITION, dice.bits(), &slot[10..10 + length]);
                 writer.give(record(number, &copy));
             }
         }
         if place % 12 == 5 {
             let refusal = 1 + (place / 12 % 5) as u8;
-            writer.give(bad_packet(dice.bits(), &list, refusal));
+            writer.give(bad_packet(EDITION, dice.bits(), &list, refusal));
         }
         missed = if missed.0 == next {
             (next, missed.1 + 1)
@@ -262,7 +268,7 @@ fn gap_fill(writer: &mut Writer, list: &[Vec<u8>]) {
     }
     let records = numbered(list, next as usize, most as usize);
     let packet = packet(&records);
-    assert!(read_packet(&packet).is_ok());
+    assert!(read_packet(EDITION, &packet).is_ok());
     writer.give(packet);
 }
 

@@ -1,5 +1,5 @@
-//! A plain second reading of document 01 (tap packets of DoM 1.3.b into an order book and its
-//! sheet), with requests 2, 5, 6 and 13 of document 02, written from the documents alone. No cleverness:
+//! A plain second reading of document 01 (tap packets of DoM 1.3.b, and of 1.3, into an order book and its
+//! sheet), with requests 2, 5, 6, 10 and 13 of document 02, written from the documents alone. No cleverness:
 //! linear scans everywhere, so that each function can be held against the sentences quoted above it.
 //!
 //! Refusals (6, 30) and broken rules (20 to 27) are document 01's numbers, as plain `u8`. What reads a packet
@@ -14,6 +14,7 @@ pub mod answers;
 pub mod book;
 pub mod command;
 pub mod desk;
+pub mod edition;
 pub mod examples;
 pub mod morning;
 pub mod packet;

@@ -1,6 +1,8 @@
 //! The eleven messages, and reading them: a body (refusals 3, 4), then records and packets
-//! (refusal 1, then record by record 2, 5, 3, 4). Each refusal of 2 to 5 tells its offset (request 5).
+//! (refusal 1, then record by record 2, 5, 3, 4). Each refusal of 2 to 5 tells its offset (request 5). All
+//! readers are told the edition that they read in (request 10).
 
+use crate::edition::{Edition, BYTE_20};
 use std::fmt;
 
 /// "A packet is 1 to 1,500 bytes".
@@ -127,7 +129,8 @@ pub struct SymbolUpdate {
     pub nanoseconds: u32,
     pub symbol: u32,
     pub ticker: [u8; 11],
-    pub reserved20: u8,
+    /// Of 1.3 alone; in other editions byte 20 is reserved.
+    pub security_type: Option<u8>,
     pub test: u8,
     pub reserved22: u8,
     pub lot: u16,
@@ -191,18 +194,20 @@ pub struct Record<'a> {
 
 impl Message {
     /// The type byte and the message's numbers in the order of their places; arrays of letters are
-    /// left out. An attributable ID is the number that its four letters are in little-endian.
+    /// left out. An attributable ID is the number that its four letters are in little-endian. A Symbol
+    /// Update's Security Type, where it has one, stands behind the others.
     pub fn numbers(&self) -> Vec<u64> {
         let (kind, mut numbers): (u8, Vec<u64>) = match *self {
             Message::SystemTime { seconds } => (SYSTEM_TIME, vec![seconds.into()]),
-            Message::SymbolUpdate(update) => (
-                SYMBOL_UPDATE,
-                vec![
+            Message::SymbolUpdate(update) => {
+                let mut numbers = vec![
                     update.symbol.into(),
                     update.lot.into(),
                     update.market.into(),
-                ],
-            ),
+                ];
+                numbers.extend(update.security_type.map(u64::from));
+                (SYMBOL_UPDATE, numbers)
+            }
             Message::SystemState {
                 nanoseconds,
                 session,
@@ -410,7 +415,7 @@ fn timestamp(body: &[u8]) -> Result<u32, Refusal> {
 /// ("a field out of range"), else the message that its type byte decides. Request 5: "for 3 the body's start
 /// or, for an empty body, the place where it would start, for 4 the first byte of the earliest bad field by
 /// offset", so each message's fields are judged in the order of their places.
-pub fn read_body(body: &[u8]) -> Result<Message, Refusal> {
+pub fn read_body(edition: Edition, body: &[u8]) -> Result<Message, Refusal> {
     if body.is_empty() {
         return Err(Refusal::at(3, 0));
     }
@@ -427,7 +432,7 @@ pub fn read_body(body: &[u8]) -> Result<Message, Refusal> {
                 nanoseconds: timestamp(body)?,
                 symbol: u32_at(body, 5),
                 ticker: bytes_at(body, 9),
-                reserved20: body[20],
+                security_type: edition.security_type(body),
                 test: body[21],
                 reserved22: body[22],
                 lot: u16_at(body, 23),
@@ -436,6 +441,10 @@ pub fn read_body(body: &[u8]) -> Result<Message, Refusal> {
                 market: body[41],
                 body: bytes_at(body, 0),
             };
+            // "Security Type, `E` or `F`" ... "Under 1.3 any other byte is refused with 4."
+            if let Some(kind) = update.security_type {
+                check(kind == b'E' || kind == b'F', BYTE_20)?;
+            }
             check(update.test == b'Y' || update.test == b'N', 21)?;
             check(b"ABCHIJKLMNPQUVWXYZ".contains(&update.market), 41)?;
             Ok(Message::SymbolUpdate(update))
@@ -539,7 +548,7 @@ pub fn read_body(body: &[u8]) -> Result<Message, Refusal> {
 
 /// A packet: refused with 1, else by the first fault of its records "from the front, each by 2,
 /// 5, 3, 4", else its records in order.
-pub fn read_packet(packet: &[u8]) -> Result<Vec<Record<'_>>, Refusal> {
+pub fn read_packet(edition: Edition, packet: &[u8]) -> Result<Vec<Record<'_>>, Refusal> {
     if packet.is_empty() || packet.len() > MOST_PACKET_BYTES {
         return Err(Refusal::alone(1));
     }
@@ -547,7 +556,8 @@ pub fn read_packet(packet: &[u8]) -> Result<Vec<Record<'_>>, Refusal> {
     let mut start = 0;
     while start < packet.len() {
         // "the offset in the packet": the offset in the record, behind all records before it.
-        let record = read_record(&packet[start..]).map_err(|refusal| refusal.behind(start))?;
+        let record =
+            read_record(edition, &packet[start..]).map_err(|refusal| refusal.behind(start))?;
         start += HEADER_BYTES + record.body.len();
         records.push(record);
     }
@@ -556,7 +566,7 @@ pub fn read_packet(packet: &[u8]) -> Result<Vec<Record<'_>>, Refusal> {
 
 /// The first record of what is left of a packet, or the refusal of its first fault: 2, 5, 3, 4. Request 5:
 /// "for 2 the record's start, for 5 the number's start", which are the same place.
-pub fn read_record(rest: &[u8]) -> Result<Record<'_>, Refusal> {
+pub fn read_record(edition: Edition, rest: &[u8]) -> Result<Record<'_>, Refusal> {
     // 2: "fewer than 10 header bytes left, or the body runs past the end"
     if rest.len() < HEADER_BYTES {
         return Err(Refusal::at(2, 0));
@@ -572,7 +582,7 @@ pub fn read_record(rest: &[u8]) -> Result<Record<'_>, Refusal> {
     }
     // 3 and 4
     let body = &rest[HEADER_BYTES..HEADER_BYTES + length];
-    let message = read_body(body).map_err(|refusal| refusal.behind(HEADER_BYTES))?;
+    let message = read_body(edition, body).map_err(|refusal| refusal.behind(HEADER_BYTES))?;
     Ok(Record {
         number,
         body,

@@ -3,6 +3,7 @@
 //! `lent` has its twelve calls as they are, over memory that the caller lends; `Proved` is a receiver
 //! with tables of its own, and answers in Rust's forms. All unsafe code of this crate is in `lent`.
 
+use crate::edition::Edition;
 use crate::packet::{Refusal, Side};
 use crate::receiver::{Answer, SHELF_BYTES};
 use crate::tables::{ENTRY_BYTES, ROW_NUMBERS};
@@ -20,13 +21,15 @@ pub const SHEET_BYTES: usize = 1_500_000;
 pub mod lent {
     use std::ffi::c_uchar;
 
-    type State = [u64; 3];
-    /// Next, second, stop; bytes held, bytes to pass over, bad packets; records by 10 to 14; number and offset
+    /// Next, second, stop, and the edition's number: 1 is 1.3, and any other 1.3.a and 1.3.b.
+    pub type State = [u64; 4];
+    /// The state's four; bytes held, bytes to pass over, bad packets; records by 10 to 14; number and offset
     /// of the last refused packet.
-    pub type Stream = [u64; 13];
+    pub type Stream = [u64; 14];
 
     extern "C" {
         fn rimeheath_start(
+            edition: u64,
             orders: *mut u64,
             orders_len: usize,
             symbols: *mut c_uchar,
@@ -74,12 +77,23 @@ pub mod lent {
             counts: *mut [u64; 2],
         ) -> u8;
         fn rimeheath_packet(
+            edition: u64,
             packet: *const c_uchar,
             packet_len: usize,
             records: *mut [u64; 1],
         ) -> u32;
-        fn rimeheath_record(rest: *const c_uchar, rest_len: usize, head: *mut [u64; 2]) -> u32;
-        fn rimeheath_body(body: *const c_uchar, body_len: usize, fields: *mut [u64; 8]) -> u32;
+        fn rimeheath_record(
+            edition: u64,
+            rest: *const c_uchar,
+            rest_len: usize,
+            head: *mut [u64; 2],
+        ) -> u32;
+        fn rimeheath_body(
+            edition: u64,
+            body: *const c_uchar,
+            body_len: usize,
+            fields: *mut [u64; 8],
+        ) -> u32;
         fn rimeheath_sheet(
             text: *mut c_uchar,
             text_len: usize,
@@ -110,6 +124,7 @@ pub mod lent {
     }
 
     pub fn start(
+        edition: u64,
         orders: &mut [u64],
         symbols: &mut [u8],
         shelf: &mut [u8],
@@ -118,6 +133,7 @@ pub mod lent {
         // SAFETY: each pointer comes with its own slice's length, and the four `&mut` are apart.
         unsafe {
             rimeheath_start(
+                edition,
                 orders.as_mut_ptr(),
                 orders.len(),
                 symbols.as_mut_ptr(),
@@ -209,19 +225,19 @@ pub mod lent {
         }
     }
 
-    pub fn packet(packet: &[u8], records: &mut [u64; 1]) -> u32 {
+    pub fn packet(edition: u64, packet: &[u8], records: &mut [u64; 1]) -> u32 {
         // SAFETY: the pointer comes with its slice's length and is only read; the `&mut` is apart.
-        unsafe { rimeheath_packet(packet.as_ptr(), packet.len(), records) }
+        unsafe { rimeheath_packet(edition, packet.as_ptr(), packet.len(), records) }
     }
 
-    pub fn record(rest: &[u8], head: &mut [u64; 2]) -> u32 {
+    pub fn record(edition: u64, rest: &[u8], head: &mut [u64; 2]) -> u32 {
         // SAFETY: the pointer comes with its slice's length and is only read; the `&mut` is apart.
-        unsafe { rimeheath_record(rest.as_ptr(), rest.len(), head) }
+        unsafe { rimeheath_record(edition, rest.as_ptr(), rest.len(), head) }
     }
 
-    pub fn body(body: &[u8], fields: &mut [u64; 8]) -> u32 {
+    pub fn body(edition: u64, body: &[u8], fields: &mut [u64; 8]) -> u32 {
         // SAFETY: the pointer comes with its slice's length and is only read; the `&mut` is apart.
-        unsafe { rimeheath_body(body.as_ptr(), body.len(), fields) }
+        unsafe { rimeheath_body(edition, body.as_ptr(), body.len(), fields) }
     }
 
     pub fn sheet(
@@ -318,6 +334,8 @@ pub enum Body {
         symbol: u64,
         lot: u64,
         market: u64,
+        /// Of 1.3 alone, else 0.
+        security_type: u64,
     },
     SystemState {
         nanoseconds: u64,
@@ -395,6 +413,7 @@ impl Fields {
                 symbol: a,
                 lot: b,
                 market: c,
+                security_type: d,
             },
             83 => Body::SystemState {
                 nanoseconds: a,
@@ -480,24 +499,24 @@ pub struct Counts {
 }
 
 /// How many records a packet has.
-pub fn packet(packet: &[u8]) -> Result<u64, Refusal> {
+pub fn packet(edition: Edition, packet: &[u8]) -> Result<u64, Refusal> {
     let mut records = [0];
-    refused(lent::packet(packet, &mut records))?;
+    refused(lent::packet(edition.number(), packet, &mut records))?;
     Ok(records[0])
 }
 
-pub fn record(rest: &[u8]) -> Result<Head, Refusal> {
+pub fn record(edition: Edition, rest: &[u8]) -> Result<Head, Refusal> {
     let mut head = [0; 2];
-    refused(lent::record(rest, &mut head))?;
+    refused(lent::record(edition.number(), rest, &mut head))?;
     Ok(Head {
         number: head[0],
         length: head[1],
     })
 }
 
-pub fn body(body: &[u8]) -> Result<Fields, Refusal> {
+pub fn body(edition: Edition, body: &[u8]) -> Result<Fields, Refusal> {
     let mut fields = [0; 8];
-    refused(lent::body(body, &mut fields))?;
+    refused(lent::body(edition.number(), body, &mut fields))?;
     Ok(Fields(fields))
 }
 
@@ -508,25 +527,25 @@ pub struct Proved {
     pub orders: Vec<u64>,
     pub symbols: Vec<u8>,
     pub shelf: Vec<u8>,
-    /// Next, second, stop.
-    pub state: [u64; 3],
+    pub state: lent::State,
 }
 
 impl Proved {
-    /// A started receiver of so many rows and entries, or 6.
-    pub fn new(rows: usize, entries: usize) -> Result<Proved, Refusal> {
+    /// A started receiver of an edition, of so many rows and entries, or 6.
+    pub fn new(edition: Edition, rows: usize, entries: usize) -> Result<Proved, Refusal> {
         let mut receiver = Proved {
             orders: vec![0; rows * ROW_NUMBERS],
             symbols: vec![0; entries * ENTRY_BYTES],
             shelf: vec![0; SHELF_BYTES],
-            state: [0; 3],
+            state: [0; 4],
         };
-        receiver.start()?;
+        receiver.start(edition)?;
         Ok(receiver)
     }
 
-    pub fn start(&mut self) -> Result<(), Refusal> {
+    pub fn start(&mut self, edition: Edition) -> Result<(), Refusal> {
         refused(lent::start(
+            edition.number(),
             &mut self.orders,
             &mut self.symbols,
             &mut self.shelf,

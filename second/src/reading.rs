@@ -1,12 +1,20 @@
 //! A packet as `read` prints it: the fields of its records, or its refusal with the record, the message and
 //! the field at fault, by the names of docs/MESSAGES.md. `tools/vectors.py` states the same text.
 
+use crate::edition::{Edition, BYTE_20};
 use crate::packet::*;
 
+/// A field by its message's type, the offset of its first byte, and its name.
+pub type JudgedField = (u8, usize, &'static str);
+
+const SECURITY_TYPE: JudgedField = (SYMBOL_UPDATE, BYTE_20, "security type");
+
 /// "Which fields are judged" of docs/MESSAGES.md: type, offset of the first byte, name. `packet` has the
-/// ranges and offsets that decide; this is to show faults by, and to make them.
-pub const JUDGED_FIELDS: [(u8, usize, &str); 23] = [
+/// ranges and offsets that decide; this is to show faults by, and to make them. The security type is judged
+/// in 1.3 alone (request 10).
+pub const JUDGED_FIELDS: [JudgedField; 24] = [
     (SYMBOL_UPDATE, 1, "nanoseconds"),
+    SECURITY_TYPE,
     (SYMBOL_UPDATE, 21, "test indicator"),
     (SYMBOL_UPDATE, 41, "market"),
     (SYSTEM_STATE, 1, "nanoseconds"),
@@ -30,6 +38,12 @@ pub const JUDGED_FIELDS: [(u8, usize, &str); 23] = [
     (TRADE_CANCEL, 18, "price"),
     (TRADE_CANCEL, 26, "size"),
 ];
+
+/// Those that an edition judges.
+pub fn judged_fields(edition: Edition) -> Vec<JudgedField> {
+    let judges = |field: &JudgedField| *field != SECURITY_TYPE || edition.has_security_type();
+    JUDGED_FIELDS.into_iter().filter(judges).collect()
+}
 
 /// The name of a message by its type.
 pub fn message_name(kind: u8) -> &'static str {
@@ -106,10 +120,10 @@ impl Fault {
 
 /// The first bad record of a packet: its place, counted from 1, the bytes from its start on, and its fault.
 /// None where all are good; the length of the packet (1) is not looked at.
-pub fn first_fault(packet: &[u8]) -> Option<(usize, &[u8], Fault)> {
+pub fn first_fault(edition: Edition, packet: &[u8]) -> Option<(usize, &[u8], Fault)> {
     let (mut rest, mut count) = (packet, 1);
     while !rest.is_empty() {
-        match read_record(rest) {
+        match read_record(edition, rest) {
             Err(refusal) => return Some((count, rest, Fault::of(refusal, rest))),
             Ok(record) => rest = &rest[HEADER_BYTES + record.body.len()..],
         }
@@ -120,9 +134,9 @@ pub fn first_fault(packet: &[u8]) -> Option<(usize, &[u8], Fault)> {
 
 /// The lines of a packet: `records K` and each record's number, type and fields; or one line of its refusal,
 /// as `refused 1` or `refused 4 at 28: record 1, Add Order, price`.
-pub fn lines_of_packet(packet: &[u8]) -> String {
-    match read_packet(packet) {
-        Err(refusal) => refused_line(packet, refusal),
+pub fn lines_of_packet(edition: Edition, packet: &[u8]) -> String {
+    match read_packet(edition, packet) {
+        Err(refusal) => refused_line(edition, packet, refusal),
         Ok(records) => {
             let mut text = format!("records {}\n", records.len());
             for record in records {
@@ -138,8 +152,8 @@ pub fn lines_of_packet(packet: &[u8]) -> String {
     }
 }
 
-fn refused_line(packet: &[u8], refusal: Refusal) -> String {
-    match first_fault(packet) {
+fn refused_line(edition: Edition, packet: &[u8], refusal: Refusal) -> String {
+    match first_fault(edition, packet) {
         Some((record, _, fault)) if refusal.offset.is_some() => {
             format!("refused {refusal}: record {record}, {}\n", fault.words())
         }
@@ -147,8 +161,8 @@ fn refused_line(packet: &[u8], refusal: Refusal) -> String {
     }
 }
 
-/// The type and the fields of a message as they are printed: its numbers, and the letters of the two that
-/// have some, byte by byte.
+/// The type and the fields of a message as they are printed, in the order of their places: its numbers, and the
+/// letters of the two that have some, byte by byte.
 fn printed_fields(message: &Message) -> Vec<u64> {
     let spell = |bytes: &[u8]| bytes.iter().map(|byte| *byte as u64).collect::<Vec<u64>>();
     let numbers = message.numbers();
@@ -156,10 +170,11 @@ fn printed_fields(message: &Message) -> Vec<u64> {
         Message::SymbolUpdate(update) => [
             numbers[..2].to_vec(),
             spell(&update.ticker),
+            update.security_type.into_iter().map(u64::from).collect(),
             numbers[2..3].to_vec(),
             spell(&update.opening),
             spell(&update.closing),
-            numbers[3..].to_vec(),
+            numbers[3..4].to_vec(),
         ]
         .concat(),
         Message::SystemState { version, .. } => [

@@ -1,6 +1,7 @@
 //! The receiver: a shelf of 64 slots, a start, and packets taken one by one.
 
 use crate::book;
+use crate::edition::Edition;
 use crate::packet::{little, read_body, read_packet, Message, Record, Refusal, LAST_NUMBER};
 use crate::tables::{order_table_fits, symbol_table_fits};
 
@@ -17,6 +18,8 @@ pub struct State {
     pub second: u64,
     /// The stop of the last accepted packet, 0 if there was none.
     pub stop: u8,
+    /// Request 10: "A recording's edition is chosen at start." All that is read goes by it, on the shelf too.
+    pub edition: Edition,
 }
 
 /// The answer to an accepted packet.
@@ -112,8 +115,13 @@ pub fn next_fits(next: u64) -> bool {
     (1..=LAST_NUMBER + 1).contains(&next)
 }
 
-/// "A start zeroes all three, the second included, and sets the next number to 1."
-pub fn start(orders: &mut [u64], symbols: &mut [u8], shelf: &mut [u8]) -> Result<State, u8> {
+/// "A start zeroes all three, the second included, and sets the next number to 1." Here the edition is chosen.
+pub fn start(
+    edition: Edition,
+    orders: &mut [u64],
+    symbols: &mut [u8],
+    shelf: &mut [u8],
+) -> Result<State, u8> {
     if !sizes_fit(orders, symbols, shelf) {
         return Err(6);
     }
@@ -124,6 +132,7 @@ pub fn start(orders: &mut [u64], symbols: &mut [u8], shelf: &mut [u8]) -> Result
         next: 1,
         second: 0,
         stop: 0,
+        edition,
     })
 }
 
@@ -139,7 +148,7 @@ pub fn receive(
     if !receiver_fits(state, orders, symbols, shelf) {
         return Err(Refusal::alone(6));
     }
-    let records = read_packet(packet)?;
+    let records = read_packet(state.edition, packet)?;
 
     let mut state = state;
     let first_next = state.next;
@@ -153,7 +162,7 @@ pub fn receive(
             Worked::Differing => answer.differing += 1,
         }
     }
-    state.stop = stop(state.next, orders, symbols, shelf);
+    state.stop = stop(&state, orders, symbols, shelf);
     answer.next = state.next;
     answer.applied = state.next - first_next;
     answer.highest = highest_number(shelf);
@@ -192,7 +201,7 @@ fn work_record(
     slot.copy_from_slice(&wanted);
     // "After each taken record, while the slot for next holds next and its message applies, it is
     // applied, its slot zeroed and next raised by one."
-    while let Some(message) = message_of_next(shelf, state.next) {
+    while let Some(message) = message_of_next(state, shelf) {
         if book::apply(state.next, &message, orders, symbols, &mut state.second).is_err() {
             break;
         }
@@ -203,23 +212,23 @@ fn work_record(
 }
 
 /// The message in next's slot, if the slot holds next and a good body. A length above 64 is no
-/// good body, nor is one that the reader refuses.
-fn message_of_next(shelf: &[u8], next: u64) -> Option<Message> {
-    let slot = slot(shelf, next);
+/// good body, nor is one that the reader refuses, in the edition that the state has now.
+fn message_of_next(state: &State, shelf: &[u8]) -> Option<Message> {
+    let slot = slot(shelf, state.next);
     let length = slot_length(slot);
-    if slot_number(slot) != next || length > PADDED_BYTES {
+    if slot_number(slot) != state.next || length > PADDED_BYTES {
         return None;
     }
-    read_body(&slot[10..10 + length]).ok()
+    read_body(state.edition, &slot[10..10 + length]).ok()
 }
 
 /// "the stop: 0 if next's slot is empty or its message breaks no rule, else the rule that its
 /// message breaks. A slot for next that holds another number or no good body stops with 27."
-fn stop(next: u64, orders: &[u64], symbols: &[u8], shelf: &[u8]) -> u8 {
-    if slot_number(slot(shelf, next)) == 0 {
+fn stop(state: &State, orders: &[u64], symbols: &[u8], shelf: &[u8]) -> u8 {
+    if slot_number(slot(shelf, state.next)) == 0 {
         return 0;
     }
-    match message_of_next(shelf, next) {
+    match message_of_next(state, shelf) {
         None => 27,
         Some(message) => book::broken_rule(&message, orders, symbols).unwrap_or(0),
     }

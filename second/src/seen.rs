@@ -1,5 +1,6 @@
 //! Which faults the refused packets of a run had, and where, so that a run can say that it tried them all.
 
+use crate::edition::Edition;
 use crate::morning::mend_field;
 use crate::packet::*;
 use crate::reading::{first_fault, message_name, Fault, JUDGED_FIELDS};
@@ -21,12 +22,14 @@ pub struct Faults {
     /// By the places of `JUDGED_FIELDS`: the only bad field of its body, and bad behind another.
     alone: [u64; JUDGED_FIELDS.len()],
     behind_another: [u64; JUDGED_FIELDS.len()],
+    /// Told by a bad security type, with a bad test indicator and with a bad market behind it (request 10).
+    security_type_first: [u64; 2],
 }
 
 impl Faults {
-    pub fn note(&mut self, packet: &[u8], refusal: Refusal) {
-        let (Some(offset), Some((record, rest, fault))) = (refusal.offset, first_fault(packet))
-        else {
+    pub fn note(&mut self, edition: Edition, packet: &[u8], refusal: Refusal) {
+        let fault = first_fault(edition, packet);
+        let (Some(offset), Some((record, rest, fault))) = (refusal.offset, fault) else {
             return;
         };
         let number = usize::from(refusal.number) - 2;
@@ -46,19 +49,28 @@ impl Faults {
             Fault::EmptyBody => self.empty_inside += 1,
             Fault::UnknownType => self.unknown_types += 1,
             Fault::WrongLength(_) => self.wrong_lengths += 1,
-            Fault::Field(_) => self.note_fields(body),
+            Fault::Field(_) => self.note_fields(edition, body),
         }
     }
 
-    fn note_fields(&mut self, body: &[u8]) {
-        match bad_fields(body)[..] {
+    fn note_fields(&mut self, edition: Edition, body: &[u8]) {
+        match bad_fields(edition, body)[..] {
             [] => {}
             [only] => self.alone[only] += 1,
-            [_, ref others @ ..] => {
+            [first, ref others @ ..] => {
                 for other in others {
                     self.behind_another[*other] += 1;
+                    self.note_security_type(name_of(first), name_of(*other));
                 }
             }
+        }
+    }
+
+    fn note_security_type(&mut self, first: &str, other: &str) {
+        match (first, other) {
+            ("security type", "test indicator") => self.security_type_first[0] += 1,
+            ("security type", "market") => self.security_type_first[1] += 1,
+            _ => {}
         }
     }
 
@@ -75,6 +87,7 @@ impl Faults {
         self.wrong_lengths += other.wrong_lengths;
         add_each(&mut self.alone, &other.alone);
         add_each(&mut self.behind_another, &other.behind_another);
+        add_each(&mut self.security_type_first, &other.security_type_first);
     }
 
     /// All that a long run must have seen, and how often this one has.
@@ -109,17 +122,27 @@ impl Faults {
             }
             seen.push((format!("{field} alone"), self.alone[place]));
         }
+        for (behind, count) in ["test indicator", "market"]
+            .iter()
+            .zip(self.security_type_first)
+        {
+            seen.push((format!("bad security type before a bad {behind}"), count));
+        }
         seen
     }
 }
 
+fn name_of(place: usize) -> &'static str {
+    JUDGED_FIELDS[place].2
+}
+
 /// The bad fields of a body, four at most, by their places in `JUDGED_FIELDS`: as they are told when each is
 /// mended in turn.
-fn bad_fields(body: &[u8]) -> Vec<usize> {
+fn bad_fields(edition: Edition, body: &[u8]) -> Vec<usize> {
     let mut body = body.to_vec();
     let mut fields = Vec::new();
     for _ in 0..4 {
-        let Err(refusal) = read_body(&body) else {
+        let Err(refusal) = read_body(edition, &body) else {
             break;
         };
         let at = refusal.offset.expect("4 has an offset");

@@ -1,6 +1,7 @@
 //! The sheet, and recordings played into a receiver at full capacities.
 
 use crate::desk::Desk;
+use crate::edition::Edition;
 use crate::packet::{little, Refusal, Side};
 use crate::receiver::{next_fits, Answer, State};
 use crate::tables::*;
@@ -10,7 +11,8 @@ use crate::views::{ladder, live_orders, spread, used_entries};
 pub const SHEET_LEVELS: usize = 10;
 
 /// The sheet's bytes: "key=value lines in a fixed order, each ended by one line feed". It is lent two
-/// tables and a next number, and refuses either by 6, whose line in document 01 excepts no call.
+/// tables and a next number, and refuses either by 6, whose line in document 01 excepts no call. It goes by the
+/// edition of the state (request 10).
 pub fn sheet(
     state: State,
     orders: &[u64],
@@ -35,7 +37,7 @@ pub fn sheet(
     for place in 0..entries_in(symbols) {
         let entry = entry(symbols, place);
         if entry_is_used(entry) {
-            symbol_block(&mut text, entry, orders, symbols)?;
+            symbol_block(&mut text, state.edition, entry, orders, symbols)?;
         }
     }
     Ok(text)
@@ -43,6 +45,7 @@ pub fn sheet(
 
 fn symbol_block(
     text: &mut Vec<u8>,
+    edition: Edition,
     entry: &[u8],
     orders: &[u64],
     symbols: &[u8],
@@ -50,6 +53,10 @@ fn symbol_block(
     let symbol = symbol_of_entry(entry);
     line(text, "symbol", &symbol.to_string());
     line(text, "ticker", &shown_ticker(&entry[9..20]));
+    // Request 10: "Only the 1.3 sheet shows it, as `type=` after `ticker=`."
+    if let Some(kind) = edition.security_type(entry) {
+        line(text, "type", &shown(kind).to_string());
+    }
     line(text, "lot", &little(&entry[23..25]).to_string());
     match spread(orders, symbols, symbol)? {
         Some(spread) => line(text, "spread", &spread.to_string()),
@@ -78,21 +85,21 @@ fn line(text: &mut Vec<u8>, key: &str, value: &str) {
     text.push(b'\n');
 }
 
+/// "bytes outside 32 to 126 shown as a full stop"
+fn shown(byte: u8) -> char {
+    match byte {
+        32..=126 => byte as char,
+        _ => '.',
+    }
+}
+
 /// "trailing spaces of tickers dropped, other bytes outside 32 to 126 shown as a full stop"
 fn shown_ticker(ticker: &[u8]) -> String {
     let mut end = ticker.len();
     while end > 0 && ticker[end - 1] == b' ' {
         end -= 1;
     }
-    let mut shown = String::new();
-    for byte in &ticker[..end] {
-        if (32..=126).contains(byte) {
-            shown.push(*byte as char);
-        } else {
-            shown.push('.');
-        }
-    }
-    shown
+    ticker[..end].iter().map(|byte| shown(*byte)).collect()
 }
 
 /// A receiver with a recording played into it.
@@ -125,13 +132,17 @@ pub fn packets_of(recording: &[u8]) -> (Vec<&[u8]>, bool) {
 }
 
 /// "It uses full capacities. A refused packet is counted as bad and passed over".
-pub fn play(recording: &[u8]) -> Played {
-    play_telling(recording, |_| ())
+pub fn play(edition: Edition, recording: &[u8]) -> Played {
+    play_telling(edition, recording, |_| ())
 }
 
 /// The same, with what `receive` answers to each whole packet told in order.
-pub fn play_telling(recording: &[u8], mut tell: impl FnMut(Result<Answer, Refusal>)) -> Played {
-    let mut desk = Desk::full();
+pub fn play_telling(
+    edition: Edition,
+    recording: &[u8],
+    mut tell: impl FnMut(Result<Answer, Refusal>),
+) -> Played {
+    let mut desk = Desk::full(edition);
     let mut bad = 0;
     let (packets, whole) = packets_of(recording);
     for packet in packets {
@@ -142,8 +153,8 @@ pub fn play_telling(recording: &[u8], mut tell: impl FnMut(Result<Answer, Refusa
     Played { desk, bad, whole }
 }
 
-/// The sheet of a recording.
-pub fn sheet_of_recording(recording: &[u8]) -> Result<Vec<u8>, u8> {
-    let Played { desk, bad, whole } = play(recording);
+/// The sheet of a recording, read in an edition.
+pub fn sheet_of_recording(edition: Edition, recording: &[u8]) -> Result<Vec<u8>, u8> {
+    let Played { desk, bad, whole } = play(edition, recording);
     sheet(desk.state, &desk.orders, &desk.symbols, bad, whole)
 }

@@ -181,6 +181,7 @@ pub fn in_packets(records: &[(u64, Vec<u8>)], most: usize) -> Vec<Vec<u8>> {
 mod tests {
     use super::*;
     use crate::desk::Desk;
+    use crate::edition::Edition;
     use crate::packet::MODIFY_ORDER;
     use crate::tables::MOST_ROWS;
     use crate::views::live_orders;
@@ -209,7 +210,7 @@ mod tests {
             for _ in 0..5_000 {
                 records.push(traffic.message());
             }
-            let mut desk = Desk::full();
+            let mut desk = Desk::full(Edition::default());
             for packet in in_packets(&records, 8) {
                 desk.give(&packet).unwrap();
             }

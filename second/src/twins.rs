@@ -3,10 +3,11 @@
 //! filled with a mark first, so that a stray write shows.
 
 use crate::desk::{Desk, MARK, MARK_BYTE};
+use crate::edition::{Edition, BYTE_20};
 use crate::morning::{differ_in_undefined_bits_alone, set_timestamp, Dice};
 use crate::packet::*;
 use crate::proved::{lent, taken_apart, Proved, SHEET_BYTES};
-use crate::receiver::{filled_slot, slot, slot_number, Answer, SLOTS, SLOT_BYTES};
+use crate::receiver::{filled_slot, slot, slot_number, Answer, State, SLOTS, SLOT_BYTES};
 use crate::seen::{add_each, claimed_body, Faults};
 use crate::sheet::sheet;
 use crate::stream::Stream;
@@ -16,6 +17,16 @@ use std::fmt::Debug;
 
 /// What two programs answered differently, in words.
 pub type Difference = String;
+
+/// The calls that an edition number decides something in, or that write it.
+const EDITION_CALLS: [&str; 6] = [
+    "a start",
+    "a packet accepted",
+    "a packet refused",
+    "a piece",
+    "an opened stream",
+    "a sheet",
+];
 
 /// What was compared, so that a run can say that it tried everything.
 #[derive(Clone, Debug, Default, PartialEq, Eq)]
@@ -37,6 +48,15 @@ pub struct Tally {
     pub stops_by_timestamp: u64,
     /// Records answered 14 that differ from the Modify on the shelf in undefined bits alone (request 2).
     pub differing_by_undefined_bits: u64,
+    /// Symbol Updates in accepted packets by edition and byte 20 (request 10): in 1.3 `E` and `F`, in 1.3.b a
+    /// letter of these and another byte.
+    pub updates: [u64; 4],
+    /// Accepted packets that stopped by 27 for byte 20 alone.
+    pub stops_by_byte_20: u64,
+    /// Sheets of 1.3 with a Security Type, and with a full stop in its place.
+    pub typed_sheets: [u64; 2],
+    /// Calls that were given another edition number than 0 and 1, by the places of `EDITION_CALLS`.
+    pub other_numbers: [u64; EDITION_CALLS.len()],
     pub applied: u64,
     pub bodies: u64,
     /// Starts, views and sheets: those that were not refused by 6, and those that were.
@@ -76,6 +96,10 @@ impl Tally {
         add_each(&mut self.beyond_the_limit, &other.beyond_the_limit);
         self.stops_by_timestamp += other.stops_by_timestamp;
         self.differing_by_undefined_bits += other.differing_by_undefined_bits;
+        add_each(&mut self.updates, &other.updates);
+        self.stops_by_byte_20 += other.stops_by_byte_20;
+        add_each(&mut self.typed_sheets, &other.typed_sheets);
+        add_each(&mut self.other_numbers, &other.other_numbers);
         self.applied += other.applied;
         self.bodies += other.bodies;
         add_each(&mut self.starts, &other.starts);
@@ -93,6 +117,14 @@ impl Tally {
         add_each(&mut self.spoiled, &other.spoiled);
         self.largest_levels += other.largest_levels;
         add_each(&mut self.widest_spreads, &other.widest_spreads);
+    }
+
+    /// A call, by its name in `EDITION_CALLS`, that was given this edition number.
+    fn note_number(&mut self, call: &str, number: u64) {
+        let place = EDITION_CALLS.iter().position(|known| *known == call);
+        if number > 1 {
+            self.other_numbers[place.expect("a call of an edition")] += 1;
+        }
     }
 
     /// All that a long run must have seen, and how often this one has.
@@ -125,8 +157,21 @@ impl Tally {
             seen.push((format!("type {kind}, Timestamp of 999,999,999"), at));
             seen.push((format!("type {kind}, Timestamp above that alone"), beyond));
         }
+        for (call, count) in EDITION_CALLS.iter().zip(self.other_numbers) {
+            seen.push((format!("another edition number, {call}"), count));
+        }
         for (what, count) in [
             ("stop 27 by a Timestamp alone", self.stops_by_timestamp),
+            ("stop 27 by byte 20 alone", self.stops_by_byte_20),
+            ("a Symbol Update of 1.3 with E", self.updates[0]),
+            ("a Symbol Update of 1.3 with F", self.updates[1]),
+            ("a Symbol Update of 1.3.b with E or F", self.updates[2]),
+            ("a Symbol Update of 1.3.b with another", self.updates[3]),
+            ("sheets of 1.3 with a Security Type", self.typed_sheets[0]),
+            (
+                "sheets of 1.3 with a full stop for it",
+                self.typed_sheets[1],
+            ),
             (
                 "a differing copy by undefined bits alone",
                 self.differing_by_undefined_bits,
@@ -156,6 +201,8 @@ impl Tally {
 }
 
 pub struct Twins {
+    /// The edition number that receivers are started with.
+    pub start_number: u64,
     pub proved: Proved,
     pub second: Desk,
     /// The stream of a recording in pieces over the second program's receiver, with its memory.
@@ -171,22 +218,28 @@ impl Twins {
     /// Two receivers with the smallest tables, not started.
     pub fn new() -> Twins {
         let mut twins = Twins {
+            start_number: 0,
             proved: Proved {
                 orders: Vec::new(),
                 symbols: Vec::new(),
                 shelf: Vec::new(),
-                state: [0; 3],
+                state: [0; 4],
             },
             second: Desk::unstarted(1, 1),
             stream: Stream::default(),
             hold: Vec::new(),
-            proved_stream: [0; 13],
+            proved_stream: [0; 14],
             proved_hold: Vec::new(),
             bad: 0,
             tally: Tally::default(),
         };
         twins.lend_again();
         twins
+    }
+
+    /// The edition that receivers are started in.
+    pub fn edition(&self) -> Edition {
+        Edition::of_number(self.start_number)
     }
 
     /// New tables of these capacities, full of marks, and a start.
@@ -213,7 +266,7 @@ impl Twins {
         self.proved.orders.clone_from(&desk.orders);
         self.proved.symbols.clone_from(&desk.symbols);
         self.proved.shelf.clone_from(&desk.shelf);
-        self.proved.state = [desk.state.next, desk.state.second, desk.state.stop.into()];
+        self.proved.state = numbers_of(desk.state);
         desk.state.second %= 1 << 32;
         self.proved_stream = self.stream_numbers();
         self.proved_hold.clone_from(&self.hold);
@@ -225,14 +278,16 @@ impl Twins {
         self.lend_again();
     }
 
-    /// The stream's thirteen numbers in the order of the boundary.
+    /// The stream's fourteen numbers in the order of the boundary.
     fn stream_numbers(&self) -> lent::Stream {
-        let (state, stream) = (&self.second.state, &self.stream);
+        let stream = &self.stream;
+        let [next, second, stop, edition] = numbers_of(self.second.state);
         let [taken, old, too_far, repeated, differing] = stream.totals;
         [
-            state.next,
-            state.second,
-            state.stop.into(),
+            next,
+            second,
+            stop,
+            edition,
             stream.held,
             stream.to_pass,
             stream.bad,
@@ -256,24 +311,32 @@ impl Twins {
     pub fn set_idle_bits_of_stream(&mut self, bits: u64) {
         self.proved_stream[1] |= bits << 32;
         self.proved_stream[2] |= bits << 8;
-        self.proved_stream[11] |= bits << 8;
+        self.proved_stream[12] |= bits << 8;
+    }
+
+    /// The caller puts an edition number, of which all 64 bits count, into state and stream.
+    pub fn set_edition_number(&mut self, number: u64) {
+        self.alter(|desk| desk.state.edition = Edition::of_number(number));
+        self.proved.state[3] = number;
+        self.proved_stream[3] = number;
     }
 
     pub fn start(&mut self) -> Result<(), Difference> {
         let mut state = self.proved.state;
-        let wanted = told(self.second.start());
+        let wanted = told(self.second.start(self.edition()));
         if wanted == 0 {
-            let started = self.second.state;
-            state = [started.next, started.second, started.stop.into()];
+            state = numbers_of(self.second.state);
         }
         let proved = &mut self.proved;
         let number = lent::start(
+            self.start_number,
             &mut proved.orders,
             &mut proved.symbols,
             &mut proved.shelf,
             &mut proved.state,
         );
         self.tally.starts[usize::from(wanted == 6)] += 1;
+        self.tally.note_number("a start", self.start_number);
         same("start: answer", &number, &wanted)?;
         same("start: state", &self.proved.state, &state)?;
         self.same_tables("start")
@@ -284,8 +347,10 @@ impl Twins {
         self.stream = Stream::default();
         self.hold = vec![MARK_BYTE; hold];
         self.bad = 0;
-        self.lend_again();
-        self.proved_stream = [MARK; 13];
+        self.proved_hold.clone_from(&self.hold);
+        self.proved_stream = [MARK; 14];
+        self.tally
+            .note_number("an opened stream", self.proved.state[3]);
         let number = lent::open(&self.proved.state, &mut self.proved_stream);
         same("open: answer", &number, &0)?;
         same("open: stream", &self.proved_stream, &self.stream_numbers())
@@ -295,6 +360,7 @@ impl Twins {
     /// unfinished packet, all tables, and whether a recording that ended here would be cut.
     pub fn feed(&mut self, chunk: &[u8]) -> Result<(), Difference> {
         let before = self.stream;
+        self.tally.note_number("a piece", self.proved_stream[3]);
         let wanted = told(self.stream.feed(&mut self.second, &mut self.hold, chunk));
         let wanted_stream = match wanted {
             0 => self.stream_numbers(),
@@ -315,7 +381,7 @@ impl Twins {
         self.same_tables("feed")?;
         let (cut, wanted_cut) = (lent::cut(&self.proved_stream), self.stream.is_cut());
         same("cut", &cut, &wanted_cut)?;
-        self.proved.state.copy_from_slice(&self.proved_stream[..3]);
+        self.proved.state.copy_from_slice(&self.proved_stream[..4]);
         self.bad = self.stream.bad;
         self.note_feed(wanted, &before);
         Ok(())
@@ -344,8 +410,10 @@ impl Twins {
         self.tally.packets += 1;
         self.read(packet)?;
         let mut account = [MARK; 9];
+        let edition = self.second.state.edition;
         let proved = &mut self.proved;
         let mut wanted_state = proved.state;
+        let number = proved.state[3];
         let told = lent::receive(
             &mut proved.orders,
             &mut proved.symbols,
@@ -357,15 +425,20 @@ impl Twins {
         let answer = self.second.give(packet);
         let mut wanted_account = [MARK; 9];
         if let Ok(answer) = &answer {
-            let after = self.second.state;
-            wanted_state = [after.next, after.second, after.stop.into()];
+            wanted_state = numbers_of(self.second.state);
             wanted_account = account_of(answer);
         }
         same_refusal("receive: number and offset", told, &answer)?;
         same("receive: account", &account, &wanted_account)?;
         same("receive: state", &self.proved.state, &wanted_state)?;
         self.same_tables("receive")?;
-        self.note(packet, &answer);
+        let call = if answer.is_ok() {
+            "a packet accepted"
+        } else {
+            "a packet refused"
+        };
+        self.tally.note_number(call, number);
+        self.note(edition, packet, &answer);
         Ok(answer)
     }
 
@@ -378,41 +451,47 @@ impl Twins {
         Ok(())
     }
 
-    fn note(&mut self, packet: &[u8], answer: &Result<Answer, Refusal>) {
+    fn note(&mut self, edition: Edition, packet: &[u8], answer: &Result<Answer, Refusal>) {
         let tally = &mut self.tally;
         match answer {
             Err(refusal) => {
                 self.bad += 1;
                 tally.refusals[refusal.number as usize] += 1;
-                tally.faults.note(packet, *refusal);
+                tally.faults.note(edition, packet, *refusal);
             }
             Ok(answer) => {
                 tally.refusals[0] += 1;
                 tally.stops[answer.stop as usize] += 1;
                 tally.applied += answer.applied;
                 add_each(&mut tally.records, &answer.counts());
+                let records = read_packet(edition, packet).unwrap_or_default();
+                add_each(&mut tally.updates, &updates(edition, &records));
                 tally.differing_by_undefined_bits +=
-                    differing_by_undefined_bits(packet, answer, &self.second.shelf);
+                    differing_by_undefined_bits(&records, answer, &self.second.shelf);
                 tally.stops_by_timestamp +=
-                    u64::from(stopped_by_timestamp(answer, &self.second.shelf));
+                    u64::from(stopped_by_timestamp(edition, answer, &self.second.shelf));
+                tally.stops_by_byte_20 +=
+                    u64::from(stopped_by_byte_20(edition, answer, &self.second.shelf));
             }
         }
     }
 
     /// The packet reader, then its records and bodies one by one up to the first fault. There the body
-    /// reader also gets all that is left behind the header, where that is more than the header claims.
+    /// reader also gets all that is left behind the header, where that is more than the header claims. All are
+    /// told the edition of the state.
     fn read(&mut self, packet: &[u8]) -> Result<(), Difference> {
+        let (edition, number) = (self.second.state.edition, self.proved.state[3]);
         let mut records = [MARK];
-        let told = lent::packet(packet, &mut records);
-        let wanted = read_packet(packet);
+        let told = lent::packet(number, packet, &mut records);
+        let wanted = read_packet(edition, packet);
         let wanted_records = wanted.as_ref().map_or(MARK, |records| records.len() as u64);
         same_refusal("packet: number and offset", told, &wanted)?;
         same("packet: records", &records, &[wanted_records])?;
         let mut rest = packet;
         loop {
             let mut head = [MARK; 2];
-            let told = lent::record(rest, &mut head);
-            let wanted = read_record(rest);
+            let told = lent::record(number, rest, &mut head);
+            let wanted = read_record(edition, rest);
             let wanted_head = match &wanted {
                 Err(_) => [MARK; 2],
                 Ok(record) => [record.number, record.body.len() as u64],
@@ -420,32 +499,33 @@ impl Twins {
             same_refusal("record: number and offset", told, &wanted)?;
             same("record: head", &head, &wanted_head)?;
             let (body, behind) = claimed_body(rest);
-            self.body(body)?;
+            self.body(number, body)?;
             if wanted.is_err() {
                 return match behind {
                     [] => Ok(()),
-                    _ => self.body(&rest[HEADER_BYTES..]),
+                    _ => self.body(number, &rest[HEADER_BYTES..]),
                 };
             }
             rest = behind;
         }
     }
 
-    /// The body reader, on any bytes.
-    pub fn body(&mut self, body: &[u8]) -> Result<(), Difference> {
+    /// The body reader, on any edition number and any bytes.
+    pub fn body(&mut self, number: u64, body: &[u8]) -> Result<(), Difference> {
+        let edition = Edition::of_number(number);
         self.tally.bodies += 1;
         let mut fields = [MARK; 8];
-        let told = lent::body(body, &mut fields);
-        let wanted = read_body(body);
+        let told = lent::body(number, body, &mut fields);
+        let wanted = read_body(edition, body);
         let wanted_fields = wanted.as_ref().map_or([MARK; 8], fields_of);
         same_refusal("body: number and offset", told, &wanted)?;
         same("body: fields", &fields, &wanted_fields)?;
-        self.note_timestamp(body);
+        self.note_timestamp(edition, body);
         Ok(())
     }
 
-    fn note_timestamp(&mut self, body: &[u8]) {
-        let Some(nanoseconds) = timestamp_of_a_good_rest(body) else {
+    fn note_timestamp(&mut self, edition: Edition, body: &[u8]) {
+        let Some(nanoseconds) = timestamp_of_a_good_rest(edition, body) else {
             return;
         };
         if let Some(place) = place_of(body[0]) {
@@ -571,10 +651,19 @@ impl Twins {
             100_000.. => SHEET_BYTES as u64,
             _ => length + dice.below(3),
         };
+        self.note_sheet(&wanted);
         for length in [enough, dice.below(length)] {
             self.sheet_in(length as usize, bad, whole, &wanted)?;
         }
         Ok(())
+    }
+
+    fn note_sheet(&mut self, wanted: &Result<Vec<u8>, u8>) {
+        self.tally.note_number("a sheet", self.proved.state[3]);
+        let text = wanted.as_deref().map_or(String::new(), shown);
+        let has = |wanted: &str| text.lines().any(|line| line == wanted);
+        self.tally.typed_sheets[0] += u64::from(has("type=E") || has("type=F"));
+        self.tally.typed_sheets[1] += u64::from(has("type=."));
     }
 
     fn sheet_in(
@@ -630,11 +719,11 @@ impl Default for Twins {
 /// How many records of an accepted packet were answered 14 for undefined bits alone, by the shelf that it
 /// left: what lies there came first, and any other copy in reach was answered 14. (Of a message that the
 /// packet also applied, the shelf tells nothing, and its copies are not counted.)
-fn differing_by_undefined_bits(packet: &[u8], answer: &Answer, shelf: &[u8]) -> u64 {
+fn differing_by_undefined_bits(records: &[Record], answer: &Answer, shelf: &[u8]) -> u64 {
     let next_before = answer.next - answer.applied;
     let in_reach = answer.next..next_before + SLOTS;
     let mut count = 0;
-    for record in read_packet(packet).unwrap_or_default() {
+    for record in records {
         let first = slot(shelf, record.number);
         let copy = filled_slot(record.number, record.body);
         let alone =
@@ -652,19 +741,59 @@ fn place_of(kind: u8) -> Option<usize> {
 }
 
 /// What stands in the Timestamp, or as a System Time's seconds, if all the rest of the body is good.
-fn timestamp_of_a_good_rest(body: &[u8]) -> Option<u32> {
+fn timestamp_of_a_good_rest(edition: Edition, body: &[u8]) -> Option<u32> {
     let nanoseconds = little(body.get(1..5)?) as u32;
     let mut at_0 = body.to_vec();
     set_timestamp(&mut at_0, 0);
-    read_body(&at_0).ok().map(|_| nanoseconds)
+    read_body(edition, &at_0).ok().map(|_| nanoseconds)
 }
 
 /// Whether the work stopped at a body that is no good one for its Timestamp alone.
-fn stopped_by_timestamp(answer: &Answer, shelf: &[u8]) -> bool {
+fn stopped_by_timestamp(edition: Edition, answer: &Answer, shelf: &[u8]) -> bool {
+    let told = stopped_at(answer, shelf).and_then(|body| timestamp_of_a_good_rest(edition, body));
+    told.is_some_and(|told| told > LAST_NANOSECOND)
+}
+
+/// Whether it stopped at one that is no good body for byte 20 alone: good in the other edition, and not here.
+fn stopped_by_byte_20(edition: Edition, answer: &Answer, shelf: &[u8]) -> bool {
+    stopped_at(answer, shelf).is_some_and(|body| {
+        read_body(edition, body).is_err() && read_body(edition.other(), body).is_ok()
+    })
+}
+
+/// The body that claims to be next's, at which the work stopped with 27.
+fn stopped_at<'a>(answer: &Answer, shelf: &'a [u8]) -> Option<&'a [u8]> {
     let slot = slot(shelf, answer.next);
-    let (body, _) = claimed_body(slot);
-    let beyond = timestamp_of_a_good_rest(body).is_some_and(|told| told > LAST_NANOSECOND);
-    answer.stop == 27 && slot_number(slot) == answer.next && beyond
+    let stopped = answer.stop == 27 && slot_number(slot) == answer.next;
+    stopped.then(|| claimed_body(slot).0)
+}
+
+/// Symbol Updates among records, as `Tally::updates` has them.
+fn updates(edition: Edition, records: &[Record]) -> [u64; 4] {
+    let mut counts = [0; 4];
+    for record in records {
+        if record.body[0] == SYMBOL_UPDATE {
+            let place = match (edition, record.body[BYTE_20]) {
+                (Edition::V1_3, b'E') => 0,
+                (Edition::V1_3, _) => 1,
+                (Edition::V1_3b, b'E' | b'F') => 2,
+                (Edition::V1_3b, _) => 3,
+            };
+            counts[place] += 1;
+        }
+    }
+    counts
+}
+
+/// A state's four numbers in the header's order.
+fn numbers_of(state: State) -> lent::State {
+    let State {
+        next,
+        second,
+        stop,
+        edition,
+    } = state;
+    [next, second, stop.into(), edition.number()]
 }
 
 fn shown(text: &[u8]) -> String {

@@ -26,9 +26,9 @@ impl Slot {
         }
     }
 
-    fn message(&self) -> Option<Message> {
+    fn message(&self, edition: Edition) -> Option<Message> {
         let body = self.padded.get(..self.length as usize)?;
-        read_body(body).ok()
+        read_body(edition, body).ok()
     }
 }
 
@@ -191,7 +191,7 @@ impl Model {
         if slot.number != self.state.next {
             return 27;
         }
-        match slot.message() {
+        match slot.message(self.state.edition) {
             None => 27,
             Some(message) => match self.clone().apply(self.state.next, message) {
                 Ok(()) => 0,
@@ -204,7 +204,7 @@ impl Model {
     fn work(&mut self, packet: &[u8]) -> Answer {
         let mut answer = Answer::default();
         let before = self.state.next;
-        let mut records: VecDeque<_> = read_packet(packet).unwrap().into();
+        let mut records: VecDeque<_> = read_packet(self.state.edition, packet).unwrap().into();
         while let Some(record) = records.pop_front() {
             let n = record.number;
             let mut padded = record.body.to_vec();
@@ -232,7 +232,7 @@ impl Model {
                     if self.slots[place].number != next {
                         break;
                     }
-                    let Some(message) = self.slots[place].message() else {
+                    let Some(message) = self.slots[place].message(self.state.edition) else {
                         break;
                     };
                     if self.apply(next, message).is_err() {
@@ -280,7 +280,7 @@ fn sizes_good(desk: &Desk) -> bool {
 fn altered_receivers() {
     let mut stops = [0; 28];
     let mut refused = [0; 7];
-    let mut sums = [0; 6];
+    let (mut sums, mut by_edition) = ([0; 6], 0);
     for seed in seeds(4_000) {
         let Case { mut desk, packet } = case(seed, (seed % 4) * 300);
         let before = desk.clone();
@@ -288,8 +288,10 @@ fn altered_receivers() {
         let good = sizes_good(&before) && (1..=LAST_NUMBER + 1).contains(&before.state.next);
         if !good {
             assert_eq!(answer, Err(Refusal::alone(6)), "seed {seed}");
-        } else if let Err(refusal) = read_packet(&packet) {
+        } else if let Err(refusal) = read_packet(before.state.edition, &packet) {
             assert_eq!(answer, Err(refusal), "seed {seed}");
+            let other = read_packet(before.state.edition.other(), &packet);
+            by_edition += u64::from(other.is_ok());
         }
         match answer {
             Err(refusal) => {
@@ -316,6 +318,8 @@ fn altered_receivers() {
         );
         assert!(stops[20..=27].iter().all(|count| *count > 10), "{stops:?}");
         assert!(sums.iter().all(|count| *count > 1_000), "{sums:?}");
+        // Receivers whose edition the caller changed: the other would have accepted the packet.
+        assert!(by_edition > 20, "{by_edition}");
     }
 }
 
@@ -375,13 +379,18 @@ fn altered_runs() {
             match dice.below(12) {
                 0 => damage_orders(dice.bits(), &mut desk.orders),
                 1 => damage_symbols(dice.bits(), &mut desk.symbols),
-                2 => damage_shelf(dice.bits(), &mut desk.shelf, desk.state.next),
+                2 => {
+                    let (edition, next) = (desk.state.edition, desk.state.next);
+                    damage_shelf(edition, dice.bits(), &mut desk.shelf, next);
+                }
                 3 => damage_state(dice.bits(), &mut desk.state),
                 4 => desk.shelf = other.desk.shelf,
                 5 => desk.state = other.desk.state,
                 6 => {
                     let wanted = if sizes_good(&desk) { Ok(()) } else { Err(6) };
-                    assert_eq!(desk.start(), wanted, "seed {seed}");
+                    let edition = dice.pick(&EDITIONS);
+                    assert_eq!(desk.start(edition), wanted, "seed {seed}");
+                    assert!(wanted.is_err() || desk.state.edition == edition);
                 }
                 _ => {}
             }

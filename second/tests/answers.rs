@@ -1,7 +1,7 @@
 //! The lines of `answers`.
 
 mod common;
-use common::{example_file, example_path, seeds, Reference};
+use common::{example_file, example_path, seeds, Edition, Reference, V1_3b, EDITIONS, V1_3};
 use second::answers::answers_of_recording;
 use second::examples::*;
 use second::morning::{drawn_recording, packed, recording};
@@ -26,7 +26,11 @@ ask 10020000 200 1
 ";
 
 fn text(recording: &[u8]) -> String {
-    String::from_utf8(answers_of_recording(recording).unwrap()).unwrap()
+    text_in(V1_3b, recording)
+}
+
+fn text_in(edition: Edition, recording: &[u8]) -> String {
+    String::from_utf8(answers_of_recording(edition, recording).unwrap()).unwrap()
 }
 
 #[test]
@@ -83,12 +87,12 @@ fn joined<T: Display>(word: &str, numbers: &[T]) -> String {
 
 /// The front: a line for each whole packet, which tells of as many records as it has, and a next
 /// number that grows by what was applied. Answers the lines behind, the last next and the last stop.
-fn packets_told<'a>(bytes: &[u8], lines: &'a str) -> (Vec<&'a str>, u64, u64) {
+fn packets_told<'a>(edition: Edition, bytes: &[u8], lines: &'a str) -> (Vec<&'a str>, u64, u64) {
     let mut rest = lines.lines();
     let (mut next, mut stop) = (1, 0);
     for packet in packets_of(bytes).0 {
         let line = rest.next().expect("a line for each packet");
-        match read_packet(packet) {
+        match read_packet(edition, packet) {
             Err(Refusal {
                 number,
                 offset: None,
@@ -163,11 +167,17 @@ fn book_told(symbol: u32, orders: &[u64]) -> Vec<String> {
 
 /// The program prints these lines for a file of examples/, piped to it or named.
 fn program_prints(name: &str, lines: &str) {
+    program_prints_in(&[], name, lines);
+}
+
+/// The same where these words name an edition.
+fn program_prints_in(words: &[&str], name: &str, lines: &str) {
     for (input, arguments) in [
         (File::open(example_path(name)).unwrap().into(), vec![]),
         (Stdio::null(), vec![example_path(name)]),
     ] {
         let output = Command::new(env!("CARGO_BIN_EXE_answers"))
+            .args(words)
             .args(arguments)
             .stdin(input)
             .output()
@@ -181,9 +191,9 @@ fn program_prints(name: &str, lines: &str) {
 fn the_long_recording_line_by_line() {
     let stored = example_file("long.rec");
     let lines = text(&stored);
-    let (back, next, stop) = packets_told(&stored, &lines);
+    let (back, next, stop) = packets_told(V1_3b, &stored, &lines);
     let list = long_list();
-    let mut made = Reference::new(&list, MOST_ROWS, MOST_ENTRIES);
+    let mut made = Reference::new(V1_3b, &list, MOST_ROWS, MOST_ENTRIES);
     made.go_to(next - 1);
     assert_eq!((made.rule_of_next(), stop), (Some(24), 24));
     assert_eq!(back, tables_told(made.second, &made.orders, &made.symbols));
@@ -192,14 +202,22 @@ fn the_long_recording_line_by_line() {
 
 /// A morning comes to the lines that its script in tools/ states for it.
 fn comes_to_what_is_stated(morning: &str) {
+    comes_to_what_is_stated_as(morning, morning);
+}
+
+fn comes_to_what_is_stated_as(morning: &str, stated: &str) {
     let recording = format!("{morning}.rec");
-    let wanted = String::from_utf8(example_file(&format!("{morning}.answers"))).unwrap();
+    let wanted = String::from_utf8(example_file(&format!("{stated}.answers"))).unwrap();
     let lines = text(&example_file(&recording));
+    is_what_is_stated(&lines, &wanted);
+    program_prints(&recording, &wanted);
+}
+
+fn is_what_is_stated(lines: &str, wanted: &str) {
     for (place, (line, want)) in lines.lines().zip(wanted.lines()).enumerate() {
         assert_eq!(line, want, "line {}", place + 1);
     }
     assert_eq!(lines, wanted);
-    program_prints(&recording, &wanted);
 }
 
 #[test]
@@ -217,13 +235,27 @@ fn the_morning_of_every_bad_field_line_by_line() {
     comes_to_what_is_stated("offsets");
 }
 
+/// Each edition's lines for the morning of both, as tools/editions.py states them.
+#[test]
+fn the_morning_of_both_editions_line_by_line() {
+    for (edition, name) in [(V1_3, "1.3"), (V1_3b, "1.3.b")] {
+        let wanted = example_file(&format!("editions.{name}.answers"));
+        let wanted = String::from_utf8(wanted).unwrap();
+        let lines = text_in(edition, &example_file("editions.rec"));
+        is_what_is_stated(&lines, &wanted);
+        program_prints_in(&["--edition", name], "editions.rec", &wanted);
+    }
+    comes_to_what_is_stated_as("editions", "editions.1.3.b");
+}
+
 #[test]
 fn seeded_recordings_line_by_line() {
     for seed in seeds(40) {
-        let bytes = drawn_recording(seed);
-        let lines = text(&bytes);
-        let (back, next, stop) = packets_told(&bytes, &lines);
-        let desk = play(&bytes).desk;
+        let edition = EDITIONS[(seed % 2) as usize];
+        let bytes = drawn_recording(edition, seed);
+        let lines = text_in(edition, &bytes);
+        let (back, next, stop) = packets_told(edition, &bytes, &lines);
+        let desk = play(edition, &bytes).desk;
         assert_eq!((next, stop), (desk.state.next, u64::from(desk.state.stop)));
         let wanted = tables_told(desk.state.second, &desk.orders, &desk.symbols);
         assert_eq!(back, wanted, "seed {seed}");

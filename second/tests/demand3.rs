@@ -1,19 +1,25 @@
-//! Demand 3 of the second program. Run one seed again with SECOND_SEED=number.
+//! Demand 3 of the second program, in each edition. Run one seed again with SECOND_SEED=number.
 
 mod common;
-use common::{watched, Desk};
+use common::{watched, Desk, EDITIONS};
 
 #[test]
 fn deliveries_of_true_copies() {
-    watched::deliveries_of_true_copies::<Desk>(500);
+    for edition in EDITIONS {
+        watched::deliveries_of_true_copies::<Desk>(edition, 500);
+    }
 }
 
 #[test]
 fn records_shuffled_at_will() {
-    watched::records_shuffled_at_will::<Desk>(150);
+    for edition in EDITIONS {
+        watched::records_shuffled_at_will::<Desk>(edition, 150);
+    }
 }
 
 #[test]
 fn full_capacities() {
-    watched::full_capacities::<Desk>(4);
+    for edition in EDITIONS {
+        watched::full_capacities::<Desk>(edition, 4);
+    }
 }

@@ -14,7 +14,7 @@ fn example_sheet_byte_for_byte() {
                   symbol=7\nticker=ABC\nlot=100\nspread=20000\nbid=10000000 150 2\n\
                   ask=10020000 200 1\n";
     assert_eq!(MORNING_SHEET, wanted);
-    let played = sheet_of_recording(&morning_recording()).unwrap();
+    let played = sheet_of_recording(V1_3b, &morning_recording()).unwrap();
     assert_eq!(String::from_utf8(played).unwrap(), wanted);
     let desk = Desk::example();
     let shown = sheet(desk.state, &desk.orders, &desk.symbols, 0, true).unwrap();
@@ -30,14 +30,14 @@ fn p1_price_10_is_these_bytes() {
 
 #[test]
 fn p2_fresh_64_taken_65_too_far() {
-    let mut desk = Desk::new(10, 4);
+    let mut desk = Desk::new(V1_3b, 10, 4);
     assert_eq!(desk.records(&[(64, time(1))]).counts(), [1, 0, 0, 0, 0]);
     assert_eq!(desk.records(&[(65, time(1))]).counts(), [0, 0, 1, 0, 0]);
 }
 
 #[test]
 fn p3_next_5_68_taken_69_too_far_4_old() {
-    let mut desk = Desk::new(10, 4);
+    let mut desk = Desk::new(V1_3b, 10, 4);
     for second in 1..5 {
         desk.next(time(second));
     }
@@ -51,13 +51,13 @@ fn p3_next_5_68_taken_69_too_far_4_old() {
 fn p4_numbers_2_3_1_in_one_packet() {
     let list = example_list();
     let records: Vec<_> = [2, 3, 1].map(|n| (n, list[n as usize - 1].clone())).into();
-    let mut one_by_one = Desk::new(10, 4);
+    let mut one_by_one = Desk::new(V1_3b, 10, 4);
     let applied: Vec<u64> = records
         .iter()
         .map(|record| one_by_one.records(&[record.clone()]).applied)
         .collect();
     assert_eq!(applied, [0, 0, 3]);
-    let mut together = Desk::new(10, 4);
+    let mut together = Desk::new(V1_3b, 10, 4);
     let answer = together.records(&records);
     assert_eq!(answer.counts(), [3, 0, 0, 0, 0]);
     assert_eq!((answer.applied, answer.next, answer.highest), (3, 4, 0));
@@ -119,8 +119,8 @@ fn p10_capacity_1_second_add_of_the_live_id_is_21() {
 #[test]
 fn p11_a_9_byte_packet_is_2() {
     let packet = &record(1, &time(34_200))[..9];
-    assert_eq!(read_packet(packet), Err(Refusal::at(2, 0)));
-    Desk::new(1, 1).refuses(2, packet);
+    assert_eq!(read_packet(V1_3b, packet), Err(Refusal::at(2, 0)));
+    Desk::new(V1_3b, 1, 1).refuses(2, packet);
 }
 
 #[test]
@@ -128,6 +128,6 @@ fn p12_a_good_record_before_a_bad_one_is_not_taken() {
     let mut packet = record(1, &time(34_200));
     packet.extend_from_slice(&record(2, &buy(7, 500, 0, 100)));
     // 15 bytes of the good record, 10 of the bad one's header, and the price at 18 of its body.
-    assert_eq!(read_packet(&packet), Err(Refusal::at(4, 43)));
-    Desk::new(1, 1).refuses(4, &packet);
+    assert_eq!(read_packet(V1_3b, &packet), Err(Refusal::at(4, 43)));
+    Desk::new(V1_3b, 1, 1).refuses(4, &packet);
 }

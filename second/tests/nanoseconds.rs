@@ -22,7 +22,7 @@ trait Tap: Receiver {
 
     /// Document 01's example, numbers 1 to 5 applied.
     fn after_example() -> Self {
-        let mut receiver = Self::started(10, 4);
+        let mut receiver = Self::started(V1_3b, 10, 4);
         let answer = receiver.hear(&packet(&numbered(&example_list(), 1, 5)));
         assert_eq!(
             answer.map(|answer| (answer.next, answer.applied)),
@@ -52,7 +52,7 @@ trait Tap: Receiver {
 
 impl Tap for Desk {
     fn read(body: &[u8]) -> Result<Vec<u64>, Refusal> {
-        read_body(body).map(|message| message.numbers())
+        read_body(V1_3b, body).map(|message| message.numbers())
     }
 
     fn shelf(&mut self) -> &mut [u8] {
@@ -63,7 +63,7 @@ impl Tap for Desk {
 #[cfg(linked)]
 impl Tap for Proved {
     fn read(body: &[u8]) -> Result<Vec<u64>, Refusal> {
-        Ok(proved::body(body)?.0.to_vec())
+        Ok(proved::body(V1_3b, body)?.0.to_vec())
     }
 
     fn shelf(&mut self) -> &mut [u8] {
@@ -373,9 +373,9 @@ fn deliveries_with_tap_faults_come_to_the_list<R: Tap>() {
         let list = list(dice.bits(), settings);
         let mut how = true_delivery(dice.bits());
         (how.bad, how.fill) = (0, false);
-        let mut receiver = R::started(settings.rows, settings.entries);
-        for packet in delivery(dice.bits(), &list, how) {
-            let faulty = with_tap_fault(&packet);
+        let mut receiver = R::started(V1_3b, settings.rows, settings.entries);
+        for packet in delivery(V1_3b, dice.bits(), &list, how) {
+            let faulty = with_tap_fault(V1_3b, &packet);
             if dice.below(4) == 0 && faulty != packet {
                 receiver.refuses(4, first_timestamp(&faulty), &faulty);
                 faults += 1;
@@ -389,7 +389,7 @@ fn deliveries_with_tap_faults_come_to_the_list<R: Tap>() {
             assert_eq!(answer.map(|answer| answer.differing), Ok(0), "seed {seed}");
         }
         missed += u64::from(receiver.state().next > next);
-        let mut made = Reference::new(&list, settings.rows, settings.entries);
+        let mut made = Reference::new(V1_3b, &list, settings.rows, settings.entries);
         made.go_to(receiver.state().next - 1);
         let wanted = (made.orders.clone(), made.symbols.clone(), made.second);
         assert_eq!(receiver.three(), wanted, "seed {seed}");
@@ -414,7 +414,7 @@ fn told(body: &[u8]) -> u64 {
 fn bad_by_its_timestamp_alone(body: &[u8]) -> bool {
     let mut at_0 = body.to_vec();
     set_timestamp(&mut at_0, 0);
-    read_body(body) == Err(Refusal::at(4, 1)) && read_body(&at_0).is_ok()
+    read_body(V1_3b, body) == Err(Refusal::at(4, 1)) && read_body(V1_3b, &at_0).is_ok()
 }
 
 /// All messages of seeded lists have good Timestamps, and each of the ten has the last nanosecond.
@@ -424,7 +424,7 @@ fn seeded_lists_are_well_formed_up_to_the_last_nanosecond() {
     for seed in seeds(1_000) {
         let settings = ListSettings::drawn(&mut Dice::new(seed));
         let list = list(seed, settings);
-        assert!(well_formed(&list), "seed {seed}");
+        assert!(well_formed(V1_3b, &list), "seed {seed}");
         for body in list {
             if body[0] != SYSTEM_TIME {
                 assert!(told(&body) <= 999_999_999, "seed {seed}");
@@ -479,8 +479,8 @@ fn a_list_in_the_making_takes_none_beyond_the_limit() {
 fn bodies_are_made_bad_by_their_timestamps() {
     let (mut alone, mut beside) = (BTreeMap::new(), BTreeMap::new());
     for seed in seeds(20_000) {
-        let (body, refusal) = told_body(seed, 4);
-        assert_eq!(read_body(&body), Err(refusal), "seed {seed}");
+        let (body, refusal) = told_body(V1_3b, seed, 4);
+        assert_eq!(read_body(V1_3b, &body), Err(refusal), "seed {seed}");
         let values: &mut [u64; 3] = match bad_by_its_timestamp_alone(&body) {
             true => alone.entry(body[0]).or_default(),
             false if told(&body) > 999_999_999 => beside.entry(body[0]).or_default(),
@@ -510,9 +510,9 @@ fn differing_copies_keep_to_the_limit() {
     let mut bytes = [0; 4];
     for body in ten(999_999_999) {
         for seed in seeds(400) {
-            let copy = differing_copy(seed, &body);
+            let copy = differing_copy(V1_3b, seed, &body);
             assert_ne!(copy, body, "seed {seed}");
-            assert!(read_body(&copy).is_ok(), "seed {seed}");
+            assert!(read_body(V1_3b, &copy).is_ok(), "seed {seed}");
             let differ = |at: &usize| copy.get(*at) != body.get(*at);
             if let [at @ 1..=4] = (0..body.len()).filter(differ).collect::<Vec<_>>()[..] {
                 bytes[at - 1] += 1;
@@ -533,7 +533,7 @@ fn damage_to_shelves_alters_timestamps() {
     let (mut good, mut bad) = (0, 0);
     for seed in seeds(2_000) {
         let mut shelf = desk.shelf.clone();
-        damage_shelf(seed, &mut shelf, 7);
+        damage_shelf(V1_3b, seed, &mut shelf, 7);
         let mut altered = slot(&shelf, 7)[10..44].to_vec();
         let nanoseconds = told(&altered);
         set_timestamp(&mut altered, 0);
@@ -555,8 +555,8 @@ fn a_tap_fault_is_in_one_record() {
     let mut faulty = update.clone();
     set_timestamp(&mut faulty, 1_000_000_000);
     let wanted = packet(&[(1, time(1)), (2, faulty), (3, update)]);
-    assert_eq!(with_tap_fault(&good), wanted);
-    assert_eq!(read_packet(&wanted), Err(Refusal::at(4, 26)));
+    assert_eq!(with_tap_fault(V1_3b, &good), wanted);
+    assert_eq!(read_packet(V1_3b, &wanted), Err(Refusal::at(4, 26)));
     let times = packet(&[(1, time(1)), (2, time(2))]);
-    assert_eq!(with_tap_fault(&times), times);
+    assert_eq!(with_tap_fault(V1_3b, &times), times);
 }

@@ -5,12 +5,12 @@
 #[macro_use]
 mod common;
 use common::watched::Receiver;
-use common::Desk;
+use common::{Desk, V1_3b};
 use second::answers::answers_of_recording;
 use second::packet::{read_body, read_packet, read_record, Refusal};
 #[cfg(linked)]
 use second::proved::{self, lent, Proved};
-use second::reading::{lines_of_packet, JUDGED_FIELDS};
+use second::reading::{judged_fields, lines_of_packet};
 use second::seen::Faults;
 use second::stream::{Stream, LEAST_HOLD};
 use std::collections::BTreeMap;
@@ -42,19 +42,19 @@ trait Feed {
 
 impl Reader for Desk {
     fn packet(packet: &[u8]) -> Result<u64, Refusal> {
-        read_packet(packet).map(|records| records.len() as u64)
+        read_packet(V1_3b, packet).map(|records| records.len() as u64)
     }
 
     fn record(rest: &[u8]) -> Result<(), Refusal> {
-        read_record(rest).map(|_| ())
+        read_record(V1_3b, rest).map(|_| ())
     }
 
     fn body(body: &[u8]) -> Result<(), Refusal> {
-        read_body(body).map(|_| ())
+        read_body(V1_3b, body).map(|_| ())
     }
 
     fn with_next(next: u64) -> Desk {
-        let mut desk = Desk::new(2, 2);
+        let mut desk = Desk::new(V1_3b, 2, 2);
         desk.state.next = next;
         desk
     }
@@ -62,7 +62,11 @@ impl Reader for Desk {
     type Fed = (Desk, Stream, Vec<u8>);
 
     fn open() -> Self::Fed {
-        (Desk::new(2, 2), Stream::default(), vec![7; LEAST_HOLD])
+        (
+            Desk::new(V1_3b, 2, 2),
+            Stream::default(),
+            vec![7; LEAST_HOLD],
+        )
     }
 }
 
@@ -96,19 +100,19 @@ impl Feed for (Desk, Stream, Vec<u8>) {
 #[cfg(linked)]
 impl Reader for Proved {
     fn packet(packet: &[u8]) -> Result<u64, Refusal> {
-        proved::packet(packet)
+        proved::packet(V1_3b, packet)
     }
 
     fn record(rest: &[u8]) -> Result<(), Refusal> {
-        proved::record(rest).map(|_| ())
+        proved::record(V1_3b, rest).map(|_| ())
     }
 
     fn body(body: &[u8]) -> Result<(), Refusal> {
-        proved::body(body).map(|_| ())
+        proved::body(V1_3b, body).map(|_| ())
     }
 
     fn with_next(next: u64) -> Proved {
-        let mut receiver = Proved::started(2, 2);
+        let mut receiver = Proved::started(V1_3b, 2, 2);
         receiver.state[0] = next;
         receiver
     }
@@ -116,8 +120,8 @@ impl Reader for Proved {
     type Fed = (Proved, lent::Stream, Vec<u8>);
 
     fn open() -> Self::Fed {
-        let receiver = Proved::started(2, 2);
-        let mut stream = [9; 13];
+        let receiver = Proved::started(V1_3b, 2, 2);
+        let mut stream = [9; 14];
         assert_eq!(lent::open(&receiver.state, &mut stream), 0);
         (receiver, stream, vec![7; LEAST_HOLD])
     }
@@ -137,11 +141,11 @@ impl Feed for (Proved, lent::Stream, Vec<u8>) {
     }
 
     fn last(&self) -> (u64, u64) {
-        (self.1[11], self.1[12])
+        (self.1[12], self.1[13])
     }
 
     fn lend_last(&mut self, number: u8, offset: u64) {
-        (self.1[11], self.1[12]) = (number.into(), offset);
+        (self.1[12], self.1[13]) = (number.into(), offset);
     }
 
     fn lend_next(&mut self, next: u64) {
@@ -153,7 +157,7 @@ impl Feed for (Proved, lent::Stream, Vec<u8>) {
     }
 
     fn counts(&self) -> (u64, u64) {
-        (self.1[5], self.1[6] + self.1[7])
+        (self.1[6], self.1[7] + self.1[8])
     }
 }
 
@@ -303,7 +307,7 @@ fn refuses<R: Reader>(packet: &[u8], number: u8, offset: usize) {
 
 fn refuses_with<R: Reader>(packet: &[u8], refusal: Refusal) {
     assert_eq!(R::packet(packet), Err(refusal), "{packet:?}");
-    let mut receiver = R::started(2, 2);
+    let mut receiver = R::started(V1_3b, 2, 2);
     let before = receiver.clone();
     assert_eq!(receiver.hear(packet), Err(refusal), "{packet:?}");
     assert_eq!(receiver, before, "{packet:?}");
@@ -333,14 +337,17 @@ fn the_bodies_are_good() {
     for (place, (kind, length, _)) in ELEVEN.into_iter().enumerate() {
         let body = good(kind);
         assert_eq!(body.len(), length);
-        assert!(read_body(&body).is_ok(), "type {kind}");
+        assert!(read_body(V1_3b, &body).is_ok(), "type {kind}");
         packet.extend(record(place as u64 + 1, &body));
     }
-    assert_eq!(read_packet(&packet).map(|records| records.len()), Ok(11));
+    assert_eq!(
+        read_packet(V1_3b, &packet).map(|records| records.len()),
+        Ok(11)
+    );
     // "all but System Time" have nanoseconds, five price and size, Add a side, Symbol Update two more.
     assert_eq!(FIELDS.len(), 10 + 5 + 5 + 1 + 2);
     let named = FIELDS.map(|(kind, field, at, _)| (kind, at, field));
-    assert_eq!(named, JUDGED_FIELDS);
+    assert_eq!(named[..], judged_fields(V1_3b));
 }
 
 fn each_field_as_the_only_fault<R: Reader>() {
@@ -779,7 +786,8 @@ fn a_packet_refused_with_6_inside_a_piece<R: Reader>() {
 #[test]
 fn the_lines_of_answers() {
     let packets: Vec<_> = told().into_iter().map(|(packet, _)| packet).collect();
-    let text = String::from_utf8(answers_of_recording(&recording(&packets)).unwrap()).unwrap();
+    let text =
+        String::from_utf8(answers_of_recording(V1_3b, &recording(&packets)).unwrap()).unwrap();
     let wanted = "1 0 0 0 0 2 1 0 0
 refused 4 at 28
 0 1 0 0 0 2 0 0 0
@@ -842,7 +850,7 @@ fn the_lines_of_read() {
         (free(), "refused 4 at 28: record 1, Add Order, price"),
         (good_record.clone(), "records 1\n1 49 0"),
     ] {
-        assert_eq!(lines_of_packet(&packet), format!("{wanted}\n"));
+        assert_eq!(lines_of_packet(V1_3b, &packet), format!("{wanted}\n"));
     }
 }
 
@@ -864,14 +872,14 @@ fn the_names_of_messages_and_fields() {
     ];
     for (kind, name) in names {
         let wanted = format!("refused 3 at 10: record 1, {name}, wrong length\n");
-        assert_eq!(lines_of_packet(&record(1, &[kind])), wanted);
+        assert_eq!(lines_of_packet(V1_3b, &record(1, &[kind])), wanted);
     }
     for (kind, field, at, [_, second, _]) in FIELDS {
         let (_, name) = names.iter().find(|(known, _)| *known == kind).unwrap();
         let bad = with(good(kind), at, bad_values(field)[0]);
         let packet = [record(1, &time()), record(2, &bad)].concat();
         let wanted = format!("refused 4 at {second}: record 2, {name}, {field}\n");
-        assert_eq!(lines_of_packet(&packet), wanted);
+        assert_eq!(lines_of_packet(V1_3b, &packet), wanted);
     }
 }
 
@@ -943,7 +951,7 @@ fn faults_are_counted_by_place_and_field() {
     let mut all = Faults::default();
     for (packet, wanted) in &cases {
         let mut faults = Faults::default();
-        faults.note(packet, read_packet(packet).unwrap_err());
+        faults.note(V1_3b, packet, read_packet(V1_3b, packet).unwrap_err());
         let mut wanted: Vec<_> = wanted.iter().map(|what| what.to_string()).collect();
         wanted.sort();
         assert_eq!(counted(&faults), wanted);
@@ -952,7 +960,7 @@ fn faults_are_counted_by_place_and_field() {
     // What has no offset, and a number that is alone in its packet at 0.
     for packet in [vec![], record(0, &time())] {
         let mut faults = Faults::default();
-        faults.note(&packet, read_packet(&packet).unwrap_err());
+        faults.note(V1_3b, &packet, read_packet(V1_3b, &packet).unwrap_err());
         assert_eq!(faults, Faults::default());
     }
     let sums: BTreeMap<_, _> = all.seen().into_iter().collect();

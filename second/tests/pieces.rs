@@ -51,10 +51,10 @@ impl Fed {
     }
 }
 
-/// The recording's receiver and totals, as it plays whole.
-fn whole(bytes: &[u8]) -> (Played, [u64; 5]) {
+/// The recording's receiver and totals, as it plays whole in an edition.
+fn whole(edition: Edition, bytes: &[u8]) -> (Played, [u64; 5]) {
     let mut totals = [0; 5];
-    let played = play_telling(bytes, |answer| {
+    let played = play_telling(edition, bytes, |answer| {
         if let Ok(answer) = answer {
             for (total, count) in totals.iter_mut().zip(answer.counts()) {
                 *total += count;
@@ -75,9 +75,9 @@ fn is_as_whole(fed: &Fed, wanted: &(Played, [u64; 5])) {
 #[test]
 fn the_example_cut_in_every_place() {
     let bytes = morning_recording();
-    let wanted = whole(&bytes);
+    let wanted = whole(V1_3b, &bytes);
     for first in 0..=bytes.len() {
-        let mut fed = Fed::new(Desk::full());
+        let mut fed = Fed::new(Desk::full(V1_3b));
         fed.takes(&bytes[..first]);
         fed.takes(&[]);
         assert_eq!(fed.stream.is_cut(), first != 0 && first != bytes.len());
@@ -85,7 +85,7 @@ fn the_example_cut_in_every_place() {
         is_as_whole(&fed, &wanted);
         fed.holds(&[]);
     }
-    let mut fed = Fed::new(Desk::full());
+    let mut fed = Fed::new(Desk::full(V1_3b));
     for place in 1..bytes.len() {
         fed.takes(&bytes[place - 1..place]);
         fed.holds(&bytes[..place]);
@@ -99,8 +99,9 @@ fn seeded_recordings_in_odd_pieces() {
     let mut cuts = 0;
     for seed in seeds(60) {
         let mut dice = Dice::new(seed);
-        let bytes = drawn_recording(seed);
-        let mut fed = Fed::new(Desk::full());
+        let edition = dice.pick(&EDITIONS);
+        let bytes = drawn_recording(edition, seed);
+        let mut fed = Fed::new(Desk::full(edition));
         let mut rest = bytes.as_slice();
         while !rest.is_empty() {
             let most = dice.pick(&[1, 3, 40, 2_000]);
@@ -109,7 +110,7 @@ fn seeded_recordings_in_odd_pieces() {
             fed.takes(chunk);
             rest = behind;
         }
-        is_as_whole(&fed, &whole(&bytes));
+        is_as_whole(&fed, &whole(edition, &bytes));
         cuts += u64::from(fed.stream.is_cut());
     }
     assert!(!all_seeds() || cuts > 5, "{cuts} were cut");
@@ -119,7 +120,7 @@ fn seeded_recordings_in_odd_pieces() {
 fn too_long_a_packet_is_bad_when_its_last_byte_has_come() {
     for length in [1_501, 2_000, 65_535] {
         let bytes = recording(&[vec![1; length]]);
-        let mut fed = Fed::new(Desk::full());
+        let mut fed = Fed::new(Desk::full(V1_3b));
         fed.takes(&bytes[..2]);
         fed.holds(&[]);
         assert_eq!(fed.stream.to_pass, length as u64);
@@ -132,7 +133,7 @@ fn too_long_a_packet_is_bad_when_its_last_byte_has_come() {
     }
     // 1,500 bytes are held.
     let bytes = recording(&[vec![1; 1_500]]);
-    let mut fed = Fed::new(Desk::full());
+    let mut fed = Fed::new(Desk::full(V1_3b));
     fed.takes(&bytes[..1_501]);
     fed.holds(&bytes[..1_501]);
     fed.takes(&bytes[1_501..]);
@@ -148,26 +149,26 @@ fn too_long_a_packet_is_bad_when_its_last_byte_has_come() {
 fn six() {
     let bytes = morning_recording();
     for chunk in [&bytes[..0], &bytes[..1], &bytes[..]] {
-        let mut fed = Fed::new(Desk::new(2, 2));
+        let mut fed = Fed::new(Desk::new(V1_3b, 2, 2));
         fed.hold.pop();
         fed.refuses(chunk);
-        let mut fed = Fed::new(Desk::new(2, 2));
+        let mut fed = Fed::new(Desk::new(V1_3b, 2, 2));
         fed.stream.held = LEAST_HOLD as u64 + 1;
         fed.refuses(chunk);
         fed.hold.push(7);
         fed.takes(&[]);
         for next in [0, LAST_NUMBER + 2] {
-            let mut fed = Fed::new(Desk::new(2, 2));
+            let mut fed = Fed::new(Desk::new(V1_3b, 2, 2));
             fed.desk.state.next = next;
             fed.refuses(chunk);
         }
-        let mut fed = Fed::new(Desk::new(2, 2));
+        let mut fed = Fed::new(Desk::new(V1_3b, 2, 2));
         fed.desk.orders.pop();
         fed.refuses(chunk);
-        let mut fed = Fed::new(Desk::new(2, 2));
+        let mut fed = Fed::new(Desk::new(V1_3b, 2, 2));
         fed.desk.symbols.pop();
         fed.refuses(chunk);
-        let mut fed = Fed::new(Desk::new(2, 2));
+        let mut fed = Fed::new(Desk::new(V1_3b, 2, 2));
         fed.desk.shelf.pop();
         fed.refuses(chunk);
     }
@@ -178,7 +179,7 @@ fn six() {
 fn altered_streams() {
     // Held bytes that are a packet already: the next byte ends it and goes with what lies behind.
     let packet = packet(&[(1, time(5))]);
-    let mut fed = Fed::new(Desk::new(2, 2));
+    let mut fed = Fed::new(Desk::new(V1_3b, 2, 2));
     let held = [recording(&[packet]), vec![9, 9]].concat();
     fed.hold[..held.len()].copy_from_slice(&held);
     fed.stream.held = held.len() as u64;
@@ -188,14 +189,14 @@ fn altered_streams() {
     fed.holds(&[]);
     assert_eq!((fed.desk.state.next, fed.desk.state.second), (2, 5));
     // A length above 1,500 in front: what is held is dropped and the whole length passed over.
-    let mut fed = Fed::new(Desk::new(2, 2));
+    let mut fed = Fed::new(Desk::new(V1_3b, 2, 2));
     fed.hold[..2].copy_from_slice(&2_000_u16.to_le_bytes());
     fed.stream.held = 900;
     fed.takes(&[9]);
     fed.holds(&[]);
     assert_eq!(fed.stream.to_pass, 2_000);
     // Both: those to pass over come first, and what is held counts again behind them.
-    let mut fed = Fed::new(Desk::new(2, 2));
+    let mut fed = Fed::new(Desk::new(V1_3b, 2, 2));
     fed.takes(&[15]);
     fed.stream.to_pass = 3;
     fed.takes(&[1, 2, 3]);
@@ -204,7 +205,7 @@ fn altered_streams() {
     fed.takes(&[0]);
     fed.holds(&[15, 0]);
     // Counts stay at the largest number.
-    let mut fed = Fed::new(Desk::new(2, 2));
+    let mut fed = Fed::new(Desk::new(V1_3b, 2, 2));
     fed.stream.bad = u64::MAX;
     fed.stream.totals = [u64::MAX; 5];
     fed.takes(&[0, 0]);
@@ -222,19 +223,20 @@ fn altered_streams() {
 #[test]
 fn repacked_records() {
     for seed in seeds(40) {
+        let edition = EDITIONS[(seed % 2) as usize];
         let mut records = Vec::new();
-        let bytes = drawn_recording(seed);
+        let bytes = drawn_recording(edition, seed);
         for packet in second::sheet::packets_of(&bytes).0 {
-            for record in read_packet(packet).unwrap_or_default() {
+            for record in read_packet(edition, packet).unwrap_or_default() {
                 records.push((record.number, record.body.to_vec()));
             }
         }
-        let wanted = whole(&bytes);
+        let wanted = whole(edition, &bytes);
         for packets in [
             packed(&records),
             records.iter().map(|(n, body)| record(*n, body)).collect(),
         ] {
-            let mut fed = Fed::new(Desk::full());
+            let mut fed = Fed::new(Desk::full(edition));
             fed.takes(&recording(&packets));
             assert_eq!(fed.desk, wanted.0.desk, "seed {seed}");
             assert_eq!(fed.stream.totals, wanted.1, "seed {seed}");

@@ -1,7 +1,7 @@
 //! The programs as they are run.
 
 mod common;
-use common::{example_file, example_path};
+use common::{example_file, example_path, V1_3b};
 use second::examples::{morning_recording, MORNING_SHEET};
 use std::fs::File;
 use std::path::PathBuf;
@@ -23,6 +23,28 @@ fn sheet2_reads_standard_input_or_a_file() {
         let piped = sheet2(File::open(&path).unwrap().into(), &[]);
         assert!(piped.status.success() && piped.stdout == wanted);
         let named = sheet2(Stdio::null(), &[path]);
+        assert!(named.status.success() && named.stdout == wanted);
+    }
+}
+
+/// The sheets of the morning of both editions, and of document 01's example as a recording of 1.3, as
+/// tools/editions.py states them. Read in 1.3.b, the example comes to document 01's sheet.
+#[test]
+fn sheet2_in_each_edition() {
+    for (name, edition, stated) in [
+        ("editions", "1.3", "editions.1.3"),
+        ("editions", "1.3.a", "editions.1.3.b"),
+        ("editions", "1.3.b", "editions.1.3.b"),
+        ("morning-1.3", "1.3", "morning-1.3"),
+        ("morning-1.3", "1.3.a", "morning"),
+        ("morning-1.3", "1.3.b", "morning"),
+    ] {
+        let wanted = example_file(&format!("{stated}.sheet"));
+        let path = example_path(&format!("{name}.rec"));
+        let words = ["--edition".into(), edition.into()];
+        let piped = sheet2(File::open(&path).unwrap().into(), &words);
+        assert!(piped.status.success() && piped.stdout == wanted);
+        let named = sheet2(Stdio::null(), &[&words[..], &[path]].concat());
         assert!(named.status.success() && named.stdout == wanted);
     }
 }
@@ -65,5 +87,5 @@ fn make_examples_and_seeded_write_the_same_bytes_again() {
         .output()
         .unwrap();
     assert!(seeded.status.success());
-    assert!(seeded.stdout == second::morning::drawn_recording(17));
+    assert!(seeded.stdout == second::morning::drawn_recording(V1_3b, 17));
 }

@@ -12,18 +12,21 @@ use second::stream::LEAST_HOLD;
 
 fn example() -> (Proved, Vec<u8>) {
     let packet = packet(&numbered(&example_list(), 1, 5));
-    (Proved::new(10, 4).expect("sizes in the limits"), packet)
+    (
+        Proved::new(V1_3b, 10, 4).expect("sizes in the limits"),
+        packet,
+    )
 }
 
 #[test]
 fn the_example_through_every_call() {
     let (mut receiver, packet) = example();
-    assert_eq!(proved::packet(&packet), Ok(5));
+    assert_eq!(proved::packet(V1_3b, &packet), Ok(5));
     let head = Head {
         number: 1,
         length: 5,
     };
-    assert_eq!(proved::record(&packet), Ok(head));
+    assert_eq!(proved::record(V1_3b, &packet), Ok(head));
     let answer = receiver.receive(&packet).expect("a good packet");
     assert_eq!(answer.counts(), [5, 0, 0, 0, 0]);
     assert_eq!((answer.next, answer.applied, answer.stop), (6, 5, 0));
@@ -34,7 +37,7 @@ fn the_example_through_every_call() {
     assert_eq!(receiver.ladder(7, Side::Buy, &mut run), Ok(1));
     assert_eq!(run, [10_000_000, 150, 2, 9]);
     assert_eq!(receiver.sheet(0, false), Ok(MORNING_SHEET.into()));
-    receiver.start().expect("sizes in the limits");
+    receiver.start(V1_3b).expect("sizes in the limits");
     assert_eq!(receiver, example().0);
     assert_eq!(receiver.counts().map(|counts| counts.orders), Ok(0));
 }
@@ -42,7 +45,7 @@ fn the_example_through_every_call() {
 #[test]
 fn each_refusal() {
     let (mut receiver, packet) = example();
-    assert_eq!(Proved::new(0, 4), Err(Refusal::alone(6)));
+    assert_eq!(Proved::new(V1_3b, 0, 4), Err(Refusal::alone(6)));
     assert_eq!(receiver.receive(&[]), Err(Refusal::alone(1)));
     assert_eq!(receiver.receive(&packet[..9]), Err(Refusal::at(2, 0)));
     let numberless = record(0, &time(1));
@@ -88,7 +91,7 @@ fn numbers_and_offsets_in_one_answer() {
         (&bad, 256 * 28 + 4),
         (&[0; 10], 5),
     ] {
-        assert_eq!(lent::packet(bytes, &mut [0]), answer);
+        assert_eq!(lent::packet(0, bytes, &mut [0]), answer);
         let Proved {
             orders,
             symbols,
@@ -101,18 +104,21 @@ fn numbers_and_offsets_in_one_answer() {
         let received = lent::receive(&mut [], symbols, shelf, state, bytes, &mut [0; 9]);
         assert_eq!(received, 6);
     }
-    assert_eq!(lent::record(&[], &mut [0; 2]), 2);
-    assert_eq!(lent::record(&longest[1_490..], &mut [0; 2]), 256 * 10 + 3);
-    assert_eq!(lent::record(&bad, &mut [0; 2]), 256 * 28 + 4);
-    assert_eq!(lent::body(&[], &mut [0; 8]), 3);
-    assert_eq!(lent::body(&bad[10..], &mut [0; 8]), 256 * 18 + 4);
-    assert_eq!(lent::body(&time(1), &mut [0; 8]), 0);
+    assert_eq!(lent::record(0, &[], &mut [0; 2]), 2);
+    assert_eq!(
+        lent::record(0, &longest[1_490..], &mut [0; 2]),
+        256 * 10 + 3
+    );
+    assert_eq!(lent::record(0, &bad, &mut [0; 2]), 256 * 28 + 4);
+    assert_eq!(lent::body(0, &[], &mut [0; 8]), 3);
+    assert_eq!(lent::body(0, &bad[10..], &mut [0; 8]), 256 * 18 + 4);
+    assert_eq!(lent::body(0, &time(1), &mut [0; 8]), 0);
 }
 
 /// A book that is crossed has a negative spread (P9), and one with an empty side has none.
 #[test]
 fn spreads_of_either_sign() {
-    let mut receiver = Proved::new(10, 4).expect("sizes in the limits");
+    let mut receiver = Proved::new(V1_3b, 10, 4).expect("sizes in the limits");
     let list = [
         update(7),
         buy(7, 1, 10_020_000, 1),
@@ -129,7 +135,7 @@ fn spreads_of_either_sign() {
 /// Every row with the most shares at one price, and books as wide as prices allow.
 #[test]
 fn the_largest_sums_and_the_widest_spreads() {
-    let mut receiver = Proved::new(1_600, 1).expect("sizes in the limits");
+    let mut receiver = Proved::new(V1_3b, 1_600, 1).expect("sizes in the limits");
     let answer = receiver.receive(&record(1, &update(7)));
     assert_eq!(answer.map(|answer| answer.applied), Ok(1));
     let most = u64::from(u32::MAX);
@@ -154,18 +160,18 @@ fn the_example_in_pieces() {
     let bytes = morning_recording();
     for first in 0..=bytes.len() {
         let (mut receiver, _) = example();
-        let mut stream = [9; 13];
+        let mut stream = [9; 14];
         assert_eq!(lent::open(&receiver.state, &mut stream), 0);
-        assert_eq!(stream, [1, 0, 0, 0, 0, 0, 0, 0, 0, 0, 0, 0, 0]);
+        assert_eq!(stream, [1, 0, 0, 0, 0, 0, 0, 0, 0, 0, 0, 0, 0, 0]);
         let mut hold = [9; LEAST_HOLD];
         let inside = first != 0 && first != bytes.len();
         for (chunk, cut) in [(&bytes[..first], inside), (&bytes[first..], false)] {
             let number = feed(&mut receiver, &mut hold, &mut stream, chunk);
             assert_eq!((number, lent::cut(&stream)), (0, cut), "cut at {first}");
         }
-        assert_eq!(stream, [6, 34_200, 0, 0, 0, 0, 5, 0, 0, 0, 0, 0, 0]);
+        assert_eq!(stream, [6, 34_200, 0, 0, 0, 0, 0, 5, 0, 0, 0, 0, 0, 0]);
         assert_eq!(hold, [0; LEAST_HOLD]);
-        receiver.state.copy_from_slice(&stream[..3]);
+        receiver.state.copy_from_slice(&stream[..4]);
         assert_eq!(receiver.sheet(0, false), Ok(MORNING_SHEET.into()));
     }
 }
@@ -174,12 +180,12 @@ fn the_example_in_pieces() {
 #[test]
 fn a_refused_piece() {
     let (mut receiver, _) = example();
-    let mut stream = [1, 0, 0, 0, 0, 0, 0, 0, 0, 0, 0, 4, 28];
+    let mut stream = [1, 0, 0, 0, 0, 0, 0, 0, 0, 0, 0, 0, 4, 28];
     let mut hold = [9; LEAST_HOLD - 1];
     let bytes = morning_recording();
     assert_eq!(feed(&mut receiver, &mut hold, &mut stream, &bytes), 6);
     assert_eq!(receiver, example().0);
-    assert_eq!(stream, [1, 0, 0, 0, 0, 0, 0, 0, 0, 0, 0, 4, 28]);
+    assert_eq!(stream, [1, 0, 0, 0, 0, 0, 0, 0, 0, 0, 0, 0, 4, 28]);
     assert_eq!(hold, [9; LEAST_HOLD - 1]);
 }
 
@@ -194,7 +200,7 @@ fn feed(receiver: &mut Proved, hold: &mut [u8], stream: &mut lent::Stream, chunk
 }
 
 fn message(body: &[u8]) -> Body {
-    let fields = proved::body(body).expect("a good body");
+    let fields = proved::body(V1_3b, body).expect("a good body");
     fields.message().expect("a known type")
 }
 
@@ -252,8 +258,21 @@ fn messages_beside_the_book() {
         symbol: 7,
         lot: 100,
         market: b'H'.into(),
+        security_type: 0,
     };
     assert_eq!(message(&common::update(7)), update);
+    let typed = Body::SymbolUpdate {
+        symbol: 7,
+        lot: 100,
+        market: b'H'.into(),
+        security_type: b'F'.into(),
+    };
+    let mut body = common::update(7);
+    assert_eq!(proved::body(V1_3, &body), Err(Refusal::at(4, 20)));
+    body[20] = b'F';
+    let fields = proved::body(V1_3, &body).expect("a good body");
+    assert_eq!(fields.message(), Some(typed));
+    assert_eq!(message(&body), update);
     let state = Body::SystemState {
         nanoseconds: 1,
         session: 2,

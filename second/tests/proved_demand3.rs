@@ -1,22 +1,28 @@
-//! Demand 3 of the proved library, as the second program's book has its meaning. Run one seed again
-//! with SECOND_SEED=number.
+//! Demand 3 of the proved library, in each edition, as the second program's book has its meaning. Run one
+//! seed again with SECOND_SEED=number.
 #![cfg(linked)]
 
 mod common;
-use common::watched;
+use common::{watched, EDITIONS};
 use second::proved::Proved;
 
 #[test]
 fn deliveries_of_true_copies() {
-    watched::deliveries_of_true_copies::<Proved>(400);
+    for edition in EDITIONS {
+        watched::deliveries_of_true_copies::<Proved>(edition, 400);
+    }
 }
 
 #[test]
 fn records_shuffled_at_will() {
-    watched::records_shuffled_at_will::<Proved>(150);
+    for edition in EDITIONS {
+        watched::records_shuffled_at_will::<Proved>(edition, 150);
+    }
 }
 
 #[test]
 fn full_capacities() {
-    watched::full_capacities::<Proved>(2);
+    for edition in EDITIONS {
+        watched::full_capacities::<Proved>(edition, 2);
+    }
 }

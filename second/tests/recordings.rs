@@ -5,12 +5,12 @@ use common::*;
 use second::examples::*;
 use second::morning::*;
 use second::packet::*;
-use second::reading::{first_fault, Fault, JUDGED_FIELDS};
+use second::reading::{first_fault, judged_fields, Fault, JUDGED_FIELDS};
 use second::sheet::*;
 use std::collections::{BTreeMap, BTreeSet};
 
 fn sheet_text(recording: &[u8]) -> String {
-    String::from_utf8(sheet_of_recording(recording).unwrap()).unwrap()
+    String::from_utf8(sheet_of_recording(V1_3b, recording).unwrap()).unwrap()
 }
 
 const EMPTY: &str = "recording=whole\nbad=0\nnext=1\nstop=0\nsecond=0\nsymbols=0\norders=0\n";
@@ -86,7 +86,7 @@ fn a_refused_packet_is_passed_over() {
     let list = example_list();
     let mut packets = Vec::new();
     for refusal in 1..=5 {
-        packets.push(bad_packet(refusal as u64, &list, refusal));
+        packets.push(bad_packet(V1_3b, refusal as u64, &list, refusal));
         packets.push(packet(&numbered(&list, refusal as usize, 1)));
     }
     let text = sheet_text(&recording(&packets));
@@ -194,7 +194,7 @@ fn the_example_files_are_those_that_make_examples_writes() {
     let long = long_recording();
     assert!(long.len() < 200_000);
     assert!(example_file("long.rec") == long);
-    assert!(example_file("long.sheet") == sheet_of_recording(&long).unwrap());
+    assert!(example_file("long.sheet") == sheet_of_recording(V1_3b, &long).unwrap());
 }
 
 /// The numbers of a packet's records, if they are the list's but for one that has 1,000,000,000 in its
@@ -234,9 +234,9 @@ fn the_long_recording_shows_everything() {
     let undefined = |body: &&Vec<u8>| body[0] == MODIFY_ORDER && body[FLAGS_OF_MODIFY] > 1;
     assert!(list.iter().filter(undefined).count() > 100);
 
-    let mut desk = Desk::full();
+    let mut desk = Desk::full(V1_3b);
     // The same records one to a packet, so that each record's answer is seen.
-    let mut shadow = Desk::full();
+    let mut shadow = Desk::full(V1_3b);
     let mut answers = [0; 5];
     let mut refused = [0; 7];
     let mut waited = 0;
@@ -258,7 +258,7 @@ fn the_long_recording_shows_everything() {
             Ok(answer) => {
                 assert_eq!(tap_fault, None);
                 gaps += u64::from(answer.next == gap && answer.highest > gap);
-                for one in read_packet(&packet).unwrap() {
+                for one in read_packet(V1_3b, &packet).unwrap() {
                     let alone = shadow.give(&record(one.number, one.body)).unwrap();
                     // Whatever is no copy of the list's is told apart (14), so the book is the list's.
                     let own = &list[one.number as usize - 1];
@@ -309,12 +309,12 @@ fn the_morning_of_every_flag_byte() {
 
     let (packets, whole) = packets_of(&stored);
     assert!(whole);
-    let mut desk = Desk::full();
+    let mut desk = Desk::full(V1_3b);
     let mut first = BTreeMap::new();
     let mut differing = 0;
     for packet in packets {
         differing += desk.give(packet).expect("no packet is refused").differing;
-        for one in read_packet(packet).unwrap() {
+        for one in read_packet(V1_3b, packet).unwrap() {
             let own = *first.entry(one.number).or_insert(one.body);
             assert!(own == one.body || differ_in_undefined_bits_alone(own, one.body));
         }
@@ -339,14 +339,14 @@ fn the_morning_of_the_tap_fault() {
     const TYPE: usize = 54;
     let mut types = BTreeSet::new();
     for packet in packets_of(&stored).0 {
-        let Err(refusal) = read_packet(packet) else {
+        let Err(refusal) = read_packet(V1_3b, packet) else {
             continue;
         };
         assert_eq!(refusal, Refusal::at(4, TYPE + 1));
         assert_eq!(little(&packet[TYPE + 1..TYPE + 5]), 1_000_000_000);
         let mut mended = packet.to_vec();
         mended[TYPE + 1..TYPE + 5].copy_from_slice(&LAST_NANOSECOND.to_le_bytes());
-        assert_eq!(read_packet(&mended).unwrap().len(), 3);
+        assert_eq!(read_packet(V1_3b, &mended).unwrap().len(), 3);
         assert!(types.insert(packet[TYPE]));
     }
     assert_eq!(types.len(), 10);
@@ -362,14 +362,18 @@ fn the_morning_of_every_bad_field() {
 
     let (mut fields, mut others) = (BTreeSet::new(), Vec::new());
     for packet in packets_of(&stored).0 {
-        match first_fault(packet) {
-            None => assert!(read_packet(packet).is_ok()),
+        match first_fault(V1_3b, packet) {
+            None => assert!(read_packet(V1_3b, packet).is_ok()),
             Some((2, _, Fault::Field(place))) => assert!(fields.insert(place)),
             Some((2, _, other)) => others.push(other),
             Some((record, _, fault)) => panic!("record {record}: {fault:?}"),
         }
     }
-    assert!(fields.into_iter().eq(0..JUDGED_FIELDS.len()));
+    let fields: Vec<_> = fields
+        .into_iter()
+        .map(|place| JUDGED_FIELDS[place])
+        .collect();
+    assert_eq!(fields, judged_fields(V1_3b));
     let wanted = [
         Fault::UnfinishedHeader,
         Fault::BodyPastTheEnd,
@@ -381,18 +385,78 @@ fn the_morning_of_every_bad_field() {
     assert_eq!(others, wanted);
 }
 
+/// The morning of both editions comes to the sheets that tools/editions.py states for it, and has what it is there
+/// for: packets that 1.3 alone refuses, by byte 20, and packets that both refuse, each by the field it judges first.
+#[test]
+fn the_morning_of_both_editions() {
+    let stored = example_file("editions.rec");
+    for (edition, name) in [(V1_3, "1.3"), (V1_3b, "1.3.b")] {
+        let wanted = example_file(&format!("editions.{name}.sheet"));
+        let wanted = String::from_utf8(wanted).unwrap();
+        let text = sheet_of_recording(edition, &stored).unwrap();
+        assert_eq!(String::from_utf8(text).unwrap(), wanted);
+    }
+    let field = |edition, packet| match first_fault(edition, packet) {
+        None => None,
+        Some((_, _, Fault::Field(place))) => Some(JUDGED_FIELDS[place].2),
+        Some(_) => Some("another fault"),
+    };
+    let mut faults = BTreeSet::new();
+    for packet in packets_of(&stored).0 {
+        faults.insert((field(V1_3, packet), field(V1_3b, packet)));
+    }
+    for pair in [
+        (None, None),
+        (Some("security type"), None),
+        (Some("nanoseconds"), Some("nanoseconds")),
+        (Some("security type"), Some("test indicator")),
+        (Some("security type"), Some("market")),
+        (Some("another fault"), Some("another fault")),
+    ] {
+        assert!(faults.contains(&pair), "{pair:?} is not in {faults:?}");
+    }
+}
+
+/// Document 01's example as a recording of 1.3: byte 20 is an `E`, and all others are those of examples/morning.rec.
+#[test]
+fn the_example_of_1_3() {
+    let (typed, plain) = (example_file("morning-1.3.rec"), morning_recording());
+    let differ = |at: &usize| typed[*at] != plain[*at];
+    assert_eq!(typed.len(), plain.len());
+    // Behind the packet's length, a System Time of 15 bytes and a header of 10.
+    let places: Vec<_> = (0..plain.len()).filter(differ).collect();
+    assert_eq!(places, [2 + 15 + 10 + 20]);
+    assert_eq!(typed[places[0]], b'E');
+    let wanted = MORNING_SHEET.replace("lot=", "type=E\nlot=");
+    assert!(example_file("morning-1.3.sheet") == wanted.as_bytes());
+    assert!(sheet_of_recording(V1_3, &typed).unwrap() == wanted.as_bytes());
+    assert_eq!(sheet_text(&typed), MORNING_SHEET);
+}
+
 /// Seeded recordings: every one gives a sheet, and together they show every rule and both words.
 #[test]
 fn seeded_recordings() {
+    for edition in EDITIONS {
+        seeded_recordings_of(edition);
+    }
+}
+
+fn seeded_recordings_of(edition: Edition) {
     let mut stops = BTreeSet::new();
     let mut cuts = 0;
     for seed in seeds(100) {
-        let recording = drawn_recording(seed);
-        let played = play(&recording);
+        let recording = drawn_recording(edition, seed);
+        let played = play(edition, &recording);
         stops.insert(played.desk.state.stop);
         cuts += u64::from(!played.whole);
-        let text = sheet_text(&recording);
+        let text = String::from_utf8(sheet_of_recording(edition, &recording).unwrap()).unwrap();
         assert!(text.ends_with('\n') && !text.contains("\n\n"));
+        let count = |key| text.lines().filter(|line| line.starts_with(key)).count();
+        let types = match edition {
+            V1_3 => count("ticker="),
+            V1_3b => 0,
+        };
+        assert_eq!(count("type="), types, "seed {seed}");
     }
     if all_seeds() {
         for rule in [0, 20, 21, 22, 23, 24, 25, 26] {

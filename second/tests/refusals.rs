@@ -12,6 +12,7 @@ const FRESH: State = State {
     next: 1,
     second: 0,
     stop: 0,
+    edition: V1_3b,
 };
 
 /// Lengths of (order table, symbol table, shelf) that are refused with 6, one at a time.
@@ -46,7 +47,10 @@ fn six_sizes_at_a_start_and_in_receiving() {
         let mut orders = vec![3; numbers];
         let mut symbols = vec![3; entry_bytes];
         let mut shelf = vec![3; shelf_bytes];
-        assert_eq!(start(&mut orders, &mut symbols, &mut shelf), Err(6));
+        for edition in EDITIONS {
+            let answer = start(edition, &mut orders, &mut symbols, &mut shelf);
+            assert_eq!(answer, Err(6));
+        }
         // 6 comes before 1 and before all else.
         for packet in [vec![], vec![0; 1_501], record(1, &time(1)), vec![0; 9]] {
             let answer = receive(FRESH, &mut orders, &mut symbols, &mut shelf, &packet);
@@ -61,7 +65,7 @@ fn six_sizes_at_a_start_and_in_receiving() {
 #[test]
 fn limits_of_sizes_are_good() {
     for (rows, entries) in [(1, 1), (MOST_ROWS, MOST_ENTRIES), (1, 1_000), (1_600, 1)] {
-        let mut desk = Desk::new(rows, entries);
+        let mut desk = Desk::new(V1_3b, rows, entries);
         assert!(desk.orders.iter().all(|number| *number == 0));
         assert!(desk.symbols.iter().all(|byte| *byte == 0));
         assert!(desk.shelf.iter().all(|byte| *byte == 0));
@@ -73,13 +77,13 @@ fn limits_of_sizes_are_good() {
 #[test]
 fn six_next_number() {
     for next in [0, LAST_NUMBER + 2, 1 << 63, u64::MAX] {
-        let mut desk = Desk::new(1, 1);
+        let mut desk = Desk::new(V1_3b, 1, 1);
         desk.state.next = next;
         desk.refuses(6, &record(1, &time(1)));
         desk.refuses(6, &[]);
     }
     for next in [1, LAST_NUMBER, LAST_NUMBER + 1] {
-        let mut desk = Desk::new(1, 1);
+        let mut desk = Desk::new(V1_3b, 1, 1);
         desk.state.next = next;
         assert!(desk.give(&record(1, &time(1))).is_ok());
         desk.refuses(1, &[]);
@@ -88,7 +92,7 @@ fn six_next_number() {
 
 #[test]
 fn one_lengths_of_packets() {
-    let mut desk = Desk::new(1, 1);
+    let mut desk = Desk::new(V1_3b, 1, 1);
     desk.refuses(1, &[]);
     let mut packet = Vec::new();
     for number in 1..=100 {
@@ -104,7 +108,7 @@ fn one_lengths_of_packets() {
 
 #[test]
 fn two_headers_and_bodies_past_the_end() {
-    let mut desk = Desk::new(1, 1);
+    let mut desk = Desk::new(V1_3b, 1, 1);
     let good = record(1, &time(1));
     for length in 1..15 {
         desk.refuses(2, &good[..length]);
@@ -121,7 +125,7 @@ fn two_headers_and_bodies_past_the_end() {
 
 #[test]
 fn five_sequence_numbers() {
-    let mut desk = Desk::new(1, 1);
+    let mut desk = Desk::new(V1_3b, 1, 1);
     for number in [0, LAST_NUMBER + 1, 1 << 40, u64::MAX] {
         desk.refuses(5, &record(number, &time(1)));
         // before 3 and 4, behind 2
@@ -135,13 +139,13 @@ fn five_sequence_numbers() {
 
 #[test]
 fn three_types_and_lengths() {
-    let mut desk = Desk::new(1, 1);
+    let mut desk = Desk::new(V1_3b, 1, 1);
     desk.refuses(3, &record(1, &[]));
     for kind in 0..=255 {
         for length in 1..=80 {
             let mut body = vec![0; length];
             body[0] = kind;
-            let refused = read_body(&body) == Err(Refusal::at(3, 0));
+            let refused = read_body(V1_3b, &body) == Err(Refusal::at(3, 0));
             let known = TYPES_AND_LENGTHS.contains(&(kind, length));
             assert_eq!(refused, !known, "type {kind}, length {length}");
         }
@@ -154,7 +158,7 @@ fn three_types_and_lengths() {
 
 #[test]
 fn four_fields() {
-    let mut desk = Desk::new(1, 1);
+    let mut desk = Desk::new(V1_3b, 1, 1);
     let price_bodies: [&dyn Fn(u64, u32) -> Vec<u8>; 5] = [
         &|price, size| buy(7, 1, price, size),
         &|price, size| modify(7, 1, price, size, 0),
@@ -167,21 +171,27 @@ fn four_fields() {
             desk.refuses(4, &record(1, &body(price, size)));
         }
         for (price, size) in [(1, 1), (HIGHEST_PRICE, u32::MAX)] {
-            assert!(read_body(&body(price, size)).is_ok());
+            assert!(read_body(V1_3b, &body(price, size)).is_ok());
         }
     }
     for byte in 0..=255 {
         let mut body = buy(7, 1, 1, 1);
         body[17] = byte;
-        assert_eq!(read_body(&body).is_ok(), byte == b'B' || byte == b'S');
+        assert_eq!(
+            read_body(V1_3b, &body).is_ok(),
+            byte == b'B' || byte == b'S'
+        );
         let mut body = update(7);
         body[21] = byte;
-        assert_eq!(read_body(&body).is_ok(), byte == b'Y' || byte == b'N');
+        assert_eq!(
+            read_body(V1_3b, &body).is_ok(),
+            byte == b'Y' || byte == b'N'
+        );
         let mut body = update(7);
         body[41] = byte;
         let markets = "A B C H I J K L M N P Q U V W X Y Z";
         let good = byte != b' ' && markets.as_bytes().contains(&byte);
-        assert_eq!(read_body(&body).is_ok(), good, "market {byte}");
+        assert_eq!(read_body(V1_3b, &body).is_ok(), good, "market {byte}");
     }
 }
 
@@ -210,7 +220,11 @@ fn nothing_else_is_judged() {
                 let mut changed = body.clone();
                 changed[at] = byte;
                 if !judged.contains(&at) && !timestamp.contains(&at) {
-                    assert!(read_body(&changed).is_ok(), "type {}, byte {at}", body[0]);
+                    assert!(
+                        read_body(V1_3b, &changed).is_ok(),
+                        "type {}, byte {at}",
+                        body[0]
+                    );
                 }
             }
         }
@@ -250,19 +264,23 @@ fn made_bad_packets_are_refused_as_they_were_made() {
             ..ListSettings::default()
         },
     );
-    let mut desk = Desk::new(40, 5);
+    let mut desk = Desk::new(V1_3b, 40, 5);
     desk.records(&numbered(&list, 1, 20));
     let mut lengths = [0; 2];
     for seed in seeds(20_000) {
         let number = 1 + (seed % 5) as u8;
-        let (packet, refusal) = told_packet(seed, &list, number);
+        let (packet, refusal) = told_packet(V1_3b, seed, &list, number);
         assert_eq!(refusal.number, number, "seed {seed}");
-        assert_eq!(packet, bad_packet(seed, &list, number), "seed {seed}");
+        assert_eq!(
+            packet,
+            bad_packet(V1_3b, seed, &list, number),
+            "seed {seed}"
+        );
         lengths[usize::from(packet.is_empty())] += 1;
         if seed < 2_000 {
             desk.refuses(number, &packet);
         }
-        assert_eq!(read_packet(&packet), Err(refusal), "seed {seed}");
+        assert_eq!(read_packet(V1_3b, &packet), Err(refusal), "seed {seed}");
     }
     if all_seeds() {
         assert!(lengths.iter().all(|count| *count > 1_000), "{lengths:?}");

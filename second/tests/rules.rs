@@ -18,7 +18,7 @@ fn stops(desk: &Desk, rule: u8, body: Vec<u8>) {
     assert_eq!((&desk.orders, &desk.symbols), (&orders, &symbols));
     assert_eq!(desk.state.second, second);
     // The same by the book alone.
-    let message = read_body(&body).unwrap();
+    let message = read_body(V1_3b, &body).unwrap();
     assert_eq!(broken_rule(&message, &orders, &symbols), Some(rule));
     let (mut o, mut s, mut t) = (orders.clone(), symbols.clone(), second);
     assert_eq!(apply(next, &message, &mut o, &mut s, &mut t), Err(rule));
@@ -41,7 +41,7 @@ fn full() -> Desk {
 
 #[test]
 fn system_time_sets_the_second() {
-    let mut desk = Desk::new(1, 1);
+    let mut desk = Desk::new(V1_3b, 1, 1);
     desk.next(time(34_200));
     assert_eq!(desk.state.second, 34_200);
     desk.next(time(u32::MAX));
@@ -52,7 +52,7 @@ fn system_time_sets_the_second() {
 
 #[test]
 fn symbol_update_replaces_or_takes_the_lowest_free_entry() {
-    let mut desk = Desk::new(1, 3);
+    let mut desk = Desk::new(V1_3b, 1, 3);
     let mut first = update(9);
     first[20] = 200;
     first[22] = 201;
@@ -209,8 +209,8 @@ fn no_packet_ends_a_stop_and_a_start_does() {
         );
     }
     desk.refuses(1, &[]);
-    desk.start().unwrap();
-    assert_eq!(desk, Desk::new(2, 2));
+    desk.start(V1_3b).unwrap();
+    assert_eq!(desk, Desk::new(V1_3b, 2, 2));
     // From here the list with the Delete in its place has no stop.
     for body in [update(7), buy(7, 500, 1, 1), delete(7, 500), stopped] {
         assert_eq!(desk.next(body).stop, 0);
@@ -235,7 +235,7 @@ fn made_breakers_break_the_rule_they_were_made_for() {
         }
         for rule in 20..=26 {
             if maker.push_breaker(rule) {
-                let message = read_body(maker.list.last().unwrap()).unwrap();
+                let message = read_body(V1_3b, maker.list.last().unwrap()).unwrap();
                 let broken = broken_rule(&message, &maker.orders, &maker.symbols);
                 assert_eq!(broken, Some(rule), "seed {seed}");
                 made[rule as usize] += 1;

@@ -17,7 +17,7 @@ fn joined(parts: &[Vec<u8>]) -> Vec<u8> {
 
 #[test]
 fn faults_are_judged_record_by_record_from_the_front() {
-    let mut desk = Desk::new(1, 1);
+    let mut desk = Desk::new(V1_3b, 1, 1);
     let price_0 = record(1, &buy(7, 1, 0, 1));
     desk.refuses(4, &joined(&[price_0.clone(), vec![1, 2, 3]]));
     desk.refuses(4, &joined(&[price_0.clone(), record(0, &[])]));
@@ -29,7 +29,7 @@ fn faults_are_judged_record_by_record_from_the_front() {
 
 #[test]
 fn number_0_past_the_end_is_2_and_number_0_with_an_empty_body_is_5() {
-    let mut desk = Desk::new(1, 1);
+    let mut desk = Desk::new(V1_3b, 1, 1);
     desk.refuses(2, &record_claiming(0, 1, &[]));
     desk.refuses(5, &record_claiming(0, 0, &[]));
 }
@@ -38,13 +38,13 @@ fn number_0_past_the_end_is_2_and_number_0_with_an_empty_body_is_5() {
 fn a_known_type_with_another_length_is_3_before_a_field_is_looked_at() {
     let mut kinds = BTreeSet::new();
     for seed in 0..300 {
-        let (body, refusal) = told_body(seed, 4);
-        assert_eq!(read_body(&body), Err(refusal), "seed {seed}");
+        let (body, refusal) = told_body(V1_3b, seed, 4);
+        assert_eq!(read_body(V1_3b, &body), Err(refusal), "seed {seed}");
         let wrong_length = Err(Refusal::at(3, 0));
         let shorter = &body[..body.len() - 1];
-        assert_eq!(read_body(shorter), wrong_length, "seed {seed}");
+        assert_eq!(read_body(V1_3b, shorter), wrong_length, "seed {seed}");
         let longer = [&body[..], &[0]].concat();
-        assert_eq!(read_body(&longer), wrong_length, "seed {seed}");
+        assert_eq!(read_body(V1_3b, &longer), wrong_length, "seed {seed}");
         kinds.insert(body[0]);
     }
     // The ten that have a judged field: all but System Time.
@@ -64,7 +64,7 @@ fn the_type_byte_decides_the_message_and_not_the_length() {
         size: 0x100,
         flags: 1,
     };
-    assert_eq!(read_body(&body), Ok(read));
+    assert_eq!(read_body(V1_3b, &body), Ok(read));
     body[0] = TRADE_CANCEL;
     let read = Message::TradeCancel {
         nanoseconds: 0,
@@ -74,28 +74,28 @@ fn the_type_byte_decides_the_message_and_not_the_length() {
         price: 1,
         size: 0x100_0001,
     };
-    assert_eq!(read_body(&body), Ok(read));
+    assert_eq!(read_body(V1_3b, &body), Ok(read));
     // And what is good as the one may be bad as the other.
     let mut body = modify(7, 9, 1, 1, 0);
-    assert!(read_body(&body).is_ok());
+    assert!(read_body(V1_3b, &body).is_ok());
     body[0] = TRADE_CANCEL;
-    assert_eq!(read_body(&body), Err(Refusal::at(4, 18)));
+    assert_eq!(read_body(V1_3b, &body), Err(Refusal::at(4, 18)));
     // As a Modify this cancel has size 0 (and flags 2, which are not judged).
     let mut body = trade_cancel(0, 7, 9, 0, 1, 0x200_0000);
-    assert!(read_body(&body).is_ok());
+    assert!(read_body(V1_3b, &body).is_ok());
     body[0] = MODIFY_ORDER;
-    assert_eq!(read_body(&body), Err(Refusal::at(4, 25)));
+    assert_eq!(read_body(V1_3b, &body), Err(Refusal::at(4, 25)));
 }
 
 #[test]
 fn price_and_size_are_judged_in_execution_trade_and_cancel_and_a_lot_is_no_size() {
     let execution = order_execution(0, 7, 1, 1, 0, 1, 0);
-    assert_eq!(read_body(&execution), Err(Refusal::at(4, 25)));
+    assert_eq!(read_body(V1_3b, &execution), Err(Refusal::at(4, 25)));
     let sizeless = trade(0, 7, 1, 0, 1, 0, 0);
-    assert_eq!(read_body(&sizeless), Err(Refusal::at(4, 26)));
+    assert_eq!(read_body(V1_3b, &sizeless), Err(Refusal::at(4, 26)));
     let cancel = trade_cancel(0, 7, 1, 0, HIGHEST_PRICE + 1, 1);
-    assert_eq!(read_body(&cancel), Err(Refusal::at(4, 18)));
-    assert!(read_body(&symbol_update(0, 7, b"ABC        ", 0)).is_ok());
+    assert_eq!(read_body(V1_3b, &cancel), Err(Refusal::at(4, 18)));
+    assert!(read_body(V1_3b, &symbol_update(0, 7, b"ABC        ", 0)).is_ok());
 }
 
 /// Of a Modify since request 2; all eight bits stay in the message.
@@ -107,7 +107,7 @@ fn flags_of_execution_trade_and_modify_are_never_judged() {
             trade(0, 7, 1, 0, 1, 1, flags),
             modify(7, 1, 1, 1, flags),
         ] {
-            let message = read_body(&body).expect("any flags are good");
+            let message = read_body(V1_3b, &body).expect("any flags are good");
             assert_eq!(message.numbers().last(), Some(&u64::from(flags)));
         }
     }
@@ -115,12 +115,12 @@ fn flags_of_execution_trade_and_modify_are_never_judged() {
 
 #[test]
 fn order_0_of_symbol_0_a_buy_is_a_live_row() {
-    let mut desk = Desk::new(2, 1);
+    let mut desk = Desk::new(V1_3b, 2, 1);
     desk.records(&[(1, update(0)), (2, buy(0, 0, 1, 1))]);
     assert_eq!(desk.row(0), [0, 0, 1, 1, 2]);
     assert!(row_is_live(desk.row(0)));
     assert_eq!(desk.next(sell(0, 0, 1, 1)).stop, 21);
-    let mut desk = Desk::new(2, 1);
+    let mut desk = Desk::new(V1_3b, 2, 1);
     desk.records(&[(1, update(u32::MAX)), (2, sell(u32::MAX, u64::MAX, 1, 1))]);
     assert_eq!(desk.row(0), [u64::MAX, (1 << 33) - 1, 1, 1, 2]);
     assert!(row_is_live(desk.row(0)));
@@ -144,13 +144,13 @@ fn a_bad_body_refuses_its_packet_even_if_old_or_too_far() {
 #[test]
 fn old_and_too_far_are_judged_against_next_as_it_stands_at_that_record() {
     let records: Vec<_> = (1..=100).map(|n| (n, time(n as u32))).collect();
-    let mut desk = Desk::new(1, 1);
+    let mut desk = Desk::new(V1_3b, 1, 1);
     let answer = desk.records(&records);
     assert_eq!(answer.counts(), [100, 0, 0, 0, 0]);
     assert_eq!((answer.next, answer.applied, answer.stop), (101, 100, 0));
     assert_eq!(desk.state.second, 100);
     // 65 is too far before 1 and in reach behind it.
-    let mut desk = Desk::new(1, 1);
+    let mut desk = Desk::new(V1_3b, 1, 1);
     let answer = desk.records(&[(65, time(1)), (1, time(2)), (65, time(1)), (1, time(2))]);
     assert_eq!(answer.counts(), [2, 1, 1, 0, 0]);
     assert_eq!((answer.next, answer.highest), (2, 65));
@@ -158,7 +158,7 @@ fn old_and_too_far_are_judged_against_next_as_it_stands_at_that_record() {
 
 #[test]
 fn two_copies_in_one_packet() {
-    let mut desk = Desk::new(1, 1);
+    let mut desk = Desk::new(V1_3b, 1, 1);
     // The first was applied: old, even if it differs.
     let answer = desk.records(&[(1, time(1)), (1, time(1)), (1, time(2))]);
     assert_eq!(answer.counts(), [1, 2, 0, 0, 0]);
@@ -174,7 +174,7 @@ fn two_copies_in_one_packet() {
 
 #[test]
 fn a_slot_whose_number_is_0_is_empty_whatever_stands_behind() {
-    let mut desk = Desk::new(1, 1);
+    let mut desk = Desk::new(V1_3b, 1, 1);
     desk.slot(1).fill(255);
     desk.slot(1)[0..8].fill(0);
     desk.slot(2)[8..74].fill(7);
@@ -188,7 +188,7 @@ fn a_slot_whose_number_is_0_is_empty_whatever_stands_behind() {
 
 #[test]
 fn an_unknown_symbol_does_not_stop_the_other_four_nor_a_new_session() {
-    let mut desk = Desk::new(1, 1);
+    let mut desk = Desk::new(V1_3b, 1, 1);
     let answer = desk.records(&[
         (1, trading_status(0, 9, &[0, 0, 0])),
         (2, trade(0, 9, 1, 0, 1, 1, 0)),
@@ -221,7 +221,7 @@ fn rule_23_is_judged_on_the_lowest_live_row_alone_and_20_comes_first() {
         execute(7, 500, 1),
         execute(7, 500, 41),
     ] {
-        let message = read_body(&body).unwrap();
+        let message = read_body(V1_3b, &body).unwrap();
         assert_eq!(broken_rule(&message, &desk.orders, &desk.symbols), Some(23));
     }
     for body in [
@@ -230,7 +230,7 @@ fn rule_23_is_judged_on_the_lowest_live_row_alone_and_20_comes_first() {
         execute(9, 500, 99),
         buy(9, 500, 1, 1),
     ] {
-        let message = read_body(&body).unwrap();
+        let message = read_body(V1_3b, &body).unwrap();
         assert_eq!(broken_rule(&message, &desk.orders, &desk.symbols), Some(20));
     }
     // Under symbol 8 the second row, and it alone, is worked on; then the third is the lowest.
@@ -269,7 +269,7 @@ fn a_spoiled_entry_makes_its_symbol_unknown_and_is_not_free() {
 
 #[test]
 fn a_free_entry_may_hold_anything_behind_its_type() {
-    let mut desk = Desk::new(1, 2);
+    let mut desk = Desk::new(V1_3b, 1, 2);
     desk.symbols[1..42].fill(9);
     assert_eq!(desk.next(update(7)).stop, 0);
     assert_eq!(desk.symbols[..42], update(7));
@@ -302,7 +302,7 @@ fn messages_are_worked_only_after_a_taken_record() {
 fn stop_27() {
     // Another number, lower or higher.
     for number in [1, 5 + 64, 5 - 4, 4, 6, LAST_NUMBER, u64::MAX] {
-        let mut desk = Desk::new(1, 1);
+        let mut desk = Desk::new(V1_3b, 1, 1);
         desk.state.next = 5;
         desk.slot(5).copy_from_slice(&filled_slot(number, &time(9)));
         let answer = desk.records(&[(7, time(1))]);
@@ -326,7 +326,7 @@ fn stop_27() {
         bodies.push(slot);
     }
     for slot in bodies {
-        let mut desk = Desk::new(1, 1);
+        let mut desk = Desk::new(V1_3b, 1, 1);
         desk.state.next = 5;
         desk.slot(5).copy_from_slice(&slot);
         let answer = desk.records(&[(6, time(1))]);
@@ -337,7 +337,7 @@ fn stop_27() {
 
 #[test]
 fn padding_behind_a_good_body_leaves_it_good_but_a_copy_then_differs() {
-    let mut desk = Desk::new(1, 1);
+    let mut desk = Desk::new(V1_3b, 1, 1);
     desk.records(&[(2, time(2))]);
     desk.slot(2)[73] = 1;
     let answer = desk.records(&[(2, time(2))]);
@@ -349,7 +349,7 @@ fn padding_behind_a_good_body_leaves_it_good_but_a_copy_then_differs() {
 
 #[test]
 fn the_same_bytes_under_another_length_differ() {
-    let mut desk = Desk::new(1, 1);
+    let mut desk = Desk::new(V1_3b, 1, 1);
     desk.records(&[(2, time(0))]);
     desk.slot(2)[8] = 6;
     let answer = desk.records(&[(2, time(0))]);
@@ -358,7 +358,7 @@ fn the_same_bytes_under_another_length_differ() {
 
 #[test]
 fn next_beyond_the_last_number() {
-    let mut desk = Desk::new(1, 1);
+    let mut desk = Desk::new(V1_3b, 1, 1);
     desk.state.next = LAST_NUMBER;
     desk.slot(LAST_NUMBER + 1)
         .copy_from_slice(&filled_slot(LAST_NUMBER + 1, &time(8)));
@@ -368,7 +368,7 @@ fn next_beyond_the_last_number() {
     assert_eq!(desk.state.second, 8);
     desk.refuses(6, &record(1, &time(1)));
     // Without the altered slot the last number is good and all that follows is old.
-    let mut desk = Desk::new(1, 1);
+    let mut desk = Desk::new(V1_3b, 1, 1);
     desk.state.next = LAST_NUMBER;
     assert_eq!(
         desk.records(&[(LAST_NUMBER, time(7))]).next,
@@ -387,11 +387,11 @@ fn next_beyond_the_last_number() {
 
 #[test]
 fn highest_is_the_largest_number_in_any_slot_after_the_packet() {
-    let mut desk = Desk::new(1, 1);
+    let mut desk = Desk::new(V1_3b, 1, 1);
     desk.slot(3).copy_from_slice(&filled_slot(u64::MAX, &[]));
     desk.slot(4).copy_from_slice(&filled_slot(2, &[]));
     assert_eq!(desk.records(&[(1, time(1))]).highest, u64::MAX);
-    let mut desk = Desk::new(1, 1);
+    let mut desk = Desk::new(V1_3b, 1, 1);
     assert_eq!(desk.records(&[(9, time(1)), (5, time(1))]).highest, 9);
     assert_eq!(desk.records(&[(1, time(1))]).highest, 9);
 }
@@ -418,7 +418,7 @@ fn the_stop_is_worked_out_anew_and_a_refused_packet_leaves_the_earlier_one() {
 
 #[test]
 fn a_differing_copy_that_arrives_first_stays_and_is_applied() {
-    let mut desk = Desk::new(1, 1);
+    let mut desk = Desk::new(V1_3b, 1, 1);
     let answer = desk.records(&[(2, time(22)), (2, time(2)), (1, time(1))]);
     assert_eq!(answer.counts(), [2, 0, 0, 0, 1]);
     assert_eq!(desk.state.second, 22);
@@ -448,7 +448,7 @@ fn bit_0_clear_with_another_price_keeps_the_old_rank() {
 
 #[test]
 fn number_64_lies_in_slot_0_and_number_1_in_slot_1() {
-    let mut desk = Desk::new(1, 1);
+    let mut desk = Desk::new(V1_3b, 1, 1);
     desk.records(&[(64, time(34_200)), (2, time(2)), (63, clear(7))]);
     let mut wanted = vec![0; 4_736];
     wanted[..15].copy_from_slice(&[64, 0, 0, 0, 0, 0, 0, 0, 5, 0, 49, 0x98, 0x85, 0, 0]);
@@ -484,7 +484,8 @@ fn a_start_resets_the_stop_and_all_else() {
     let mut desk = Desk::example();
     desk.next(delete(7, 999));
     assert_eq!(desk.state.stop, 22);
-    let state = second::receiver::start(&mut desk.orders, &mut desk.symbols, &mut desk.shelf);
+    let state =
+        second::receiver::start(V1_3b, &mut desk.orders, &mut desk.symbols, &mut desk.shelf);
     assert_eq!(
         state.map(|state| (state.next, state.second, state.stop)),
         Ok((1, 0, 0))

@@ -198,10 +198,10 @@ fn undefined_bits_of_a_delivery_reach_no_table() {
             }
         }
         let (how, seed_of_packets) = (true_delivery(dice.bits()), dice.bits());
-        let packets = delivery(seed_of_packets, &list, how);
-        let plain_packets = delivery(seed_of_packets, &plain, how);
+        let packets = delivery(V1_3b, seed_of_packets, &list, how);
+        let plain_packets = delivery(V1_3b, seed_of_packets, &plain, how);
         assert_eq!(packets.len(), plain_packets.len(), "seed {seed}");
-        let mut desk = Desk::new(settings.rows, settings.entries);
+        let mut desk = Desk::new(V1_3b, settings.rows, settings.entries);
         let mut plain_desk = desk.clone();
         for (packet, plain_packet) in packets.iter().zip(&plain_packets) {
             let answer = desk.give(packet);
@@ -243,12 +243,16 @@ fn modifies_of_seeded_lists_carry_every_flag_byte() {
 fn no_body_is_made_bad_by_its_flags() {
     let mut modifies = 0;
     for seed in seeds(2_000) {
-        let (mut body, refusal) = told_body(seed, 4);
+        let (mut body, refusal) = told_body(V1_3b, seed, 4);
         if body[0] == MODIFY_ORDER {
             modifies += 1;
             for flags in 0..=255 {
                 body[FLAGS_OF_MODIFY] = flags;
-                assert_eq!(read_body(&body), Err(refusal), "seed {seed}, flags {flags}");
+                assert_eq!(
+                    read_body(V1_3b, &body),
+                    Err(refusal),
+                    "seed {seed}, flags {flags}"
+                );
             }
         }
     }
@@ -263,9 +267,9 @@ fn differing_copies_by_undefined_bits_alone() {
     let (mut alone, mut bits) = (0, 0);
     for seed in seeds(2_000) {
         let body = of_500(Dice::new(seed ^ 0xF1A6).bits() as u8);
-        let copy = differing_copy(seed, &body);
+        let copy = differing_copy(V1_3b, seed, &body);
         assert_ne!(copy, body, "seed {seed}");
-        assert!(read_body(&copy).is_ok(), "seed {seed}");
+        assert!(read_body(V1_3b, &copy).is_ok(), "seed {seed}");
         if differ_in_undefined_bits_alone(&copy, &body) {
             alone += 1;
             bits |= copy[FLAGS_OF_MODIFY] ^ body[FLAGS_OF_MODIFY];

@@ -54,7 +54,7 @@ fn whole_levels_only_and_the_answer_counts_all() {
 
 #[test]
 fn the_largest_sums_and_spreads() {
-    let mut desk = Desk::new(1_600, 1);
+    let mut desk = Desk::new(V1_3b, 1_600, 1);
     desk.next(update(7));
     for order in 0..1_599 {
         desk.next(buy(7, order, HIGHEST_PRICE, u32::MAX));

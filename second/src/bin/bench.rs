@@ -25,6 +25,7 @@ fn main() -> ExitCode {
 
 #[cfg(linked)]
 mod linked {
+    use second::edition::Edition;
     use second::examples::example_list;
     use second::morning::{bad_packet, system_time};
     use second::packet::*;
@@ -39,6 +40,7 @@ mod linked {
     use std::process::{Command, Stdio};
     use std::time::{Duration, Instant};
 
+    const EDITION: Edition = Edition::V1_3b;
     const REPETITIONS: usize = 11;
     const PROGRAM_REPETITIONS: usize = 3;
     /// Records in a packet at most.
@@ -129,14 +131,14 @@ mod linked {
         let records: Vec<_> = (1..=MESSAGES as u64)
             .map(|number| (number, system_time(number as u32)))
             .collect();
-        let opened = Proved::new(MOST_ROWS, MOST_ENTRIES).map_err(refused)?;
+        let opened = Proved::new(EDITION, MOST_ROWS, MOST_ENTRIES).map_err(refused)?;
         receiving("receive, no book: System Time alone", &opened, &records)
     }
 
     /// A busy hour at so many live orders, in a table of so many rows. The opening is not timed.
     fn receiving_orders(live: usize, rows: usize) -> Result<(), String> {
         let mut traffic = Traffic::new(live as u64, live);
-        let mut opened = Proved::new(rows, MOST_ENTRIES).map_err(refused)?;
+        let mut opened = Proved::new(EDITION, rows, MOST_ENTRIES).map_err(refused)?;
         for packet in in_packets(&traffic.opening(), RECORDS) {
             opened.receive(&packet).map_err(refused)?;
         }
@@ -188,11 +190,12 @@ mod linked {
     }
 
     fn second_receives(receiver: &mut Proved, packets: &[Vec<u8>]) {
-        let [next, second, stop] = receiver.state;
+        let [next, second, stop, edition] = receiver.state;
         let mut state = State {
             next,
             second,
             stop: stop as u8,
+            edition: Edition::of_number(edition),
         };
         for packet in packets {
             let answer = receive(
@@ -207,7 +210,8 @@ mod linked {
                 black_box(answer);
             }
         }
-        receiver.state = [state.next, state.second, state.stop.into()];
+        let (stop, edition) = (state.stop.into(), state.edition.number());
+        receiver.state = [state.next, state.second, stop, edition];
     }
 
     // -----------------------------------------------------------------------------------------
@@ -222,7 +226,7 @@ mod linked {
         records.extend((0..MESSAGES * 5).map(|_| traffic.message()));
         let packets = in_packets(&records, 30);
         let wanted = Ok(records.len() as u64);
-        let proved = || counted(&packets, proved::packet);
+        let proved = || counted(&packets, proved_count);
         let lists = || counted(&packets, listed_count);
         let plain = || counted(&packets, plain_count);
         if [proved(), lists(), plain()] != [wanted, wanted, wanted] {
@@ -252,8 +256,8 @@ mod linked {
     fn refuse_alike() -> Result<(), String> {
         let list = example_list();
         for seed in 0..1_000 {
-            let packet = bad_packet(seed, &list, 1 + (seed % 5) as u8);
-            let wanted = proved::packet(&packet);
+            let packet = bad_packet(EDITION, seed, &list, 1 + (seed % 5) as u8);
+            let wanted = proved_count(&packet);
             if [listed_count(&packet), plain_count(&packet)] != [wanted, wanted] {
                 return Err(format!("the readers refuse seed {seed} differently"));
             }
@@ -273,8 +277,12 @@ mod linked {
         Ok(sum)
     }
 
+    fn proved_count(packet: &[u8]) -> Result<u64, Refusal> {
+        proved::packet(EDITION, packet)
+    }
+
     fn listed_count(packet: &[u8]) -> Result<u64, Refusal> {
-        read_packet(packet).map(|records| records.len() as u64)
+        read_packet(EDITION, packet).map(|records| records.len() as u64)
     }
 
     /// What one would write for speed and nothing else: one pass, no list.

@@ -2,6 +2,7 @@
 //! argument (`examples` if none is). The bytes are the same on every run.
 #![forbid(unsafe_code)]
 
+use second::edition::Edition;
 use second::examples::{long_recording, morning_recording, MORNING_SHEET};
 use second::sheet::sheet_of_recording;
 use std::path::PathBuf;
@@ -25,12 +26,13 @@ fn run() -> Result<(), String> {
         _ => return Err("at most one argument, the folder".to_string()),
     };
     let refused = |number| format!("refused with {number}");
+    let edition = Edition::V1_3b;
     let morning = morning_recording();
-    if sheet_of_recording(&morning).map_err(refused)? != MORNING_SHEET.as_bytes() {
+    if sheet_of_recording(edition, &morning).map_err(refused)? != MORNING_SHEET.as_bytes() {
         return Err("the example does not give document 01's sheet".to_string());
     }
     let long = long_recording();
-    let long_sheet = sheet_of_recording(&long).map_err(refused)?;
+    let long_sheet = sheet_of_recording(edition, &long).map_err(refused)?;
     std::fs::create_dir_all(&folder).map_err(|error| error.to_string())?;
     for (name, bytes) in [
         ("morning.rec", morning.as_slice()),

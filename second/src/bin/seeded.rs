@@ -1,25 +1,18 @@
-//! The recording of a seed on standard output: `seeded 17 | sheet2`.
+//! The recording of a seed on standard output: `seeded 17 | sheet2`. With `--edition 1.3` its Symbol Updates have
+//! a Security Type: `seeded --edition 1.3 17 | sheet2 --edition 1.3`.
 #![forbid(unsafe_code)]
 
-use std::io::Write;
+use second::command::over_arguments;
+use second::morning::drawn_recording;
 use std::process::ExitCode;
 
 fn main() -> ExitCode {
-    let arguments: Vec<String> = std::env::args().skip(1).collect();
-    let seed: u64 = match arguments.as_slice() {
-        [text] if text.parse::<u64>().is_ok() => text.parse().unwrap_or(0),
-        _ => {
-            eprintln!("seeded: one argument, the seed, a number from 0 to 2^64 - 1");
-            return ExitCode::FAILURE;
-        }
-    };
-    let recording = second::morning::drawn_recording(seed);
-    let mut out = std::io::stdout().lock();
-    match out.write_all(&recording).and_then(|()| out.flush()) {
-        Ok(()) => ExitCode::SUCCESS,
-        Err(error) => {
-            eprintln!("seeded: standard output: {error}");
-            ExitCode::FAILURE
-        }
-    }
+    over_arguments("seeded", |edition, arguments| {
+        let seed = match arguments {
+            [word] => word.to_str().and_then(|text| text.parse().ok()),
+            _ => None,
+        };
+        let seed = seed.ok_or("one argument, the seed, a number from 0 to 2^64 - 1")?;
+        Ok(drawn_recording(edition, seed))
+    })
 }

@@ -1,10 +1,11 @@
 //! Damage to tables, shelves and states, as a caller may do it between two calls.
 
 use super::{
-    bad_body, bad_nanoseconds, bad_packet, delivery, differing_copy, good_body, good_nanoseconds,
-    list, packet, rough_delivery, set_timestamp, Dice, ListSettings,
+    bad_body, bad_nanoseconds, bad_packet, delivery, differing_copy, good_body, good_body_of,
+    good_nanoseconds, list, packet, rough_delivery, set_timestamp, Dice, ListSettings,
 };
 use crate::desk::Desk;
+use crate::edition::{Edition, BYTE_20, EDITIONS};
 use crate::packet::*;
 use crate::receiver::*;
 use crate::tables::*;
@@ -58,19 +59,28 @@ pub fn damage_symbols(seed: u64, symbols: &mut [u8]) {
         let mut source = [0; ENTRY_BYTES];
         source.copy_from_slice(entry(symbols, from));
         let entry = entry_mut(symbols, place);
-        match dice.below(7) {
+        match dice.below(8) {
             0 => entry.copy_from_slice(&source),
             1 => entry[5..9].copy_from_slice(&source[5..9]),
             2 | 3 => entry[0] = dice.pick(&[0, 1, 1, 2, 20, 255]),
             4 => entry[21] = dice.bits() as u8,
             5 => entry[41] = dice.bits() as u8,
+            6 => entry[BYTE_20] = odd_byte_20(&mut dice),
             _ => entry[dice.below(ENTRY_BYTES as u64) as usize] = dice.bits() as u8,
         }
     }
 }
 
-/// Slots, most often next's, given other numbers, lengths, bodies or padding.
-pub fn damage_shelf(seed: u64, shelf: &mut [u8], next: u64) {
+/// What may stand in byte 20, whoever put it there: a Security Type or not, shown as it is or as a full stop.
+pub fn odd_byte_20(dice: &mut Dice) -> u8 {
+    match dice.below(2) {
+        0 => dice.pick(b"EFGefN \0\x1f~\x7f\xff"),
+        _ => dice.bits() as u8,
+    }
+}
+
+/// Slots, most often next's, given other numbers, lengths, bodies or padding; what is good is so in an edition.
+pub fn damage_shelf(edition: Edition, seed: u64, shelf: &mut [u8], next: u64) {
     let mut dice = Dice::new(seed);
     if shelf.len() != SHELF_BYTES {
         return;
@@ -82,10 +92,10 @@ pub fn damage_shelf(seed: u64, shelf: &mut [u8], next: u64) {
             _ => dice.bits(),
         };
         let slot = slot_mut(shelf, number);
-        match dice.below(12) {
+        match dice.below(13) {
             // a good message, with this number or with one that has no business here
             0..=2 => {
-                let body = good_body(&mut dice);
+                let body = good_body(edition, &mut dice);
                 let other = dice.pick(&[
                     number,
                     number,
@@ -100,7 +110,7 @@ pub fn damage_shelf(seed: u64, shelf: &mut [u8], next: u64) {
             // a bad body
             3 => {
                 let refusal = dice.between(3, 4) as u8;
-                let mut body = bad_body(dice.bits(), refusal);
+                let mut body = bad_body(edition, dice.bits(), refusal);
                 body.truncate(PADDED_BYTES);
                 slot.copy_from_slice(&filled_slot(number, &body));
             }
@@ -116,7 +126,7 @@ pub fn damage_shelf(seed: u64, shelf: &mut [u8], next: u64) {
             // another Timestamp, good or not, of what lies there or of a good message put there
             9 | 10 => {
                 if slot_number(slot) == 0 {
-                    slot.copy_from_slice(&filled_slot(number, &good_body(&mut dice)));
+                    slot.copy_from_slice(&filled_slot(number, &good_body(edition, &mut dice)));
                 }
                 let nanoseconds = match dice.below(2) {
                     0 => good_nanoseconds(&mut dice),
@@ -125,15 +135,21 @@ pub fn damage_shelf(seed: u64, shelf: &mut [u8], next: u64) {
                 set_timestamp(&mut slot[10..], nanoseconds);
             }
             8 => slot[10] = dice.bits() as u8,
+            // a Symbol Update with any byte 20, as the other edition may have let it in
+            12 => {
+                let mut body = good_body_of(edition, &mut dice, SYMBOL_UPDATE);
+                body[BYTE_20] = odd_byte_20(&mut dice);
+                slot.copy_from_slice(&filled_slot(number, &body));
+            }
             _ => slot[dice.below(SLOT_BYTES as u64) as usize] = dice.bits() as u8,
         }
     }
 }
 
-/// Another next number, second or stop.
+/// Another next number, second, stop or edition.
 pub fn damage_state(seed: u64, state: &mut State) {
     let mut dice = Dice::new(seed);
-    match dice.below(6) {
+    match dice.below(7) {
         0 => {
             state.next = dice.pick(&[
                 0,
@@ -150,6 +166,7 @@ pub fn damage_state(seed: u64, state: &mut State) {
         2 => state.next = state.next.wrapping_add(dice.between(1, 70)),
         3 => state.next = state.next.wrapping_sub(dice.between(1, 70)),
         4 => state.second = dice.bits() >> dice.below(64),
+        5 => state.edition = state.edition.other(),
         _ => state.stop = dice.bits() as u8,
     }
 }
@@ -166,7 +183,9 @@ pub struct Case {
 /// tenth of it is the chance of a table of another size.
 pub fn case(seed: u64, damage: u64) -> Case {
     let mut dice = Dice::new(seed);
+    let edition = dice.pick(&EDITIONS);
     let settings = ListSettings {
+        edition,
         messages: dice.between(10, 100) as usize,
         rows: dice.between(1, 24) as usize,
         entries: dice.between(1, 6) as usize,
@@ -179,9 +198,9 @@ pub fn case(seed: u64, damage: u64) -> Case {
         ending: 0,
     };
     let list = list(dice.bits(), settings);
-    let packets = delivery(dice.bits(), &list, rough_delivery(dice.bits()));
+    let packets = delivery(edition, dice.bits(), &list, rough_delivery(dice.bits()));
 
-    let mut desk = Desk::new(settings.rows, settings.entries);
+    let mut desk = Desk::new(edition, settings.rows, settings.entries);
     let played = dice.below(packets.len() as u64 + 1) as usize;
     for packet in &packets[..played] {
         let _ = desk.give(packet); // bad packets are among them
@@ -197,7 +216,7 @@ pub fn case(seed: u64, damage: u64) -> Case {
         damage_state(dice.bits(), &mut desk.state);
     }
     if dice.chance(damage) {
-        damage_shelf(dice.bits(), &mut desk.shelf, desk.state.next);
+        damage_shelf(edition, dice.bits(), &mut desk.shelf, desk.state.next);
     }
     if dice.chance(damage / 10) {
         match dice.below(8) {
@@ -215,16 +234,22 @@ pub fn case(seed: u64, damage: u64) -> Case {
     let packet = match dice.below(10) {
         0 => {
             let refusal = dice.between(1, 5) as u8;
-            bad_packet(dice.bits(), &list, refusal)
+            bad_packet(edition, dice.bits(), &list, refusal)
         }
         1 if played < packets.len() => packets[played].clone(),
-        _ => packet_near(dice.bits(), &list, &desk.shelf, desk.state.next),
+        _ => packet_near(edition, dice.bits(), &list, &desk.shelf, desk.state.next),
     };
     Case { desk, packet }
 }
 
-/// A good packet of numbers near next: what the list or the shelf has for them, or anything.
-pub fn packet_near(seed: u64, list: &[Vec<u8>], shelf: &[u8], next: u64) -> Vec<u8> {
+/// A packet of numbers near next, good in an edition: what the list or the shelf has for them, or anything.
+pub fn packet_near(
+    edition: Edition,
+    seed: u64,
+    list: &[Vec<u8>],
+    shelf: &[u8],
+    next: u64,
+) -> Vec<u8> {
     let mut dice = Dice::new(seed);
     let mut records = Vec::new();
     for _ in 0..dice.between(1, 12) {
@@ -247,12 +272,12 @@ pub fn packet_near(seed: u64, list: &[Vec<u8>], shelf: &[u8], next: u64) -> Vec<
             // what the shelf has: most often a repeat
             let slot = slot(shelf, number);
             let length = little(&slot[8..10]) as usize;
-            if length <= PADDED_BYTES && read_body(&slot[10..10 + length]).is_ok() {
+            if length <= PADDED_BYTES && read_body(edition, &slot[10..10 + length]).is_ok() {
                 body = slot[10..10 + length].to_vec();
             }
         }
         if dice.below(6) == 0 {
-            body = differing_copy(dice.bits(), &body);
+            body = differing_copy(edition, dice.bits(), &body);
         }
         records.push((number, body));
     }

@@ -3,6 +3,7 @@
 
 use super::faults::bad_packet;
 use super::{list, messages::*, Dice, ListSettings};
+use crate::edition::{Edition, BYTE_20};
 use crate::packet::*;
 use crate::tables::{MOST_ENTRIES, MOST_ROWS};
 
@@ -32,8 +33,13 @@ pub struct DeliverySettings {
 /// Records with the time at which they come.
 type Timed = (u64, Vec<(u64, Vec<u8>)>);
 
-/// The packets of a delivery of a list, in the order in which they come.
-pub fn delivery(seed: u64, list: &[Vec<u8>], settings: DeliverySettings) -> Vec<Vec<u8>> {
+/// The packets of a delivery of an edition's list, in the order in which they come.
+pub fn delivery(
+    edition: Edition,
+    seed: u64,
+    list: &[Vec<u8>],
+    settings: DeliverySettings,
+) -> Vec<Vec<u8>> {
     let mut dice = Dice::new(seed);
     let mut timed: Vec<Timed> = Vec::new();
     let mut came = vec![false; list.len() + 1];
@@ -103,14 +109,14 @@ pub fn delivery(seed: u64, list: &[Vec<u8>], settings: DeliverySettings) -> Vec<
     for (_, mut records) in timed {
         if dice.chance(settings.bad) {
             let refusal = dice.between(1, 5) as u8;
-            packets.push(bad_packet(dice.bits(), list, refusal));
+            packets.push(bad_packet(edition, dice.bits(), list, refusal));
         }
         if dice.chance(settings.shuffled) {
             dice.shuffle(&mut records);
         }
         for (_, body) in &mut records {
             if dice.chance(settings.differing) {
-                *body = differing_copy(dice.bits(), body);
+                *body = differing_copy(edition, dice.bits(), body);
             }
         }
         packets.extend(packed(&records));
@@ -149,13 +155,17 @@ pub fn packed(records: &[(u64, Vec<u8>)]) -> Vec<Vec<u8>> {
 }
 
 /// A good body that is not this one: other nanoseconds, another size, another message, or a Modify with
-/// other undefined bits, which reach a table as little as nanoseconds do.
-pub fn differing_copy(seed: u64, body: &[u8]) -> Vec<u8> {
+/// other undefined bits, which reach a table as little as nanoseconds do; where an edition has it, the other
+/// Security Type.
+pub fn differing_copy(edition: Edition, seed: u64, body: &[u8]) -> Vec<u8> {
     let mut dice = Dice::new(seed);
     loop {
         let mut copy = body.to_vec();
         match dice.below(4) {
             0 => copy = system_time(dice.bits() as u32),
+            1 if copy[0] == SYMBOL_UPDATE && edition.has_security_type() => {
+                copy[BYTE_20] ^= b'E' ^ b'F';
+            }
             1 => {
                 if let Some(at) = size_offset(copy[0]) {
                     let size = dice.between(1, 1_000) as u32;
@@ -167,7 +177,7 @@ pub fn differing_copy(seed: u64, body: &[u8]) -> Vec<u8> {
             }
             _ => copy[1 + dice.below(4) as usize] ^= dice.between(1, 255) as u8,
         }
-        if copy != body && read_body(&copy).is_ok() {
+        if copy != body && read_body(edition, &copy).is_ok() {
             return copy;
         }
     }
@@ -199,12 +209,13 @@ pub fn true_delivery(seed: u64) -> DeliverySettings {
     }
 }
 
-/// A recording of a drawn morning, made for the sheet program's full capacities. Some are cut.
-pub fn drawn_recording(seed: u64) -> Vec<u8> {
+/// A recording of a drawn morning in an edition, made for the sheet program's full capacities. Some are cut.
+pub fn drawn_recording(edition: Edition, seed: u64) -> Vec<u8> {
     let mut dice = Dice::new(seed);
     // One in sixteen fills both tables, and its last message finds no free row or entry.
     let filling = dice.below(16) == 0;
     let mut settings = ListSettings {
+        edition,
         messages: dice.between(1, 600) as usize,
         rows: MOST_ROWS,
         entries: MOST_ENTRIES,
@@ -229,7 +240,7 @@ pub fn drawn_recording(seed: u64) -> Vec<u8> {
         how = true_delivery(dice.bits());
         how.fill = true;
     }
-    let mut bytes = recording(&delivery(dice.bits(), &list, how));
+    let mut bytes = recording(&delivery(edition, dice.bits(), &list, how));
     if dice.chance(250) {
         bytes.truncate(dice.below(bytes.len() as u64 + 1) as usize);
     }

@@ -1,16 +1,22 @@
-//! Packets, records and bodies that are refused, each with the number and the offset it is made for.
+//! Packets, records and bodies that are refused in an edition, each with the number and the offset it is made for.
 
 use super::{messages::*, Dice};
+use crate::edition::{Edition, BYTE_20};
 use crate::packet::*;
 
 /// A packet that is refused with this number (1 to 5): good records of the list in front, the
 /// fault, and behind it good records and further faults.
-pub fn bad_packet(seed: u64, list: &[Vec<u8>], number: u8) -> Vec<u8> {
-    told_packet(seed, list, number).0
+pub fn bad_packet(edition: Edition, seed: u64, list: &[Vec<u8>], number: u8) -> Vec<u8> {
+    told_packet(edition, seed, list, number).0
 }
 
 /// The same, and the refusal with its offset: where the fault was put.
-pub fn told_packet(seed: u64, list: &[Vec<u8>], refusal: u8) -> (Vec<u8>, Refusal) {
+pub fn told_packet(
+    edition: Edition,
+    seed: u64,
+    list: &[Vec<u8>],
+    refusal: u8,
+) -> (Vec<u8>, Refusal) {
     let mut dice = Dice::new(seed);
     let good = |dice: &mut Dice| {
         let number = dice.between(1, list.len() as u64);
@@ -35,22 +41,22 @@ pub fn told_packet(seed: u64, list: &[Vec<u8>], refusal: u8) -> (Vec<u8>, Refusa
     }
     let start = packet.len();
     if refusal == 2 {
-        packet.extend_from_slice(&faulty_end(&mut dice));
+        packet.extend_from_slice(&faulty_end(edition, &mut dice));
         return (packet, Refusal::at(2, start));
     }
-    let (faulty, told) = told_record(&mut dice, refusal);
+    let (faulty, told) = told_record(edition, &mut dice, refusal);
     packet.extend_from_slice(&faulty);
     for _ in 0..dice.below(4) {
         match dice.below(3) {
             0 => {
                 let further = dice.between(3, 5) as u8;
-                packet.extend_from_slice(&told_record(&mut dice, further).0);
+                packet.extend_from_slice(&told_record(edition, &mut dice, further).0);
             }
             _ => packet.extend_from_slice(&good(&mut dice)),
         }
     }
     if dice.below(4) == 0 {
-        packet.extend_from_slice(&faulty_end(&mut dice));
+        packet.extend_from_slice(&faulty_end(edition, &mut dice));
     }
     (packet, told.behind(start))
 }
@@ -71,20 +77,20 @@ fn bad_number(dice: &mut Dice) -> u64 {
 }
 
 /// A body that is refused with 3 or 4.
-pub fn bad_body(seed: u64, number: u8) -> Vec<u8> {
-    told_body(seed, number).0
+pub fn bad_body(edition: Edition, seed: u64, number: u8) -> Vec<u8> {
+    told_body(edition, seed, number).0
 }
 
 /// The same, and the refusal with its offset in the body.
-pub fn told_body(seed: u64, number: u8) -> (Vec<u8>, Refusal) {
+pub fn told_body(edition: Edition, seed: u64, number: u8) -> (Vec<u8>, Refusal) {
     let mut dice = Dice::new(seed);
-    let mut body = good_body(&mut dice);
+    let mut body = good_body(edition, &mut dice);
     if number == 4 {
-        let earliest = spoil_fields(&mut dice, &mut body);
+        let earliest = spoil_fields(edition, &mut dice, &mut body);
         return (body, Refusal::at(4, earliest));
     }
     if dice.below(2) == 0 {
-        spoil_fields(&mut dice, &mut body);
+        spoil_fields(edition, &mut dice, &mut body);
     }
     match dice.below(4) {
         0 => body.clear(),
@@ -108,13 +114,13 @@ pub fn told_body(seed: u64, number: u8) -> (Vec<u8>, Refusal) {
 
 /// Put one to three judged fields out of range, in a message that has such fields: any but System Time. The
 /// lowest of their offsets is answered.
-fn spoil_fields(dice: &mut Dice, body: &mut Vec<u8>) -> usize {
+fn spoil_fields(edition: Edition, dice: &mut Dice, body: &mut Vec<u8>) -> usize {
     while body[0] == SYSTEM_TIME {
-        *body = good_body(dice);
+        *body = good_body(edition, dice);
     }
     let mut earliest = body.len();
     for _ in 0..dice.between(1, 3) {
-        let at = some_field(dice, body[0]);
+        let at = some_field(edition, dice, body[0]);
         spoil_field(dice, body, at);
         earliest = earliest.min(at);
     }
@@ -122,13 +128,11 @@ fn spoil_fields(dice: &mut Dice, body: &mut Vec<u8>) -> usize {
 }
 
 /// The offset of a judged field of a type: the Timestamp one time in three, or where it is the only one.
-fn some_field(dice: &mut Dice, kind: u8) -> usize {
+fn some_field(edition: Edition, dice: &mut Dice, kind: u8) -> usize {
     match (dice.below(3), kind) {
         (0, _) => 1,
-        (_, SYMBOL_UPDATE) => match dice.below(2) {
-            0 => 21,
-            _ => 41,
-        },
+        (_, SYMBOL_UPDATE) if edition.has_security_type() => dice.pick(&[BYTE_20, 21, 41]),
+        (_, SYMBOL_UPDATE) => dice.pick(&[21, 41]),
         (_, kind) => match price_offset(kind) {
             None => 1,
             Some(at) => match (dice.below(3), kind) {
@@ -144,6 +148,7 @@ fn some_field(dice: &mut Dice, kind: u8) -> usize {
 pub fn spoil_field(dice: &mut Dice, body: &mut [u8], at: usize) {
     match (body[0], at) {
         (_, 1) => set_timestamp(body, bad_nanoseconds(dice)),
+        (SYMBOL_UPDATE, BYTE_20) => body[at] = bad_security_type(dice),
         (SYMBOL_UPDATE, 21) => body[at] = dice.pick(b"ynEX\0 "),
         (SYMBOL_UPDATE, 41) => body[at] = dice.pick(b"DEFGORSTah@[\0 "),
         (ADD_ORDER, 17) => body[at] = dice.pick(b"bsXACRT\0 "),
@@ -156,10 +161,25 @@ pub fn spoil_field(dice: &mut Dice, body: &mut [u8], at: usize) {
     }
 }
 
+/// Neither `E` nor `F`: letters beside them, other fields' letters, ends of what a byte can be, or any.
+pub fn bad_security_type(dice: &mut Dice) -> u8 {
+    loop {
+        let byte = match dice.below(3) {
+            0 => dice.bits() as u8,
+            1 => dice.pick(b"DGefN"),
+            _ => dice.pick(&[0, b' ', 255]),
+        };
+        if !b"EF".contains(&byte) {
+            return byte;
+        }
+    }
+}
+
 /// Puts the judged field at this offset of a body into its range.
 pub fn mend_field(body: &mut [u8], at: usize) {
     match (body[0], at) {
         (_, 1) => set_timestamp(body, 0),
+        (SYMBOL_UPDATE, BYTE_20) => body[at] = b'E',
         (SYMBOL_UPDATE, 21) => body[at] = b'N',
         (SYMBOL_UPDATE, 41) => body[at] = b'H',
         (ADD_ORDER, 17) => body[at] = b'B',
@@ -175,27 +195,27 @@ pub fn mend_field(body: &mut [u8], at: usize) {
 
 /// A whole record that is refused with 5, 3 or 4, perhaps with lesser faults too, and its refusal with the
 /// offset in the record.
-pub fn told_record(dice: &mut Dice, refusal: u8) -> (Vec<u8>, Refusal) {
+pub fn told_record(edition: Edition, dice: &mut Dice, refusal: u8) -> (Vec<u8>, Refusal) {
     if refusal == 5 {
         let number = bad_number(dice);
         let body = match dice.below(3) {
-            0 => good_body(dice),
-            1 => bad_body(dice.bits(), 3),
-            _ => bad_body(dice.bits(), 4),
+            0 => good_body(edition, dice),
+            1 => bad_body(edition, dice.bits(), 3),
+            _ => bad_body(edition, dice.bits(), 4),
         };
         return (record(number, &body), Refusal::at(5, 0));
     }
     let number = dice.between(1, LAST_NUMBER);
-    let (body, told) = told_body(dice.bits(), refusal);
+    let (body, told) = told_body(edition, dice.bits(), refusal);
     (record(number, &body), told.behind(HEADER_BYTES))
 }
 
 /// A good packet as the tap fault of request 6 makes it, with "1,000,000,000 in a Timestamp": the first
 /// that it has. One of System Times alone stays as it is.
-pub fn with_tap_fault(good: &[u8]) -> Vec<u8> {
+pub fn with_tap_fault(edition: Edition, good: &[u8]) -> Vec<u8> {
     let mut records = Vec::new();
     let mut done = false;
-    for one in read_packet(good).expect("a good packet") {
+    for one in read_packet(edition, good).expect("a good packet") {
         let mut body = one.body.to_vec();
         if !done && body[0] != SYSTEM_TIME {
             set_timestamp(&mut body, 1_000_000_000);
@@ -207,12 +227,12 @@ pub fn with_tap_fault(good: &[u8]) -> Vec<u8> {
 }
 
 /// A packet's end that is refused with 2, perhaps with lesser faults too.
-pub fn faulty_end(dice: &mut Dice) -> Vec<u8> {
+pub fn faulty_end(edition: Edition, dice: &mut Dice) -> Vec<u8> {
     let number = any_number(dice);
     let body = match dice.below(3) {
-        0 => good_body(dice),
-        1 => bad_body(dice.bits(), 3),
-        _ => bad_body(dice.bits(), 4),
+        0 => good_body(edition, dice),
+        1 => bad_body(edition, dice.bits(), 3),
+        _ => bad_body(edition, dice.bits(), 4),
     };
     if dice.below(2) == 0 {
         let mut bytes = record(number, &body);

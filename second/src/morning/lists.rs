@@ -2,11 +2,14 @@
 
 use super::{messages::*, Dice};
 use crate::book::apply;
+use crate::edition::Edition;
 use crate::packet::*;
 use crate::tables::*;
 
 #[derive(Clone, Copy, Debug)]
 pub struct ListSettings {
+    /// The edition that the list is written in.
+    pub edition: Edition,
     /// How many messages.
     pub messages: usize,
     /// The capacities that the list is made for.
@@ -33,6 +36,7 @@ impl Default for ListSettings {
     /// No message yet, in tables with room, and nothing unusual to come.
     fn default() -> ListSettings {
         ListSettings {
+            edition: Edition::default(),
             messages: 0,
             rows: 40,
             entries: 5,
@@ -61,7 +65,13 @@ impl ListSettings {
             breaking: dice.pick(&[0, 0, 3, 15]),
             filling: dice.chance(100),
             ending: dice.pick(&[0, 0, 20, 21, 22, 23, 24, 25, 26]),
+            ..ListSettings::default()
         }
+    }
+
+    /// The same in an edition.
+    pub fn of(self, edition: Edition) -> ListSettings {
+        ListSettings { edition, ..self }
     }
 
     /// A list that fills tables of full capacity to the last row and entry; its last message finds
@@ -134,7 +144,7 @@ impl ListMaker {
     /// Put a message behind the list if it breaks no rule there. True if it was put.
     pub fn push(&mut self, body: Vec<u8>) -> bool {
         let number = self.list.len() as u64 + 1;
-        let applied = match read_body(&body) {
+        let applied = match read_body(self.settings.edition, &body) {
             Err(_) => false,
             Ok(message) => apply(
                 number,
@@ -283,7 +293,7 @@ impl ListMaker {
             let byte = if nanoseconds % 2 == 0 { 0 } else { 255 };
             body[25..41].fill(byte);
         }
-        body
+        written_in(self.settings.edition, body)
     }
 
     fn price(&mut self, symbol: u32, side: u8) -> u64 {

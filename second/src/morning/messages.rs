@@ -1,6 +1,7 @@
 //! Bodies, records, packets and recordings: fields one behind the other, as 003 lists them.
 
 use super::Dice;
+use crate::edition::{Edition, BYTE_20};
 use crate::packet::*;
 
 fn joined(kind: u8, parts: &[&[u8]]) -> Vec<u8> {
@@ -15,7 +16,7 @@ pub fn system_time(seconds: u32) -> Vec<u8> {
     joined(SYSTEM_TIME, &[&seconds.to_le_bytes()])
 }
 
-/// A Symbol Update: reserved bytes 0, test N, 09:30:00 to 16:00:00, market H.
+/// A Symbol Update of 1.3.b: reserved bytes 0, test N, 09:30:00 to 16:00:00, market H.
 pub fn symbol_update(nanoseconds: u32, symbol: u32, ticker: &[u8; 11], lot: u16) -> Vec<u8> {
     joined(
         SYMBOL_UPDATE,
@@ -32,6 +33,22 @@ pub fn symbol_update(nanoseconds: u32, symbol: u32, ticker: &[u8; 11], lot: u16)
             b"H",
         ],
     )
+}
+
+/// A good body as an edition writes it: a Symbol Update without a Security Type gets one where the edition wants it.
+/// Its nanoseconds tell which, since a draw would change what every seed means.
+pub fn written_in(edition: Edition, mut body: Vec<u8>) -> Vec<u8> {
+    let wants = body[0] == SYMBOL_UPDATE && edition.has_security_type();
+    if wants && !b"EF".contains(&body[BYTE_20]) {
+        body[BYTE_20] = b"EF"[usize::from(body[1] % 2)];
+    }
+    body
+}
+
+/// Each body of a list so.
+pub fn all_written_in(edition: Edition, list: Vec<Vec<u8>>) -> Vec<Vec<u8>> {
+    let one = |body| written_in(edition, body);
+    list.into_iter().map(one).collect()
 }
 
 pub fn system_state(nanoseconds: u32, version: &[u8; 8], session: u8, status: u8) -> Vec<u8> {
@@ -276,8 +293,8 @@ pub struct Told {
     pub size: u32,
 }
 
-/// A body of a type that tells this, good if this is.
-pub fn body_telling(dice: &mut Dice, kind: u8, told: Told) -> Vec<u8> {
+/// A body of a type that tells this, good in an edition if this is.
+pub fn body_telling(edition: Edition, dice: &mut Dice, kind: u8, told: Told) -> Vec<u8> {
     let Told {
         nanoseconds,
         symbol,
@@ -285,7 +302,7 @@ pub fn body_telling(dice: &mut Dice, kind: u8, told: Told) -> Vec<u8> {
         price,
         size,
     } = told;
-    match kind {
+    let body = match kind {
         SYSTEM_TIME => system_time(nanoseconds),
         SYMBOL_UPDATE => symbol_update(nanoseconds, symbol, b"ABC        ", 100),
         SYSTEM_STATE => system_state(nanoseconds, b"DoM1.3  ", 1, b'S'),
@@ -298,20 +315,21 @@ pub fn body_telling(dice: &mut Dice, kind: u8, told: Told) -> Vec<u8> {
         TRADE => trade(nanoseconds, symbol, 9, 0, price, size, 255),
         TRADE_CANCEL => trade_cancel(nanoseconds, symbol, 9, 0, price, size),
         _ => panic!("there is no type {kind}"),
-    }
+    };
+    written_in(edition, body)
 }
 
-/// Any good body.
-pub fn good_body(dice: &mut Dice) -> Vec<u8> {
+/// Any good body of an edition.
+pub fn good_body(edition: Edition, dice: &mut Dice) -> Vec<u8> {
     let told = anything(dice);
     let (kind, _) = dice.pick(&TYPES_AND_LENGTHS);
-    body_telling(dice, kind, told)
+    body_telling(edition, dice, kind, told)
 }
 
 /// Any good body of this type.
-pub fn good_body_of(dice: &mut Dice, kind: u8) -> Vec<u8> {
+pub fn good_body_of(edition: Edition, dice: &mut Dice, kind: u8) -> Vec<u8> {
     let told = anything(dice);
-    body_telling(dice, kind, told)
+    body_telling(edition, dice, kind, told)
 }
 
 fn anything(dice: &mut Dice) -> Told {

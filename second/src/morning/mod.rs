@@ -22,11 +22,14 @@ pub use messages::*;
 #[cfg(test)]
 mod tests {
     use super::*;
+    use crate::edition::EDITIONS;
 
     #[test]
     fn a_seed_gives_the_same_bytes_again() {
-        assert_eq!(drawn_recording(3), drawn_recording(3));
-        assert_ne!(drawn_recording(3), drawn_recording(4));
+        for edition in EDITIONS {
+            assert_eq!(drawn_recording(edition, 3), drawn_recording(edition, 3));
+            assert_ne!(drawn_recording(edition, 3), drawn_recording(edition, 4));
+        }
         assert_eq!(case(3, 500), case(3, 500));
         assert_ne!(case(3, 500), case(4, 500));
     }

@@ -1,7 +1,8 @@
 //! What a caller may lend, alter and ask: tables, shelves and states of any content and any size.
 
-use super::{give, Outcome};
+use super::{edition_number, give, Outcome};
 use crate::desk::Desk;
+use crate::edition::BYTE_20;
 use crate::morning::*;
 use crate::packet::*;
 use crate::receiver::*;
@@ -11,22 +12,24 @@ use crate::twins::Twins;
 
 /// A caller who alters anything between calls.
 pub(super) fn altered(dice: &mut Dice, twins: &mut Twins) -> Outcome {
-    let mut settings = ListSettings::drawn(dice);
+    let edition = twins.edition();
+    let mut settings = ListSettings::drawn(dice).of(edition);
     settings.rows = dice.between(1, 24) as usize;
     settings.entries = dice.between(1, 6) as usize;
     settings.messages = dice.between(10, 100) as usize;
     let list = list(dice.bits(), settings);
     twins.restart(settings.rows, settings.entries)?;
-    let mut packets = delivery(dice.bits(), &list, rough_delivery(dice.bits())).into_iter();
+    let how = rough_delivery(dice.bits());
+    let mut packets = delivery(edition, dice.bits(), &list, how).into_iter();
     for _ in 0..dice.between(1, 60) {
         if dice.chance(400) {
             damage(dice, twins);
         }
         let packet = match dice.below(10) {
-            0 => bad_packet(dice.bits(), &list, dice.between(1, 5) as u8),
+            0 => bad_packet(edition, dice.bits(), &list, dice.between(1, 5) as u8),
             1..=4 => {
                 let (shelf, next) = (&twins.second.shelf, twins.second.state.next);
-                packet_near(dice.bits(), &list, shelf, next)
+                packet_near(edition, dice.bits(), &list, shelf, next)
             }
             _ => match packets.next() {
                 Some(packet) => packet,
@@ -38,9 +41,12 @@ pub(super) fn altered(dice: &mut Dice, twins: &mut Twins) -> Outcome {
     Ok(())
 }
 
-/// Something altered: a table, the shelf, the state, or bytes and numbers at random.
+/// Something altered: a table, the shelf, the state, its edition's number, or bytes and numbers at random.
 pub(super) fn damage(dice: &mut Dice, twins: &mut Twins) {
-    let (choice, seed) = (dice.below(8), dice.bits());
+    let (choice, seed) = (dice.below(9), dice.bits());
+    if choice == 8 {
+        return twins.set_edition_number(edition_number(dice));
+    }
     twins.alter(|desk| match choice {
         0 | 1 => damage_orders(seed, &mut desk.orders),
         2 | 3 => damage_symbols(seed, &mut desk.symbols),
@@ -52,7 +58,7 @@ pub(super) fn damage(dice: &mut Dice, twins: &mut Twins) {
             &mut desk.shelf,
             desk.state.next,
         ),
-        _ => damage_shelf(seed, &mut desk.shelf, desk.state.next),
+        _ => damage_shelf(desk.state.edition, seed, &mut desk.shelf, desk.state.next),
     });
 }
 
@@ -79,7 +85,8 @@ fn splatter(seed: u64, orders: &mut [u64], symbols: &mut [u8], shelf: &mut [u8],
 
 /// Next numbers at the ends of their range, slots with numbers at its ends, any second and stop.
 pub(super) fn edges(dice: &mut Dice, twins: &mut Twins) -> Outcome {
-    let list = list(dice.bits(), ListSettings::drawn(dice));
+    let edition = twins.edition();
+    let list = list(dice.bits(), ListSettings::drawn(dice).of(edition));
     twins.restart(dice.between(1, 8) as usize, dice.between(1, 4) as usize)?;
     for _ in 0..dice.between(4, 30) {
         if dice.chance(400) {
@@ -88,12 +95,12 @@ pub(super) fn edges(dice: &mut Dice, twins: &mut Twins) -> Outcome {
         let next = twins.second.state.next;
         for _ in 0..dice.below(4) {
             let number = next.wrapping_add(dice.below(5)).wrapping_sub(1);
-            let body = good_body(dice);
+            let body = good_body(edition, dice);
             twins.alter(|desk| {
                 slot_mut(&mut desk.shelf, number).copy_from_slice(&filled_slot(number, &body))
             });
         }
-        let packet = packet_near(dice.bits(), &list, &twins.second.shelf, next);
+        let packet = packet_near(edition, dice.bits(), &list, &twins.second.shelf, next);
         if dice.chance(200) {
             // Behind a next number that the first packet drove too far, the second one is bad.
             twins.open(LEAST_HOLD)?;
@@ -124,8 +131,16 @@ fn to_an_edge(dice: &mut Dice, twins: &mut Twins) {
     ]);
     let (second, stop) = (dice.bits() >> dice.below(64), dice.bits() as u8);
     twins.alter(|desk| {
-        desk.state = State { next, second, stop };
+        desk.state = State {
+            next,
+            second,
+            stop,
+            ..desk.state
+        };
     });
+    if dice.chance(100) {
+        twins.set_edition_number(edition_number(dice));
+    }
     if dice.chance(500) {
         twins.set_idle_bits(dice.bits());
     }
@@ -133,7 +148,7 @@ fn to_an_edge(dice: &mut Dice, twins: &mut Twins) {
 
 /// Tables of lengths at the limits and beyond, for every call, with packets good and bad.
 pub(super) fn sizes(dice: &mut Dice, twins: &mut Twins) -> Outcome {
-    let list = list(dice.bits(), ListSettings::drawn(dice));
+    let list = list(dice.bits(), ListSettings::drawn(dice).of(twins.edition()));
     twins.restart(3, 2)?;
     for _ in 0..dice.between(5, 25) {
         let orders = match dice.below(3) {
@@ -180,7 +195,7 @@ fn calls_of_any_size(dice: &mut Dice, twins: &mut Twins, list: &[Vec<u8>]) -> Ou
     }
     for _ in 0..dice.between(1, 5) {
         let packet = match dice.below(3) {
-            0 => bad_packet(dice.bits(), list, dice.between(1, 5) as u8),
+            0 => bad_packet(twins.edition(), dice.bits(), list, dice.between(1, 5) as u8),
             _ => {
                 let next = twins.second.state.next.min(list.len() as u64).max(1);
                 packet(&numbered(list, next as usize, dice.between(1, 5) as usize))
@@ -213,7 +228,7 @@ pub(super) fn spoiled(dice: &mut Dice, twins: &mut Twins) -> Outcome {
         };
         let seed = dice.bits();
         twins.alter(|desk| spoil_tables(seed, desk, told));
-        let body = body_telling(dice, kind, told);
+        let body = body_telling(twins.edition(), dice, kind, told);
         twins.receive_over_spoiled(kind, &record(twins.second.state.next, &body))?;
         twins.views(dice)?;
     }
@@ -250,6 +265,7 @@ fn spoil_tables(seed: u64, desk: &mut Desk, told: Told) {
         let symbol = dice.between(1, 3) as u32;
         let mut entry = symbol_update(0, symbol, b"SPOILED    ", 100);
         entry[0] = dice.pick(&[0, 1, 1, 1, 2, 255]);
+        entry[BYTE_20] = odd_byte_20(&mut dice);
         entry_mut(&mut desk.symbols, place).copy_from_slice(&entry);
     }
     desk.shelf.fill(0);
@@ -271,6 +287,7 @@ pub(super) fn largest(dice: &mut Dice, twins: &mut Twins) -> Outcome {
     twins.restart(rows, 2)?;
     let symbol = dice.pick(&[0, 7, u32::MAX]);
     let update = symbol_update(0, symbol, b"MOST       ", u16::MAX);
+    let update = written_in(twins.edition(), update);
     give(dice, twins, &record(1, &update))?;
     let offers = dice.pick(&[0, 1, rows / 2, rows]);
     let ends = [1, HIGHEST_PRICE];

@@ -1,14 +1,17 @@
 //! What the proved library and the second program are both given: named scenarios, each a function
-//! of its seed alone. A scenario makes calls of `Twins`, which compares.
+//! of its seed alone, the edition of its receivers too. A scenario makes calls of `Twins`, which compares.
 
 mod callers;
+mod editions;
 mod mornings;
 mod offsets;
 mod packets;
 mod pieces;
 mod timestamps;
 
+use crate::edition::Edition;
 use crate::morning::Dice;
+use crate::packet::Refusal;
 use crate::twins::{Difference, Tally, Twins};
 
 type Outcome = Result<(), Difference>;
@@ -28,7 +31,7 @@ const fn scenario(
     Scenario { name, weight, run }
 }
 
-pub const SCENARIOS: [Scenario; 19] = [
+pub const SCENARIOS: [Scenario; 20] = [
     scenario("morning", 60, mornings::morning),
     scenario("rules", 60, mornings::rules),
     scenario("small-tables", 50, mornings::small_tables),
@@ -46,6 +49,7 @@ pub const SCENARIOS: [Scenario; 19] = [
     scenario("garbage", 30, packets::garbage),
     scenario("timestamps", 20, timestamps::timestamps),
     scenario("offsets", 20, offsets::offsets),
+    scenario("editions", 30, editions::editions),
     scenario("pieces", 40, pieces::pieces),
     scenario("long-pieces", 1, pieces::long_pieces),
 ];
@@ -62,6 +66,7 @@ pub fn run(seed: u64) -> Ran {
     let mut dice = Dice::new(seed);
     let scenario = drawn(&mut dice);
     let mut twins = Twins::new();
+    twins.start_number = edition_number(&mut dice);
     let difference = (scenario.run)(&mut dice, &mut twins)
         .and_then(|()| twins.views(&mut dice))
         .and_then(|()| twins.sheet(&mut dice))
@@ -89,6 +94,24 @@ fn drawn(dice: &mut Dice) -> &'static Scenario {
     &SCENARIOS[0]
 }
 
+/// An edition's number, or another one.
+fn edition_number(dice: &mut Dice) -> u64 {
+    match dice.below(8) {
+        0..=3 => Edition::V1_3.number(),
+        4..=6 => Edition::V1_3b.number(),
+        _ => other_number(dice),
+    }
+}
+
+/// Neither 0 nor 1: such as are 1 in their low bits, and any.
+fn other_number(dice: &mut Dice) -> u64 {
+    match dice.below(3) {
+        0 => dice.between(2, 9),
+        1 => dice.pick(&[1 + (1 << 8), 1 + (1 << 32), 1 + (1 << 63), 1 << 8, u64::MAX]),
+        _ => dice.bits() | 2,
+    }
+}
+
 /// One packet to both, and now and then their views and sheets.
 fn give(dice: &mut Dice, twins: &mut Twins, packet: &[u8]) -> Outcome {
     let _ = twins.receive(packet)?;
@@ -101,6 +124,15 @@ fn give(dice: &mut Dice, twins: &mut Twins, packet: &[u8]) -> Outcome {
         twins.sheet(dice)?;
     }
     Ok(())
+}
+
+/// A packet that must come to this next number and stop, or to this refusal.
+fn comes_to(twins: &mut Twins, packet: &[u8], wanted: Result<(u64, u8), Refusal>) -> Outcome {
+    let answer = twins.receive(packet)?;
+    if answer.map(|answer| (answer.next, answer.stop)) == wanted {
+        return Ok(());
+    }
+    Err(format!("both: {answer:?}, and {wanted:?} is told"))
 }
 
 fn give_all(dice: &mut Dice, twins: &mut Twins, packets: &[Vec<u8>]) -> Outcome {

@@ -3,6 +3,7 @@
 
 use super::callers::damage;
 use super::{give, give_all, Outcome};
+use crate::edition::Edition;
 use crate::morning::*;
 use crate::receiver::*;
 use crate::tables::*;
@@ -10,17 +11,18 @@ use crate::twins::Twins;
 
 /// Lines A and B and the gap fills, with everything that happens to them.
 pub(super) fn morning(dice: &mut Dice, twins: &mut Twins) -> Outcome {
-    let settings = ListSettings::drawn(dice);
+    let edition = twins.edition();
+    let settings = ListSettings::drawn(dice).of(edition);
     let list = list(dice.bits(), settings);
     twins.restart(settings.rows, settings.entries)?;
-    let packets = delivery(dice.bits(), &list, rough_delivery(dice.bits()));
+    let packets = delivery(edition, dice.bits(), &list, rough_delivery(dice.bits()));
     give_all(dice, twins, &packets)
 }
 
 /// Every rule broken in turn. The stopped message is passed over by a caller who empties its slot
 /// and raises next, or is let through by one who frees something.
 pub(super) fn rules(dice: &mut Dice, twins: &mut Twins) -> Outcome {
-    let mut settings = ListSettings::drawn(dice);
+    let mut settings = ListSettings::drawn(dice).of(twins.edition());
     settings.rows = dice.between(1, 12) as usize;
     settings.filling = dice.chance(300);
     twins.restart(settings.rows, settings.entries)?;
@@ -78,7 +80,9 @@ fn pass_over(dice: &mut Dice, twins: &mut Twins) {
 
 /// Tables of 1 to 5 rows and entries that fill, with a last message that finds no place.
 pub(super) fn small_tables(dice: &mut Dice, twins: &mut Twins) -> Outcome {
+    let edition = twins.edition();
     let settings = ListSettings {
+        edition,
         messages: dice.between(5, 60) as usize,
         rows: dice.between(1, 5) as usize,
         entries: dice.between(1, 5) as usize,
@@ -94,13 +98,15 @@ pub(super) fn small_tables(dice: &mut Dice, twins: &mut Twins) -> Outcome {
     twins.restart(settings.rows, settings.entries)?;
     let mut how = rough_delivery(dice.bits());
     how.fill = dice.chance(800);
-    let packets = delivery(dice.bits(), &list, how);
+    let packets = delivery(edition, dice.bits(), &list, how);
     give_all(dice, twins, &packets)
 }
 
 /// A caller's tables of full capacity with few places left, and messages about what is in them.
 pub(super) fn full_tables(dice: &mut Dice, twins: &mut Twins) -> Outcome {
+    let edition = twins.edition();
     let settings = ListSettings {
+        edition,
         rows: MOST_ROWS,
         entries: MOST_ENTRIES,
         symbols: 20,
@@ -120,17 +126,18 @@ pub(super) fn full_tables(dice: &mut Dice, twins: &mut Twins) -> Outcome {
     }
     maker.push_breaker(dice.between(20, 26) as u8);
     let list = std::mem::take(&mut maker.list);
-    let packets = delivery(dice.bits(), &list, rough_delivery(dice.bits()));
+    let packets = delivery(edition, dice.bits(), &list, rough_delivery(dice.bits()));
     give_all(dice, twins, &packets)
 }
 
 /// Entries of a maker's symbols and of others, all but a few; or all of one symbol, which makes the
 /// longest sheets.
 fn fill_entries(dice: &mut Dice, maker: &mut ListMaker) {
-    let free = dice.below(4) as usize;
+    let (edition, free) = (maker.settings.edition, dice.below(4) as usize);
     if dice.chance(100) {
         maker.symbol_ids.truncate(1);
         let body = symbol_update(0, maker.symbol_ids[0], &[7; 11], u16::MAX);
+        let body = written_in(edition, body);
         for place in 0..entries_in(&maker.symbols) {
             entry_mut(&mut maker.symbols, place).copy_from_slice(&body);
         }
@@ -141,7 +148,7 @@ fn fill_entries(dice: &mut Dice, maker: &mut ListMaker) {
             Some(symbol) => *symbol,
             None => 10_000 + place as u32,
         };
-        let body = symbol_update(0, symbol, b"FULL       ", 100);
+        let body = written_in(edition, symbol_update(0, symbol, b"FULL       ", 100));
         entry_mut(&mut maker.symbols, place).copy_from_slice(&body);
     }
 }
@@ -171,19 +178,22 @@ fn fill_rows(dice: &mut Dice, maker: &mut ListMaker) {
 
 /// From nothing to the last row and entry of full capacities.
 pub(super) fn filling(dice: &mut Dice, twins: &mut Twins) -> Outcome {
-    let settings = ListSettings::filling(dice.between(25, 26) as u8);
+    let edition = twins.edition();
+    let settings = ListSettings::filling(dice.between(25, 26) as u8).of(edition);
     let list = list(dice.bits(), settings);
     twins.restart(settings.rows, settings.entries)?;
     let mut how = true_delivery(dice.bits());
     how.records = how.records.max(12);
     how.fill = true;
-    let packets = delivery(dice.bits(), &list, how);
+    let packets = delivery(edition, dice.bits(), &list, how);
     give_all(dice, twins, &packets)
 }
 
 /// A few IDs that leave by Delete, by execution and by Symbol Clear, and come again.
 pub(super) fn returning_ids(dice: &mut Dice, twins: &mut Twins) -> Outcome {
+    let edition = twins.edition();
     let settings = ListSettings {
+        edition,
         rows: dice.between(1, 6) as usize,
         entries: 2,
         symbols: 2,
@@ -193,7 +203,8 @@ pub(super) fn returning_ids(dice: &mut Dice, twins: &mut Twins) -> Outcome {
     let mut maker = ListMaker::new(dice.bits(), settings);
     let symbols = maker.symbol_ids.clone();
     for symbol in &symbols {
-        maker.push(symbol_update(0, *symbol, b"BACK       ", 100));
+        let update = symbol_update(0, *symbol, b"BACK       ", 100);
+        maker.push(written_in(edition, update));
     }
     for _ in 0..dice.between(10, 120) {
         let order = dice.pick(&maker.order_ids);
@@ -205,7 +216,7 @@ pub(super) fn returning_ids(dice: &mut Dice, twins: &mut Twins) -> Outcome {
     twins.restart(settings.rows, settings.entries)?;
     let mut how = rough_delivery(dice.bits());
     how.repeated = how.repeated.max(100);
-    let packets = delivery(dice.bits(), &list, how);
+    let packets = delivery(edition, dice.bits(), &list, how);
     give_all(dice, twins, &packets)
 }
 
@@ -233,7 +244,8 @@ fn come_or_go(dice: &mut Dice, maker: &ListMaker, order: u64) -> Vec<u8> {
 pub(super) fn window(dice: &mut Dice, twins: &mut Twins) -> Outcome {
     // From dice of its own, so that the rest of a seed stays what it was before request 2.
     copies_by_undefined_bits(&mut dice.clone(), twins)?;
-    let mut settings = ListSettings::drawn(dice);
+    let edition = twins.edition();
+    let mut settings = ListSettings::drawn(dice).of(edition);
     settings.messages = dice.between(150, 400) as usize;
     settings.rows = 40;
     settings.breaking = 0;
@@ -242,7 +254,7 @@ pub(super) fn window(dice: &mut Dice, twins: &mut Twins) -> Outcome {
     for _ in 0..dice.between(5, 40) {
         let packet = match dice.below(6) {
             0 => times(dice, twins.second.state.next),
-            _ => at_the_ends(dice, &list, twins.second.state.next),
+            _ => at_the_ends(edition, dice, &list, twins.second.state.next),
         };
         give(dice, twins, &packet)?;
     }
@@ -257,8 +269,9 @@ fn copies_by_undefined_bits(dice: &mut Dice, twins: &mut Twins) -> Outcome {
     let first = modify_order(nanoseconds, symbol, order, price, 100, dice.bits() as u8);
     let mut other = first.clone();
     other[FLAGS_OF_MODIFY] ^= 1 << dice.between(1, 7);
+    let update = symbol_update(0, symbol, b"BITS       ", 100);
     let told = [
-        (10, (1, symbol_update(0, symbol, b"BITS       ", 100))),
+        (10, (1, written_in(twins.edition(), update))),
         (10, (2, add_order(0, symbol, order, b'B', price, 100))),
         (10, (4, first.clone())),
         (14, (4, other.clone())),
@@ -305,7 +318,7 @@ fn times(dice: &mut Dice, next: u64) -> Vec<u8> {
 }
 
 /// Numbers just below next, at next, at the shelf's end and just behind it, some twice.
-fn at_the_ends(dice: &mut Dice, list: &[Vec<u8>], next: u64) -> Vec<u8> {
+fn at_the_ends(edition: Edition, dice: &mut Dice, list: &[Vec<u8>], next: u64) -> Vec<u8> {
     let mut records: Vec<(u64, Vec<u8>)> = Vec::new();
     for _ in 0..dice.between(1, 30) {
         let number = match dice.below(5) {
@@ -317,7 +330,7 @@ fn at_the_ends(dice: &mut Dice, list: &[Vec<u8>], next: u64) -> Vec<u8> {
         let number = number.clamp(1, list.len() as u64);
         let mut body = list[number as usize - 1].clone();
         if dice.chance(100) {
-            body = differing_copy(dice.bits(), &body);
+            body = differing_copy(edition, dice.bits(), &body);
         }
         records.push((number, body));
     }
@@ -326,7 +339,7 @@ fn at_the_ends(dice: &mut Dice, list: &[Vec<u8>], next: u64) -> Vec<u8> {
 
 /// A whole shelf behind a message that is stopped, then let go: 63 messages at one record.
 pub(super) fn shelved_stop(dice: &mut Dice, twins: &mut Twins) -> Outcome {
-    let mut settings = ListSettings::drawn(dice);
+    let mut settings = ListSettings::drawn(dice).of(twins.edition());
     settings.messages = 0;
     settings.rows = dice.between(2, 30) as usize;
     let mut maker = ListMaker::new(dice.bits(), settings);

@@ -3,9 +3,10 @@
 
 use super::pieces::cut;
 use super::Outcome;
+use crate::edition::Edition;
 use crate::morning::*;
 use crate::packet::*;
-use crate::reading::JUDGED_FIELDS;
+use crate::reading::judged_fields;
 use crate::receiver::{filled_slot, slot_mut};
 use crate::stream::LEAST_HOLD;
 use crate::twins::Twins;
@@ -16,19 +17,20 @@ type Told = (Vec<u8>, Refusal);
 /// Each judged field as the only bad one and as the second of two, each other fault a few times, in the first,
 /// a middle and the last record of packets; then all these packets as a recording in pieces, and 6 inside one.
 pub(super) fn offsets(dice: &mut Dice, twins: &mut Twins) -> Outcome {
+    let edition = twins.edition();
     twins.restart(2, 2)?;
-    let mut records = bad_fields(dice);
+    let mut records = bad_fields(edition, dice);
     for _ in 0..3 {
-        records.push(told_record(dice, 5));
-        records.push(told_record(dice, 3));
+        records.push(told_record(edition, dice, 5));
+        records.push(told_record(edition, dice, 3));
         records.push((record(1, &[]), Refusal::at(3, 10)));
     }
     let mut packets = vec![empty_at_1500()];
     for (faulty, refusal) in &records {
-        packets.push(among_others(dice, faulty, *refusal));
+        packets.push(among_others(edition, dice, faulty, *refusal));
     }
     for _ in 0..4 {
-        packets.push(bad_end(dice));
+        packets.push(bad_end(edition, dice));
     }
     dice.shuffle(&mut packets);
     for (packet, refusal) in &packets {
@@ -40,27 +42,28 @@ pub(super) fn offsets(dice: &mut Dice, twins: &mut Twins) -> Outcome {
 
 /// Records with each judged field bad, and with an earlier one of the same message bad too, by which 4 is told:
 /// "the first byte of the earliest bad field by offset", which lies behind 10 bytes of header.
-fn bad_fields(dice: &mut Dice) -> Vec<Told> {
+fn bad_fields(edition: Edition, dice: &mut Dice) -> Vec<Told> {
     let mut records = Vec::new();
-    for (kind, at, _) in JUDGED_FIELDS {
-        records.push(bad_record(dice, kind, &[at]));
+    let fields = judged_fields(edition);
+    for (kind, at, _) in fields.iter().copied() {
+        records.push(bad_record(edition, dice, kind, &[at]));
         let mut earlier = Vec::new();
-        for (other, before, _) in JUDGED_FIELDS {
+        for (other, before, _) in fields.iter().copied() {
             if other == kind && before < at {
                 earlier.push(before);
             }
         }
         if !earlier.is_empty() {
             let earlier = dice.pick(&earlier);
-            records.push(bad_record(dice, kind, &[earlier, at]));
+            records.push(bad_record(edition, dice, kind, &[earlier, at]));
         }
     }
     records
 }
 
 /// A good record but for these fields, the earliest of which is the first.
-fn bad_record(dice: &mut Dice, kind: u8, fields: &[usize]) -> Told {
-    let mut body = good_body_of(dice, kind);
+fn bad_record(edition: Edition, dice: &mut Dice, kind: u8, fields: &[usize]) -> Told {
+    let mut body = good_body_of(edition, dice, kind);
     for at in fields {
         spoil_field(dice, &mut body, *at);
     }
@@ -70,19 +73,19 @@ fn bad_record(dice: &mut Dice, kind: u8, fields: &[usize]) -> Told {
 
 /// A packet of this record alone, or with it as the first, a middle or the last; what lies behind it may be bad
 /// as well.
-fn among_others(dice: &mut Dice, faulty: &[u8], refusal: Refusal) -> Told {
+fn among_others(edition: Edition, dice: &mut Dice, faulty: &[u8], refusal: Refusal) -> Told {
     let (before, behind) = dice.pick(&[(false, false), (false, true), (true, true), (true, false)]);
     let mut packet = Vec::new();
     if before {
-        packet = good_records(dice);
+        packet = good_records(edition, dice);
     }
     let refusal = refusal.behind(packet.len());
     packet.extend_from_slice(faulty);
     if behind {
         for _ in 0..dice.between(1, 3) {
             let next = match dice.below(4) {
-                0 => record(1, &good_body(dice)),
-                further => told_record(dice, 2 + further as u8).0,
+                0 => record(1, &good_body(edition, dice)),
+                further => told_record(edition, dice, 2 + further as u8).0,
             };
             packet.extend(next);
         }
@@ -91,11 +94,11 @@ fn among_others(dice: &mut Dice, faulty: &[u8], refusal: Refusal) -> Told {
 }
 
 /// One good record to many: 1,200 bytes at most, so that there is room behind them.
-fn good_records(dice: &mut Dice) -> Vec<u8> {
+fn good_records(edition: Edition, dice: &mut Dice) -> Vec<u8> {
     let mut bytes = Vec::new();
     for _ in 0..dice.pick(&[1, 2, 5, 40]) {
         let number = dice.between(1, LAST_NUMBER);
-        let next = record(number, &good_body(dice));
+        let next = record(number, &good_body(edition, dice));
         if bytes.len() + next.len() > 1_200 {
             break;
         }
@@ -105,10 +108,10 @@ fn good_records(dice: &mut Dice) -> Vec<u8> {
 }
 
 /// Good records and a last one that is not whole: "for 2 the record's start".
-fn bad_end(dice: &mut Dice) -> Told {
-    let mut packet = good_records(dice);
+fn bad_end(edition: Edition, dice: &mut Dice) -> Told {
+    let mut packet = good_records(edition, dice);
     let refusal = Refusal::at(2, packet.len());
-    packet.extend(faulty_end(dice));
+    packet.extend(faulty_end(edition, dice));
     (packet, refusal)
 }
 

@@ -1,6 +1,7 @@
 //! Packets that are refused, and bytes that were never a packet.
 
 use super::{give, Outcome};
+use crate::edition::BYTE_20;
 use crate::morning::*;
 use crate::packet::*;
 use crate::twins::Twins;
@@ -8,16 +9,18 @@ use crate::twins::Twins;
 /// Every refusal among good packets, with several faults in one packet and with good packets that
 /// were cut, joined or changed in a byte.
 pub(super) fn refused(dice: &mut Dice, twins: &mut Twins) -> Outcome {
-    let mut settings = ListSettings::drawn(dice);
+    let edition = twins.edition();
+    let mut settings = ListSettings::drawn(dice).of(edition);
     settings.messages = settings.messages.max(20);
     let list = list(dice.bits(), settings);
     twins.restart(settings.rows, settings.entries)?;
-    let mut good = delivery(dice.bits(), &list, rough_delivery(dice.bits())).into_iter();
+    let how = rough_delivery(dice.bits());
+    let mut good = delivery(edition, dice.bits(), &list, how).into_iter();
     for _ in 0..dice.between(10, 60) {
         let refusal = dice.between(1, 5) as u8;
-        let mut packet = bad_packet(dice.bits(), &list, refusal);
+        let mut packet = bad_packet(edition, dice.bits(), &list, refusal);
         match dice.below(6) {
-            0 => packet.extend(bad_packet(dice.bits(), &list, refusal % 5 + 1)),
+            0 => packet.extend(bad_packet(edition, dice.bits(), &list, refusal % 5 + 1)),
             1 | 2 => {
                 if let Some(next) = good.next() {
                     packet = next;
@@ -88,6 +91,7 @@ fn garbled_record(dice: &mut Dice, next: u64) -> Vec<u8> {
     match kind {
         ADD_ORDER if small => body[17] = dice.pick(b"BBBSSSX"),
         SYMBOL_UPDATE if small => {
+            body[BYTE_20] = dice.pick(b"EEFFG\0");
             body[21] = dice.pick(b"YNNNNNN");
             body[41] = dice.between(64, 91) as u8;
         }

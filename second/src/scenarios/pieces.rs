@@ -1,6 +1,6 @@
 //! Recordings in pieces cut anywhere, through the calls for streams.
 
-use super::{give, Outcome};
+use super::{edition_number, give, Outcome};
 use crate::morning::*;
 use crate::packet::LAST_NUMBER;
 use crate::stream::LEAST_HOLD;
@@ -11,10 +11,11 @@ use crate::twins::Twins;
 /// A morning's recording, whole or cut, with packets of no bytes and of too many, over a receiver that
 /// may have heard packets before. Some callers alter the stream between two pieces.
 pub(super) fn pieces(dice: &mut Dice, twins: &mut Twins) -> Outcome {
-    let settings = ListSettings::drawn(dice);
+    let edition = twins.edition();
+    let settings = ListSettings::drawn(dice).of(edition);
     let list = list(dice.bits(), settings);
     twins.restart(settings.rows, settings.entries)?;
-    let mut packets = delivery(dice.bits(), &list, rough_delivery(dice.bits()));
+    let mut packets = delivery(edition, dice.bits(), &list, rough_delivery(dice.bits()));
     let before = dice.below(10).min(packets.len() as u64) as usize;
     for packet in packets.drain(..before) {
         give(dice, twins, &packet)?;
@@ -48,6 +49,9 @@ pub(super) fn long_pieces(dice: &mut Dice, twins: &mut Twins) -> Outcome {
     let mut records = traffic.opening();
     for _ in 0..dice.between(5_000, 15_000) {
         records.push(traffic.message());
+    }
+    for (_, body) in &mut records {
+        *body = written_in(twins.edition(), std::mem::take(body));
     }
     let mut bytes = Vec::new();
     for packet in in_packets(&records, 12) {
@@ -100,8 +104,11 @@ fn refused_piece(dice: &mut Dice, twins: &mut Twins, chunk: &[u8]) -> Outcome {
 }
 
 /// Any count of bytes held and to pass over, counts near the largest number, any number and offset of a last
-/// refused packet, other bytes held; and bits that do not count.
+/// refused packet, other bytes held; and bits that do not count. Or another edition, by any number.
 fn alter_stream(dice: &mut Dice, twins: &mut Twins) {
+    if dice.chance(150) {
+        return twins.set_edition_number(edition_number(dice));
+    }
     let (choice, few) = (dice.below(5), dice.below(4));
     let (byte, to_pass) = (dice.bits() as u8, dice.below(3_000));
     let held = dice.below(twins.hold.len() as u64 + 1);

@@ -1,7 +1,8 @@
 //! Timestamps around their limit (request 6), in each of the eleven messages, in packets and on the shelf.
 //! What must come of each is told here, so that a slip of both programs shows too.
 
-use super::Outcome;
+use super::{comes_to, Outcome};
+use crate::edition::Edition;
 use crate::examples::example_list;
 use crate::morning::*;
 use crate::packet::*;
@@ -39,7 +40,7 @@ fn good(kind: u8, nanoseconds: u32) -> bool {
 
 /// A message that the example can apply. A Symbol Update opens and closes at any bytes, which are no
 /// Timestamps.
-fn of_the_example(dice: &mut Dice, kind: u8, nanoseconds: u32) -> Vec<u8> {
+fn of_the_example(edition: Edition, dice: &mut Dice, kind: u8, nanoseconds: u32) -> Vec<u8> {
     let told = Told {
         nanoseconds,
         symbol: 7,
@@ -47,7 +48,7 @@ fn of_the_example(dice: &mut Dice, kind: u8, nanoseconds: u32) -> Vec<u8> {
         price: 10_000_000,
         size: 100,
     };
-    let mut body = body_telling(dice, kind, told);
+    let mut body = body_telling(edition, dice, kind, told);
     if kind == SYMBOL_UPDATE {
         body[25..41].fill_with(|| dice.bits() as u8);
     }
@@ -58,7 +59,7 @@ fn of_the_example(dice: &mut Dice, kind: u8, nanoseconds: u32) -> Vec<u8> {
 /// gap, behind which messages wait until a true copy comes.
 fn next_message(dice: &mut Dice, twins: &mut Twins, kind: u8, nanoseconds: u32) -> Outcome {
     example(twins)?;
-    let body = of_the_example(dice, kind, nanoseconds);
+    let body = of_the_example(twins.edition(), dice, kind, nanoseconds);
     let mut records = vec![(NEXT, body.clone())];
     let behind = dice.below(3);
     for place in 1..=behind {
@@ -89,7 +90,7 @@ fn next_message(dice: &mut Dice, twins: &mut Twins, kind: u8, nanoseconds: u32) 
 fn on_the_shelf(dice: &mut Dice, twins: &mut Twins, kind: u8, nanoseconds: u32) -> Outcome {
     example(twins)?;
     let earlier = good_nanoseconds(dice);
-    let body = of_the_example(dice, kind, earlier);
+    let body = of_the_example(twins.edition(), dice, kind, earlier);
     let shelved = packet(&[(NEXT + 1, body), (NEXT + 2, system_time(2))]);
     comes_to(twins, &shelved, Ok((NEXT, 0)))?;
     twins.alter(|desk| {
@@ -106,15 +107,7 @@ fn on_the_shelf(dice: &mut Dice, twins: &mut Twins, kind: u8, nanoseconds: u32) 
 /// The example, numbers 1 to 5, in small tables.
 fn example(twins: &mut Twins) -> Outcome {
     twins.restart(4, 2)?;
-    let opening = packet(&numbered(&example_list(), 1, 5));
+    let list = all_written_in(twins.edition(), example_list());
+    let opening = packet(&numbered(&list, 1, 5));
     comes_to(twins, &opening, Ok((NEXT, 0)))
-}
-
-/// A packet that must come to this next number and stop, or to this refusal.
-fn comes_to(twins: &mut Twins, packet: &[u8], wanted: Result<(u64, u8), Refusal>) -> Outcome {
-    let answer = twins.receive(packet)?;
-    if answer.map(|answer| (answer.next, answer.stop)) == wanted {
-        return Ok(());
-    }
-    Err(format!("both: {answer:?}, and {wanted:?} is told"))
 }

@@ -1,11 +1,13 @@
 //! What the tests share: what they do with a receiver, short names for bodies, example files, and
 //! seeds.
-#![allow(dead_code)] // each test uses some of it
+#![allow(dead_code, unused_imports)] // each test uses some of it
 
 pub mod watched;
 
 use second::book::{apply, broken_rule};
 pub use second::desk::Desk;
+pub use second::edition::Edition::{self, V1_3b, V1_3};
+pub use second::edition::EDITIONS;
 use second::examples::example_list;
 use second::morning::{add_order, delete_order, modify_order, numbered, order_execution, packet};
 use second::morning::{symbol_clear, symbol_update, system_time};
@@ -37,14 +39,14 @@ pub fn by_number<T>(answer: Result<T, Refusal>) -> Result<T, u8> {
 
 impl Tried for Desk {
     fn example() -> Desk {
-        let mut desk = Desk::new(10, 4);
+        let mut desk = Desk::new(V1_3b, 10, 4);
         let answer = desk.records(&numbered(&example_list(), 1, 5));
         assert_eq!(answer.applied, 5);
         desk
     }
 
     fn with_symbols(rows: usize, entries: usize) -> Desk {
-        let mut desk = Desk::new(rows, entries);
+        let mut desk = Desk::new(V1_3b, rows, entries);
         let answer = desk.records(&[(1, update(7)), (2, update(8))]);
         assert_eq!(answer.next, 3);
         desk
@@ -99,13 +101,14 @@ pub fn example_file(name: &str) -> Vec<u8> {
     std::fs::read(example_path(name)).expect(name)
 }
 
-/// Whether a list is one of those that demand 3 speaks of: "any list of well-formed messages".
-pub fn well_formed(list: &[Vec<u8>]) -> bool {
-    list.iter().all(|body| read_body(body).is_ok())
+/// Whether a list is one of those that demand 3 speaks of: "any list of well-formed messages", read per edition.
+pub fn well_formed(edition: Edition, list: &[Vec<u8>]) -> bool {
+    list.iter().all(|body| read_body(edition, body).is_ok())
 }
 
 /// The list applied in order, in tables of its own.
 pub struct Reference<'a> {
+    pub edition: Edition,
     pub list: &'a [Vec<u8>],
     pub k: u64,
     pub orders: Vec<u64>,
@@ -114,8 +117,15 @@ pub struct Reference<'a> {
 }
 
 impl<'a> Reference<'a> {
-    pub fn new(list: &'a [Vec<u8>], rows: usize, entries: usize) -> Reference<'a> {
+    /// A list of an edition.
+    pub fn new(
+        edition: Edition,
+        list: &'a [Vec<u8>],
+        rows: usize,
+        entries: usize,
+    ) -> Reference<'a> {
         Reference {
+            edition,
             list,
             k: 0,
             orders: vec![0; rows * ROW_NUMBERS],
@@ -128,7 +138,7 @@ impl<'a> Reference<'a> {
     pub fn go_to(&mut self, k: u64) {
         assert!(k >= self.k, "next never falls");
         while self.k < k {
-            let message = read_body(&self.list[self.k as usize]).unwrap();
+            let message = read_body(self.edition, &self.list[self.k as usize]).unwrap();
             let number = self.k + 1;
             let (orders, symbols) = (&mut self.orders, &mut self.symbols);
             apply(number, &message, orders, symbols, &mut self.second).expect("the list applies");
@@ -139,7 +149,8 @@ impl<'a> Reference<'a> {
     /// The rule that message k + 1 breaks, none if it breaks none or is not there.
     pub fn rule_of_next(&self) -> Option<u8> {
         let body = self.list.get(self.k as usize)?;
-        broken_rule(&read_body(body).unwrap(), &self.orders, &self.symbols)
+        let message = read_body(self.edition, body).unwrap();
+        broken_rule(&message, &self.orders, &self.symbols)
     }
 }
 

@@ -1,8 +1,9 @@
-//! Demand 3 over seeded lists and deliveries, of any receiver: after each accepted packet the tables
+//! Demand 3 over seeded lists and deliveries, of any receiver and of each edition (request 10: "Demands 2 and 3
+//! are read per edition, for a run that keeps the one chosen"): after each accepted packet the tables
 //! and the second are those of the list's first k messages; what was answered is applied or named; two
 //! receivers agree. The second program's book is the list's meaning.
 
-use super::{all_seeds, seeds, well_formed, Desk, Reference};
+use super::{all_seeds, seeds, well_formed, Desk, Edition, Reference};
 use second::morning::*;
 use second::packet::{read_packet, Refusal};
 #[cfg(linked)]
@@ -14,8 +15,8 @@ use std::fmt::Debug;
 pub type Three = (Vec<u64>, Vec<u8>, u64);
 
 pub trait Receiver: Clone + Debug + PartialEq {
-    /// Started, with these capacities.
-    fn started(rows: usize, entries: usize) -> Self;
+    /// Started in an edition, with these capacities.
+    fn started(edition: Edition, rows: usize, entries: usize) -> Self;
     /// A packet's answer, or its refusal.
     fn hear(&mut self, packet: &[u8]) -> Result<Answer, Refusal>;
     fn state(&self) -> State;
@@ -23,8 +24,8 @@ pub trait Receiver: Clone + Debug + PartialEq {
 }
 
 impl Receiver for Desk {
-    fn started(rows: usize, entries: usize) -> Desk {
-        Desk::new(rows, entries)
+    fn started(edition: Edition, rows: usize, entries: usize) -> Desk {
+        Desk::new(edition, rows, entries)
     }
 
     fn hear(&mut self, packet: &[u8]) -> Result<Answer, Refusal> {
@@ -42,8 +43,8 @@ impl Receiver for Desk {
 
 #[cfg(linked)]
 impl Receiver for Proved {
-    fn started(rows: usize, entries: usize) -> Proved {
-        Proved::new(rows, entries).expect("capacities in the limits")
+    fn started(edition: Edition, rows: usize, entries: usize) -> Proved {
+        Proved::new(edition, rows, entries).expect("capacities in the limits")
     }
 
     fn hear(&mut self, packet: &[u8]) -> Result<Answer, Refusal> {
@@ -51,9 +52,14 @@ impl Receiver for Proved {
     }
 
     fn state(&self) -> State {
-        let [next, second, stop] = self.state;
-        let stop = u8::try_from(stop).expect("0 or 20 to 27");
-        State { next, second, stop }
+        let [next, second, stop, edition] = self.state;
+        assert!(edition < 2, "0 or 1 from a start on");
+        State {
+            next,
+            second,
+            stop: u8::try_from(stop).expect("0 or 20 to 27"),
+            edition: Edition::of_number(edition),
+        }
     }
 
     fn three(&self) -> Three {
@@ -75,13 +81,13 @@ struct Watched<'a, R> {
 
 impl<'a, R: Receiver> Watched<'a, R> {
     fn new(seed: u64, list: &'a [Vec<u8>], settings: ListSettings) -> Watched<'a, R> {
-        assert!(well_formed(list), "seed {seed}");
-        let receiver = R::started(settings.rows, settings.entries);
+        assert!(well_formed(settings.edition, list), "seed {seed}");
+        let receiver = R::started(settings.edition, settings.rows, settings.entries);
         Watched {
             seed,
             shadow: receiver.clone(),
             receiver,
-            reference: Reference::new(list, settings.rows, settings.entries),
+            reference: Reference::new(settings.edition, list, settings.rows, settings.entries),
             answered: vec![false; list.len() + 1],
             seen: vec![None; list.len() + 1],
         }
@@ -92,7 +98,8 @@ impl<'a, R: Receiver> Watched<'a, R> {
         match self.receiver.hear(packet) {
             Err(refusal) => {
                 let seed = self.seed;
-                assert_eq!(read_packet(packet), Err(refusal), "seed {seed}");
+                let wanted = read_packet(self.reference.edition, packet);
+                assert_eq!(wanted, Err(refusal), "seed {seed}");
                 assert_eq!(self.receiver, before, "seed {seed}");
             }
             Ok(answer) => {
@@ -106,7 +113,9 @@ impl<'a, R: Receiver> Watched<'a, R> {
     /// The first half: the three are made by the list's first k messages, no more and no less.
     fn is_made_of_the_first(&mut self, next_before: u64, answer: &Answer) {
         let seed = self.seed;
-        assert_eq!(answer.next, self.receiver.state().next, "seed {seed}");
+        let state = self.receiver.state();
+        assert_eq!(answer.next, state.next, "seed {seed}");
+        assert_eq!(state.edition, self.reference.edition, "seed {seed}");
         assert_eq!(answer.applied, answer.next - next_before, "seed {seed}");
         let k = answer.next - 1;
         self.reference.go_to(k);
@@ -121,7 +130,7 @@ impl<'a, R: Receiver> Watched<'a, R> {
     fn note_answers(&mut self, packet: &[u8], answer: &Answer) {
         let seed = self.seed;
         let mut sums = [0; 5];
-        for one in read_packet(packet).expect("an accepted packet") {
+        for one in read_packet(self.reference.edition, packet).expect("an accepted packet") {
             let alone = record(one.number, one.body);
             let answered = self.shadow.hear(&alone).expect("a good record");
             for (sum, count) in sums.iter_mut().zip(answered.counts()) {
@@ -170,18 +179,18 @@ impl<'a, R: Receiver> Watched<'a, R> {
     }
 }
 
-pub fn deliveries_of_true_copies<R: Receiver>(count: u64) {
+pub fn deliveries_of_true_copies<R: Receiver>(edition: Edition, count: u64) {
     let mut stops = [0; 28];
-    let (mut whole, mut met) = (0, 0);
+    let (mut whole, mut met, mut kinds) = (0, 0, [0; 256]);
     for seed in seeds(count) {
         let mut dice = Dice::new(seed);
-        let settings = ListSettings::drawn(&mut dice);
+        let settings = ListSettings::drawn(&mut dice).of(edition);
         let list = list(dice.bits(), settings);
         let mut pair: Vec<Watched<R>> = Vec::new();
         for _ in 0..2 {
             let how = true_delivery(dice.bits());
             let mut watched: Watched<R> = Watched::new(seed, &list, settings);
-            for packet in delivery(dice.bits(), &list, how) {
+            for packet in delivery(edition, dice.bits(), &list, how) {
                 watched.give(&packet);
             }
             if how.fill {
@@ -189,6 +198,9 @@ pub fn deliveries_of_true_copies<R: Receiver>(count: u64) {
                 whole += 1;
             }
             stops[watched.receiver.state().stop as usize] += 1;
+            for entry in watched.receiver.three().1.chunks(42) {
+                kinds[usize::from(entry[20])] += u64::from(entry[0] == 1);
+            }
             pair.push(watched);
         }
         met += pair[0].agrees_with(&pair[1]);
@@ -198,15 +210,20 @@ pub fn deliveries_of_true_copies<R: Receiver>(count: u64) {
         assert!(met > count, "the two receivers met {met} times");
         assert!(stops[20..=26].iter().all(|count| *count > 3), "{stops:?}");
         assert_eq!(stops[27], 0);
+        // Entries end with both Security Types; from 1.3.a on with other bytes there too, and in 1.3 with none.
+        let letters = [kinds[usize::from(b'E')], kinds[usize::from(b'F')]];
+        assert!(letters.iter().all(|letter| *letter > count), "{letters:?}");
+        let others: u64 = kinds.iter().sum::<u64>() - letters.iter().sum::<u64>();
+        assert_eq!(others == 0, edition.has_security_type());
     }
 }
 
 /// No line, no order: any numbers in any packets, near the next number or far from it.
-pub fn records_shuffled_at_will<R: Receiver>(count: u64) {
+pub fn records_shuffled_at_will<R: Receiver>(edition: Edition, count: u64) {
     let mut done = 0;
     for seed in seeds(count) {
         let mut dice = Dice::new(seed ^ 0x5EED);
-        let settings = ListSettings::drawn(&mut dice);
+        let settings = ListSettings::drawn(&mut dice).of(edition);
         let list = list(dice.bits(), settings);
         let mut watched: Watched<R> = Watched::new(seed, &list, settings);
         for _ in 0..300 {
@@ -236,16 +253,16 @@ fn near_or_far(dice: &mut Dice, list: &[Vec<u8>], next: u64) -> Vec<u8> {
 }
 
 /// Lists in tables of full capacity, to the last row and entry.
-pub fn full_capacities<R: Receiver>(count: u64) {
+pub fn full_capacities<R: Receiver>(edition: Edition, count: u64) {
     for seed in seeds(count) {
         let mut dice = Dice::new(seed);
-        let settings = ListSettings::filling(25 + (seed % 2) as u8);
+        let settings = ListSettings::filling(25 + (seed % 2) as u8).of(edition);
         let list = list(dice.bits(), settings);
         let mut how = true_delivery(dice.bits());
         how.records = how.records.max(12);
         how.fill = true;
         let mut watched: Watched<R> = Watched::new(seed, &list, settings);
-        for packet in delivery(dice.bits(), &list, how) {
+        for packet in delivery(edition, dice.bits(), &list, how) {
             watched.give(&packet);
         }
         let state = watched.receiver.state();
