@@ -1,11 +1,13 @@
 /* A first program over the proved library, in two parts.
  *
  * One packet: a receiver is given the project's example, numbers 1 to 5 in one packet, and the program walks through the tables.
- * A recording in chunks: the file that is named is fed in pieces of 64 bytes, and its answer sheet is printed.
+ * A recording in chunks: the file that is named is fed in pieces of 64 bytes, and its answer sheet is printed. A second word, 1.3, says that
+ * it is a recording of version 1.3.
  *
  *     first examples/morning.rec
+ *     first examples/morning-1.3.rec 1.3
  *
- * tools/c-example compiles it, runs it so, and compares what it prints with examples/first.out. */
+ * tools/c-example compiles it, runs it so, and compares what it prints with examples/first.out and with the sheets of examples/. */
 #include <inttypes.h>
 #include <stdio.h>
 #include <string.h>
@@ -120,10 +122,11 @@ static void print_tables(void) {
 }
 
 static bool one_packet(void) {
+    const uint64_t edition = RIMEHEATH_EDITION_1_3_B; /* today's; a packet does not tell its own */
     uint64_t state[RIMEHEATH_STATE_SIZE], account[RIMEHEATH_ACCOUNT_SIZE], spread[2];
 
     make_packet();
-    if (refused("start", rimeheath_start(orders, ORDERS, symbols, SYMBOLS, shelf, sizeof shelf, state))) return false;
+    if (refused("start", rimeheath_start(edition, orders, ORDERS, symbols, SYMBOLS, shelf, sizeof shelf, state))) return false;
     if (refused_at("receive", rimeheath_receive(orders, ORDERS, symbols, SYMBOLS, shelf, sizeof shelf, state, packet, used, account)))
         return false;
     printf("taken %" PRIu64 ", applied %" PRIu64 ", next %" PRIu64 "\n", account[RIMEHEATH_ACCOUNT_TAKEN],
@@ -146,13 +149,13 @@ static bool one_packet(void) {
 
 /* ---- a recording in chunks ---- */
 
-static bool recording(FILE *file) {
+static bool recording(FILE *file, uint64_t edition) {
     static uint8_t hold[RIMEHEATH_HOLD_LEAST], sheet[RIMEHEATH_SHEET_MOST];
     uint64_t state[RIMEHEATH_STATE_SIZE], stream[RIMEHEATH_STREAM_SIZE], length[1];
     uint8_t chunk[64]; /* any size will do */
     size_t n;
 
-    if (refused("start", rimeheath_start(orders, ORDERS, symbols, SYMBOLS, shelf, sizeof shelf, state))) return false;
+    if (refused("start", rimeheath_start(edition, orders, ORDERS, symbols, SYMBOLS, shelf, sizeof shelf, state))) return false;
     if (refused("open", rimeheath_open(state, stream))) return false;
     while ((n = fread(chunk, 1, sizeof chunk, file)) > 0)
         if (refused("feed", rimeheath_feed(orders, ORDERS, symbols, SYMBOLS, shelf, sizeof shelf, hold, sizeof hold, stream, chunk, n)))
@@ -174,8 +177,8 @@ int main(int count, char **words) {
     FILE *file;
     bool good;
 
-    if (count != 2) {
-        fprintf(stderr, "usage: first RECORDING\n");
+    if (count < 2 || count > 3 || (count == 3 && strcmp(words[2], "1.3") != 0)) {
+        fprintf(stderr, "usage: first RECORDING [1.3]\n");
         return 2;
     }
     if (!one_packet()) return 1;
@@ -184,7 +187,7 @@ int main(int count, char **words) {
         perror(words[1]);
         return 1;
     }
-    good = recording(file);
+    good = recording(file, count == 3 ? RIMEHEATH_EDITION_1_3 : RIMEHEATH_EDITION_1_3_B);
     fclose(file);
     return good ? 0 : 1;
 }
