@@ -15,7 +15,9 @@ use Rattle.facts.proofs.SumLaws.{count-bound}
 use Rattle.wire.specs.Le.{Bytes}
 use Rattle.wire.proofs.Laws.{field-below, length-padded}
 use Rattle.editions.specs.declared.Edition.{Edition}
-use Rattle.fields.specs.Fields.{symbolOf, securityOf}
+use Rattle.fields.specs.Fields.{symbolOf}
+use Rattle.body.specs.Shown.{securityIn}
+use Rattle.body.specs.declared.Security.{Security}
 use Rattle.rows.specs.Rows.{rows, goodRows, live}
 use Rattle.rows.specs.Find.{countLive}
 use Rattle.rows.specs.declared.Row.{Row}
@@ -157,17 +159,17 @@ spread-short s rs = plain-short spreadKey (spreadWord (spreadOf s rs)) (omega ar
     go (SpreadAnswer.Refused r) e = omega arith
 
 -- ---- a symbol
-type-few : (ed : Edition) (x : ℕ) → Few 1 (typeLines ed x)
+type-few : (y : Security) → Few 1 (typeLines y)
 unfolding typeLines typeKey
-type-few Edition.V13 x = record { count = omega arith; short = (plain-short typeKey (shownOf x ∷ []) (omega arith) (omega arith), tt) }
-type-few Edition.V13b x = record { count = omega arith; short = tt }
+type-few (Security.Type x) = record { count = omega arith; short = (plain-short typeKey (shownOf x ∷ []) (omega arith) (omega arith), tt) }
+type-few Security.Reserved = record { count = omega arith; short = tt }
 
-symbol-few : (ed : Edition) (e : List ℕ) → Bytes e → Few 4 (symbolLines ed (securityOf e) (symbolOf e))
+symbol-few : (ed : Edition) (e : List ℕ) → Bytes e → Few 4 (symbolLines (securityIn ed e) (symbolOf e))
 unfolding symbolLines symbolKey tickerKey lotKey
 symbol-few ed e h =
     let s = symbolOf e in
     let lot : Few 1 (plain lotKey (decimalOf (s .lot)) ∷ []) = record { count = omega arith; short = (number-short lotKey (s .lot) (omega arith) (omega (arith, field-below e h 23 2)), tt) } in
-    let rest = few-append (typeLines ed (securityOf e)) (plain lotKey (decimalOf (s .lot)) ∷ []) (type-few ed (securityOf e)) lot in
+    let rest = few-append (typeLines (securityIn ed e)) (plain lotKey (decimalOf (s .lot)) ∷ []) (type-few (securityIn ed e)) lot in
     record {
       count = omega (arith, rest .count);
       short = (
@@ -188,8 +190,8 @@ book-few id t g =
 entry-few : (ed : Edition) (t e : List ℕ) → goodRows (length t) ≡ true → Bytes e → Few 25 (entryLines ed (rows t) e)
 unfolding entryLines
 entry-few ed t e g h =
-    pick-ind (Few 25) (used e) (symbolLines ed (securityOf e) (symbolOf e) ++ bookLines (symbolOf e .id) (rows t)) []
-    (λ _. few-append (symbolLines ed (securityOf e) (symbolOf e)) (bookLines (symbolOf e .id) (rows t)) (symbol-few ed e h) (book-few (symbolOf e .id) t g))
+    pick-ind (Few 25) (used e) (symbolLines (securityIn ed e) (symbolOf e) ++ bookLines (symbolOf e .id) (rows t)) []
+    (λ _. few-append (symbolLines (securityIn ed e) (symbolOf e)) (bookLines (symbolOf e .id) (rows t)) (symbol-few ed e h) (book-few (symbolOf e .id) t g))
     (λ _. record { count = omega arith; short = tt })
 
 -- ---- the whole

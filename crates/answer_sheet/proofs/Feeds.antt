@@ -13,7 +13,9 @@ use Rattle.facts.specs.Pick.{pick, both}
 use Rattle.facts.specs.Pieces.{join}
 use Rattle.facts.proofs.Picks.{pick-ind, both-true}
 use Rattle.editions.specs.declared.Edition.{Edition}
-use Rattle.fields.specs.Fields.{symbolOf, securityOf}
+use Rattle.fields.specs.Fields.{symbolOf}
+use Rattle.body.specs.Shown.{securityIn}
+use Rattle.body.specs.declared.Security.{Security}
 use Rattle.fields.specs.declared.Symbol.{Symbol}
 use Rattle.rows.specs.Rows.{rows}
 use Rattle.rows.specs.Find.{countLive}
@@ -110,16 +112,16 @@ side-one : (side : Side) (id : ℕ) (rs : List Row) → All OneFeed (sideLines s
 unfolding sideLines
 side-one side id rs = all-map OneFeed (levelLine side id) (take levelsShown (ladder (keyOf side id) rs)) (all-of (level-one side id) (take levelsShown (ladder (keyOf side id) rs)))
 
-type-one : (ed : Edition) (x : ℕ) → All OneFeed (typeLines ed x)
+type-one : (y : Security) → All OneFeed (typeLines y)
 unfolding typeLines typeKey visible both
-type-one Edition.V13 x = (plain-one typeKey (shownOf x ∷ []) refl (visible-cons (shownOf x) [] (shown-range x .0) refl), tt)
-type-one Edition.V13b x = tt
+type-one (Security.Type x) = (plain-one typeKey (shownOf x ∷ []) refl (visible-cons (shownOf x) [] (shown-range x .0) refl), tt)
+type-one Security.Reserved = tt
 
-symbol-one : (ed : Edition) (x : ℕ) (s : Symbol) → All OneFeed (symbolLines ed x s)
+symbol-one : (y : Security) (s : Symbol) → All OneFeed (symbolLines y s)
 unfolding symbolLines symbolKey tickerKey lotKey visible both
-symbol-one ed x s = (
+symbol-one y s = (
   number-one symbolKey (s .id) refl,
-  (plain-one tickerKey (tickerOf (s .ticker)) refl (ticker-visible (s .ticker)), all-append OneFeed (typeLines ed x) (plain lotKey (decimalOf (s .lot)) ∷ []) (type-one ed x) (number-one lotKey (s .lot) refl, tt)),
+  (plain-one tickerKey (tickerOf (s .ticker)) refl (ticker-visible (s .ticker)), all-append OneFeed (typeLines y) (plain lotKey (decimalOf (s .lot)) ∷ []) (type-one y) (number-one lotKey (s .lot) refl, tt)),
 )
 
 book-one : (id : ℕ) (rs : List Row) → All OneFeed (bookLines id rs)
@@ -129,8 +131,8 @@ book-one id rs = (plain-one spreadKey (spreadWord (spreadOf id rs)) refl (spread
 entry-one : (ed : Edition) (rs : List Row) (e : List ℕ) → All OneFeed (entryLines ed rs e)
 unfolding entryLines
 entry-one ed rs e =
-    pick-ind (All OneFeed) (used e) (symbolLines ed (securityOf e) (symbolOf e) ++ bookLines (symbolOf e .id) rs) []
-    (λ _. all-append OneFeed (symbolLines ed (securityOf e) (symbolOf e)) (bookLines (symbolOf e .id) rs) (symbol-one ed (securityOf e) (symbolOf e)) (book-one (symbolOf e .id) rs))
+    pick-ind (All OneFeed) (used e) (symbolLines (securityIn ed e) (symbolOf e) ++ bookLines (symbolOf e .id) rs) []
+    (λ _. all-append OneFeed (symbolLines (securityIn ed e) (symbolOf e)) (bookLines (symbolOf e .id) rs) (symbol-one (securityIn ed e) (symbolOf e)) (book-one (symbolOf e .id) rs))
     (λ _. tt)
 
 lines-one : (word : Recording) (bad : ℕ) (s : State) (orders symbols : List ℕ) → All OneFeed (linesOf word bad s orders symbols)

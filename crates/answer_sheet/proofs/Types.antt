@@ -7,10 +7,12 @@ use mathlib.Core.List.{List, [], _∷_, _++_, map}
 use lib.ListN.{take}
 use Rattle.facts.specs.Pick.{pick, both}
 use Rattle.facts.specs.Pieces.{join}
+use Rattle.facts.specs.Same.{sameBytes}
 use Rattle.editions.specs.declared.Edition.{Edition}
-use Rattle.arbitration.specs.Slots.{sameBytes}
 use Rattle.fields.specs.Fields.{symbolOf, securityOf}
 use Rattle.fields.specs.declared.Symbol.{Symbol}
+use Rattle.body.specs.Shown.{securityIn}
+use Rattle.body.specs.declared.Security.{Security}
 use Rattle.rows.specs.Rows.{rows}
 use Rattle.rows.specs.Find.{countLive}
 use Rattle.rows.specs.declared.Row.{Row}
@@ -75,7 +77,7 @@ table-other : (second symbols orders : ℕ) → All Other (tableLines second sym
 unfolding tableLines isType sameBytes both plain secondKey symbolsKey ordersKey typeKey
 table-other second symbols orders = (refl, (refl, (refl, tt)))
 
-symbol-untyped : (x : ℕ) (s : Symbol) → untyped (symbolLines Edition.V13 x s) ≡ symbolLines Edition.V13b x s
+symbol-untyped : (x : ℕ) (s : Symbol) → untyped (symbolLines (Security.Type x) s) ≡ symbolLines Security.Reserved s
 unfolding untyped symbolLines typeLines isType sameBytes both pick plain symbolKey tickerKey typeKey lotKey
 symbol-untyped x s = refl
 
@@ -84,7 +86,7 @@ unfolding entryLines untyped pick
 entry-untyped rs e = go (used e)
   where
     a : Edition → List Line
-    a ed = symbolLines ed (securityOf e) (symbolOf e)
+    a ed = symbolLines (securityIn ed e) (symbolOf e)
 
     b : List Line
     b = bookLines (symbolOf e .id) rs

@@ -14,7 +14,8 @@ use Rattle.facts.specs.Pieces.{join}
 use Rattle.rows.specs.Rows.{rows}
 use Rattle.rows.specs.declared.Row.{Row}
 use Rattle.editions.specs.declared.Edition.{Edition}
-use Rattle.fields.specs.Fields.{symbolOf, securityOf}
+use Rattle.fields.specs.Fields.{symbolOf}
+use Rattle.body.specs.Shown.{securityIn}
 use Rattle.symbols.specs.Entries.{entries, used, idOf}
 use Rattle.symbols.proofs.FindLaws.{is-symbol, some-known}
 use Rattle.views.specs.Ladder.{keyOf, ladder, threeOf, written}
@@ -41,7 +42,7 @@ pub unused-lines : (ed : Edition) (rs : List Row) (e : List ℕ) → used e ≡ 
 unfolding entryLines textOf join pick
 unused-lines ed rs e u = rw u
 
-pub used-lines : (ed : Edition) (rs : List Row) (e : List ℕ) → used e ≡ true → textOf (symbolLines ed (securityOf e) (symbolOf e) ++ bookLines (symbolOf e .id) rs) ≡ textOf (entryLines ed rs e)
+pub used-lines : (ed : Edition) (rs : List Row) (e : List ℕ) → used e ≡ true → textOf (symbolLines (securityIn ed e) (symbolOf e) ++ bookLines (symbolOf e .id) rs) ≡ textOf (entryLines ed rs e)
 unfolding entryLines pick
 used-lines ed rs e u = rw u
 

@@ -7,8 +7,10 @@ use lib.ListN.{length, getD, take, drop}
 use Rattle.facts.specs.Pick.{pick, both}
 use Rattle.facts.specs.Pieces.{join}
 use Rattle.editions.specs.declared.Edition.{Edition}
-use Rattle.fields.specs.Fields.{symbolOf, securityOf, refusal}
+use Rattle.fields.specs.Fields.{symbolOf, refusal}
 use Rattle.fields.specs.declared.Symbol.{Symbol}
+use Rattle.body.specs.Shown.{securityIn}
+use Rattle.body.specs.declared.Security.{Security}
 use Rattle.rows.specs.Rows.{rows}
 use Rattle.rows.specs.Find.{countLive}
 use Rattle.rows.specs.declared.Row.{Row}
@@ -82,17 +84,17 @@ spreadWord (SpreadAnswer.Of z) = signedOf z
 spreadWord SpreadAnswer.Empty = noneWord
 spreadWord (SpreadAnswer.Refused r) = []
 
--- "Only the 1.3 sheet shows it, as `type=` after `ticker=`" (request 10): the byte x, as "other bytes outside 32 to 126 shown as a full stop"
-unfoldable pub typeLines : Edition → ℕ → List Line
-typeLines Edition.V13 x = plain typeKey (shownOf x ∷ []) ∷ []
-typeLines Edition.V13b x = []
+-- "Only the 1.3 sheet shows it, as `type=` after `ticker=`" (request 10): the byte, as "other bytes outside 32 to 126 shown as a full stop"
+unfoldable pub typeLines : Security → List Line
+typeLines (Security.Type x) = plain typeKey (shownOf x ∷ []) ∷ []
+typeLines Security.Reserved = []
 
--- "symbol=7", "ticker=ABC", "lot=100", of a symbol s with the byte x for its type
-unfoldable pub symbolLines : Edition → ℕ → Symbol → List Line
-symbolLines ed x s =
+-- "symbol=7", "ticker=ABC", "lot=100"
+unfoldable pub symbolLines : Security → Symbol → List Line
+symbolLines y s =
     plain symbolKey (decimalOf (s .id)) ∷
     plain tickerKey (tickerOf (s .ticker)) ∷
-    (typeLines ed x ++ (plain lotKey (decimalOf (s .lot)) ∷ []))
+    (typeLines y ++ (plain lotKey (decimalOf (s .lot)) ∷ []))
 
 -- "spread=20000", then the levels, "bids first"
 unfoldable pub bookLines : ℕ → List Row → List Line
@@ -100,7 +102,7 @@ bookLines id rs = plain spreadKey (spreadWord (spreadOf id rs)) ∷ (sideLines S
 
 -- a free or spoiled entry has no lines: "type 1 marks an entry in use"
 unfoldable pub entryLines : Edition → List Row → List ℕ → List Line
-entryLines ed rs e = pick (used e) (symbolLines ed (securityOf e) (symbolOf e) ++ bookLines (symbolOf e .id) rs) []
+entryLines ed rs e = pick (used e) (symbolLines (securityIn ed e) (symbolOf e) ++ bookLines (symbolOf e .id) rs) []
 
 -- "symbols in table order"
 unfoldable pub allEntries : Edition → List ℕ → List ℕ → List Line

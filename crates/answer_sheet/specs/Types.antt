@@ -2,8 +2,8 @@
 use mathlib.Core.Bool.{Bool}
 use mathlib.Core.List.{List, [], _∷_}
 use Rattle.facts.specs.Pick.{pick}
+use Rattle.facts.specs.Same.{sameBytes}
 use Rattle.editions.specs.declared.Edition.{Edition}
-use Rattle.arbitration.specs.Slots.{sameBytes}
 use Rattle.receiver.specs.declared.State.{State}
 use Rattle.answer_sheet.specs.Keys.{typeKey}
 use Rattle.answer_sheet.specs.Lines.{Line}

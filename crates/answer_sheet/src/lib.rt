@@ -4,7 +4,7 @@ ghost use mathlib.Core.Bool.{true};
 ghost use Prim.Native.Nat.{_+_, _*_, _^_, _≤_, _<_, min};
 ghost use lib.ListN.{length, getD};
 ghost use mathlib.Core.List.{[]};
-ghost use Rattle.fields.specs.Fields.{securityOf};
+ghost use Rattle.body.specs.Shown.{securityIn};
 ghost use Rattle.rows.specs.Rows.{rows};
 ghost use Rattle.symbols.specs.Entries.{entries};
 ghost use Rattle.views.specs.Views.{goodTables, viewFault};
@@ -12,6 +12,7 @@ ghost use Rattle.text.specs.Text.{Wrote, tickerOf, lineOf, firstTexts};
 ghost use Rattle.answer_sheet.specs.Keys.{recordingKey, tickerKey, spreadKey, sideKey};
 ghost use Rattle.answer_sheet.specs.Lines.{textOf};
 ghost use Rattle.answer_sheet.specs.Sheet.{recordingWord, headLines, tableLines, markedOf, levelValue, levelsShown, levelAt, levelCount, sideLines, spreadWord, typeLines, symbolLines, bookLines, entryLines, allEntries, sheetOf, sheetAnd, sheetView, AreSizes};
+use body::Security;
 use editions::Edition;
 use fields::Refusal;
 use fields::Symbol;
@@ -180,35 +181,35 @@ fn ticker_line(buf: &mut [u8], at: usize, t: [u8; 11]) -> usize
     text::byte(buf, p, b'\n')
 }
 
-// The Security Type, on a sheet of 1.3 alone.
-fn type_lines(buf: &mut [u8], at: usize, e: Edition, x: u8) -> usize
-    ensures { λ r. ⌜ Wrote (now (buf .entry)) at (textOf (typeLines e x)) (now (buf .exit)) r ⌝ }
+// The Security Type, where there is one: on a sheet of 1.3 alone.
+fn type_lines(buf: &mut [u8], at: usize, y: Security) -> usize
+    ensures { λ r. ⌜ Wrote (now (buf .entry)) at (textOf (typeLines y)) (now (buf .exit)) r ⌝ }
 {
-    match e {
-        Edition::V13 => {
+    match y {
+        Security::Type(x) => {
             let o = text::bytes(buf, at, b"type=");
             let p = text::byte(buf, o, text::shown(x));
             text::byte(buf, p, b'\n')
         }
-        Edition::V13b => at,
+        Security::Reserved => at,
     }
 }
 
-fn symbol_lines(buf: &mut [u8], at: usize, e: Edition, x: u8, s: Symbol) -> usize
-    ensures { λ r. ⌜ Wrote (now (buf .entry)) at (textOf (symbolLines e x s)) (now (buf .exit)) r ⌝ }
+fn symbol_lines(buf: &mut [u8], at: usize, y: Security, s: Symbol) -> usize
+    ensures { λ r. ⌜ Wrote (now (buf .entry)) at (textOf (symbolLines y s)) (now (buf .exit)) r ⌝ }
 {
     let ticker = s.ticker;
     let o = text::line(buf, at, b"symbol=", s.id as u64);
     let p = ticker_line(buf, o, ticker);
-    let q = type_lines(buf, p, e, x);
+    let q = type_lines(buf, p, y);
     text::line(buf, q, b"lot=", s.lot as u64)
 }
 
-// The byte of entry i that is its Security Type in 1.3.
-fn security_at(symbols: &[u8], i: usize) -> u8
-    ensures { λ r. ⌜ r ≡ securityOf (getD (entries (now (symbols .entry))) i []) ⌝ }
+// What byte 20 of entry i is in an edition.
+fn security_at(e: Edition, symbols: &[u8], i: usize) -> Security
+    ensures { λ r. ⌜ r ≡ securityIn e (getD (entries (now (symbols .entry))) i []) ⌝ }
 {
-    fields::security_of(symbols::entry_bytes(symbols, i))
+    body::security_in(e, symbols::entry_bytes(symbols, i))
 }
 
 // The lines of entry i; none where it is not in use.
@@ -226,9 +227,9 @@ fn entry_lines(
     if !symbols::is_used_at(symbols, i) {
         return at;
     }
-    let x = security_at(symbols, i);
+    let y = security_at(e, symbols, i);
     let s = symbols::entry_at(symbols, i);
-    let o = symbol_lines(buf, at, e, x, s);
+    let o = symbol_lines(buf, at, y, s);
     book_lines(buf, o, orders, symbols, s.id)
 }
 

@@ -5,10 +5,10 @@ use mathlib.Core.Path.{_≡_, refl, sym, _∙_}
 use mathlib.Core.List.{List}
 use mathlib.Core.Logic.{inl, inr}
 use native.Mathlib.Omega.{arith}
-use lib.ListN.{getD}
+use lib.ListN.{getD, set}
 use Rattle.editions.specs.declared.Edition.{Edition}
 use Rattle.kinds.specs.Table.{typeOf}
-use Rattle.fields.specs.Fields.{bodyNumber}
+use Rattle.fields.specs.Fields.{bodyNumber, securityOf}
 use Rattle.fields.specs.declared.Body.{Body}
 use Rattle.body.specs.Read.{readBody}
 use Rattle.body.proofs.Laws.{Sound, read-sound}
@@ -48,3 +48,23 @@ typed-first ed t (Body.Bad r) b = refl
 -- "The type byte decides the message": what a caller is told is the byte itself
 pub type-first : (ed : Edition) (b : List ℕ) → bodyNumber (readBody ed b) ≡ 0 → getD (fieldsOf ed (readBody ed b) b) 0 0 ≡ getD b 0 0
 type-first ed b z = typed-first ed (typeOf (kindIn (readBody ed b))) (readBody ed b) b ∙ type-told ed (readBody ed b) b (read-sound ed b) z
+
+-- ---- the editions (request 10)
+-- of any message but a Symbol Update the numbers are the same in each
+pub numbers-alike : (r w : Edition) (t : ℕ) (m : Body) (b : List ℕ) → (m ≡ Body.SymbolUpdate → ⊥) → typed r t m b ≡ typed w t m b
+numbers-alike r w t (Body.SystemTime n) b e = refl
+numbers-alike r w t Body.SymbolUpdate b e = absurd (e refl)
+numbers-alike r w t Body.SystemState b e = refl
+numbers-alike r w t (Body.TradingStatus m) b e = refl
+numbers-alike r w t (Body.SymbolClear m) b e = refl
+numbers-alike r w t (Body.Add m) b e = refl
+numbers-alike r w t (Body.Modify m) b e = refl
+numbers-alike r w t (Body.Delete m) b e = refl
+numbers-alike r w t (Body.Execution m) b e = refl
+numbers-alike r w t (Body.Trade m) b e = refl
+numbers-alike r w t (Body.TradeCancel m) b e = refl
+numbers-alike r w t (Body.Bad f) b e = refl
+
+-- of a Symbol Update all but one, which is byte 20 in 1.3 and 0 in 1.3.b
+pub update-numbers : (t : ℕ) (b : List ℕ) → typed Edition.V13 t Body.SymbolUpdate b ≡ set (typed Edition.V13b t Body.SymbolUpdate b) 4 (securityOf b)
+update-numbers t b = refl

@@ -1,11 +1,11 @@
--- A message as eight numbers: its type, its numbers in the order of their places (docs/MESSAGES.md), then zeros. The types are those of the one
+-- A message as eight numbers: its type, its numbers in the order of their places (docs/MESSAGES.md), but for the Security Type, which stands behind the others, then zeros. The types are those of the one
 -- table ("The types and lengths of all eleven messages stand in one table").
 use Prim.Native.Nat.{ℕ}
 use mathlib.Core.List.{List, [], _∷_}
 use Rattle.kinds.specs.declared.Kind.{Kind}
 use Rattle.kinds.specs.Table.{typeOf}
 use Rattle.editions.specs.declared.Edition.{Edition}
-use Rattle.fields.specs.Fields.{symbolOf, securityOf, stateOf}
+use Rattle.fields.specs.Fields.{symbolOf, stateOf}
 use Rattle.fields.specs.declared.TradingStatus.{TradingStatus}
 use Rattle.fields.specs.declared.SymbolClear.{SymbolClear}
 use Rattle.fields.specs.declared.AddOrder.{AddOrder}
@@ -17,7 +17,9 @@ use Rattle.fields.specs.declared.TradeCancel.{TradeCancel}
 use Rattle.fields.specs.declared.Symbol.{Symbol}
 use Rattle.fields.specs.declared.SystemState.{SystemState}
 use Rattle.fields.specs.declared.Body.{Body}
+use Rattle.body.specs.Shown.{securityIn}
 use Rattle.body.specs.declared.Judged.{Judged}
+use Rattle.body.specs.declared.Security.{Security}
 use Rattle.api.specs.Calls.{withOffset, Call, call}
 
 -- the first of the eight is the type, t in what follows
@@ -25,13 +27,13 @@ abbrev pub eight : ℕ → ℕ → ℕ → ℕ → ℕ → ℕ → ℕ → ℕ �
 eight a b c d e f g h = a ∷ b ∷ c ∷ d ∷ e ∷ f ∷ g ∷ h ∷ []
 
 -- byte 20 of a Symbol Update is a field in 1.3 alone (request 10)
-abbrev pub typeNumber : Edition → ℕ → ℕ
-typeNumber Edition.V13 x = x
-typeNumber Edition.V13b x = 0
+abbrev pub typeNumber : Security → ℕ
+typeNumber (Security.Type x) = x
+typeNumber Security.Reserved = 0
 
--- Symbol Update: symbol, lot, market, which have one place in both editions, and behind them the security type x in 1.3
-abbrev pub symbolFields : Edition → ℕ → Symbol → ℕ → List ℕ
-symbolFields ed t m x = eight t (m .id) (m .lot) (m .market) (typeNumber ed x) 0 0 0
+-- Symbol Update: symbol, lot, market, which have one place in both editions, and behind them the Security Type in 1.3
+abbrev pub symbolFields : ℕ → Symbol → Security → List ℕ
+symbolFields t m y = eight t (m .id) (m .lot) (m .market) (typeNumber y) 0 0 0
 
 -- System State: nanoseconds, session, status
 abbrev pub stateFields : ℕ → SystemState → List ℕ
@@ -72,7 +74,7 @@ cancelFields t m = eight t (m .nanos) (m .symbol) (m .trade) (m .correction) (m 
 -- the numbers of a message behind its type, and of the body that holds those of a Symbol Update and of a System State; System Time is its second
 abbrev pub typed : Edition → ℕ → Body → List ℕ → List ℕ
 typed ed t (Body.SystemTime n) b = eight t n 0 0 0 0 0 0
-typed ed t Body.SymbolUpdate b = symbolFields ed t (symbolOf b) (securityOf b)
+typed ed t Body.SymbolUpdate b = symbolFields t (symbolOf b) (securityIn ed b)
 typed ed t Body.SystemState b = stateFields t (stateOf b)
 typed ed t (Body.TradingStatus m) b = statusFields t m
 typed ed t (Body.SymbolClear m) b = clearFields t m

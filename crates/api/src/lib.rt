@@ -18,6 +18,7 @@ use answer_sheet::Recording;
 use answer_sheet::SheetAnswer;
 use arbitration::Counts;
 use body::Judged;
+use body::Security;
 use book::Clock;
 use editions::Edition;
 use fields::AddOrder;
@@ -342,26 +343,26 @@ pub extern "C" fn rimeheath_record(edition: u64, rest: &[u8], head: &mut [u64; 2
     }
 }
 
-// The Security Type, which is a field in 1.3 alone.
-fn type_number(e: Edition, x: u8) -> u64
-    ensures { λ r. ⌜ r ≡ typeNumber e x ⌝ }
+// The Security Type, 0 where there is none.
+fn type_number(y: Security) -> u64
+    ensures { λ r. ⌜ r ≡ typeNumber y ⌝ }
 {
-    match e {
-        Edition::V13 => x as u64,
-        Edition::V13b => 0,
+    match y {
+        Security::Type(x) => x as u64,
+        Security::Reserved => 0,
     }
 }
 
-// The numbers of each message, in the order of their places: its type t first, zeros behind them.
-fn symbol_fields(e: Edition, t: u64, s: Symbol, x: u8) -> [u64; 8]
-    ensures { λ r. ⌜ r ≡ symbolFields e t s x ⌝ }
+// The numbers of each message, in the order of their places but for the Security Type: its type t first, zeros behind them.
+fn symbol_fields(t: u64, s: Symbol, y: Security) -> [u64; 8]
+    ensures { λ r. ⌜ r ≡ symbolFields t s y ⌝ }
 {
     [
         t,
         s.id as u64,
         s.lot as u64,
         s.market as u64,
-        type_number(e, x),
+        type_number(y),
         0,
         0,
         0,
@@ -491,7 +492,7 @@ fn fields_of(e: Edition, t: u64, m: Body, b: &[u8]) -> [u64; 8]
 {
     match m {
         Body::SystemTime(n) => [t, n as u64, 0, 0, 0, 0, 0, 0],
-        Body::SymbolUpdate => symbol_fields(e, t, fields::symbol_of(b), fields::security_of(b)),
+        Body::SymbolUpdate => symbol_fields(t, fields::symbol_of(b), body::security_in(e, b)),
         Body::SystemState => state_fields(t, fields::state_of(b)),
         Body::TradingStatus(s) => status_fields(t, s),
         Body::SymbolClear(s) => clear_fields(t, s),

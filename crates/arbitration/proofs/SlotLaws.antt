@@ -1,4 +1,4 @@
--- Slots and their bodies, by the laws of padding; comparing bytes, by the list's own recursion; and one law for a slot after a put.
+-- Slots and their bodies, by the laws of padding; comparing slots; and one law for a slot after a put.
 -- Assumes nothing.
 use Prim.Native.Nat.{ℕ, zero, suc, _^_, _≤_, _<_}
 use mathlib.Core.Path.{_≡_, refl, sym, ap, subst, _∙_}
@@ -8,15 +8,16 @@ use mathlib.Core.List.{List, [], _∷_, _++_}
 use lib.ListN.{length, getD, replicate}
 use lib.Seq.{take-take, take-append-seam}
 use lib.Dec.{eqb}
-use native.Mathlib.Nat.{le-of-suc-le-suc, not-suc-le-zero}
 use native.Mathlib.Omega.{arith}
 use native.Mathlib.Decide.{ℕ-discrete}
 use borrow.Author.Tests.{eqb-true, eq-eqb, ne-eqb}
 use Rattle.facts.specs.Pick.{both}
+use Rattle.facts.specs.Same.{sameBytes}
 use Rattle.facts.proofs.Picks.{both-true}
+use Rattle.facts.proofs.SameLaws.{same-bytes-refl, same-bytes-eq}
 use Rattle.wire.specs.Le.{padded}
 use Rattle.wire.proofs.Laws.{length-padded}
-use Rattle.arbitration.specs.Slots.{Slot, emptySlot, slotFor, slotBody, sameBytes, sameSlot, Fits}
+use Rattle.arbitration.specs.Slots.{Slot, emptySlot, slotFor, slotBody, sameSlot, Fits}
 use Rattle.arbitration.specs.Engine.{Store, StoreLaws}
 
 pub empty-fits : Fits emptySlot
@@ -31,35 +32,6 @@ unfolding padded
 body-back n b h = take-take (length b) 64 (b ++ replicate 64 0) h ∙ take-append-seam b (replicate 64 0)
 
 -- ---- comparing
-pub same-bytes-refl : (l : List ℕ) → sameBytes l l ≡ true
-unfolding sameBytes both
-same-bytes-refl [] = refl
-same-bytes-refl (x ∷ xs) = rw (eq-eqb x x refl) (same-bytes-refl xs)
-
-both-none : (b : Bool) → both b false ≡ false
-unfolding both
-both-none true = refl
-both-none false = refl
-
--- one place that differs
-pub bytes-differ : (xs ys : List ℕ) (k : ℕ) → k < length xs → k < length ys → getD xs k 0 ≢ getD ys k 0 → sameBytes xs ys ≡ false
-unfolding sameBytes both
-bytes-differ [] ys k h l n = absurd (not-suc-le-zero h)
-bytes-differ (x ∷ xs) [] k h l n = absurd (not-suc-le-zero l)
-bytes-differ (x ∷ xs) (y ∷ ys) zero h l n = rw (ne-eqb x y n)
-bytes-differ (x ∷ xs) (y ∷ ys) (suc k) h l n = rw (bytes-differ xs ys k (le-of-suc-le-suc h) (le-of-suc-le-suc l) n) (both-none (eqb x y))
-
-pub same-bytes-eq : (xs ys : List ℕ) → sameBytes xs ys ≡ true → xs ≡ ys
-unfolding sameBytes
-same-bytes-eq [] [] e = refl
-same-bytes-eq [] (y ∷ ys) e = absurd (false≢true e)
-same-bytes-eq (x ∷ xs) [] e = absurd (false≢true e)
-same-bytes-eq (x ∷ xs) (y ∷ ys) e =
-    let b = both-true {a = eqb x y} {b = sameBytes xs ys} e in
-    let h : x ≡ y = eqb-true x y (b .0) in
-    let t : xs ≡ ys = same-bytes-eq xs ys (b .1) in
-    λ i. h i ∷ t i
-
 pub same-number : (s t : Slot) → sameSlot s t ≡ true → s .number ≡ t .number
 unfolding sameSlot
 same-number s t e = eqb-true _ _ (both-true e .0)

@@ -1,11 +1,12 @@
 -- A slot of the shelf (document 01: "The shelf is 64 slots of 74 bytes (number, length, body padded with zeros to 64 bytes)").
 use Prim.Native.Nat.{ℕ, _^_, _<_}
 use mathlib.Core.Path.{_≡_}
-use mathlib.Core.List.{List, [], _∷_}
-use mathlib.Core.Bool.{Bool, true, false}
+use mathlib.Core.List.{List}
+use mathlib.Core.Bool.{Bool}
 use lib.ListN.{length, take, replicate}
 use lib.Dec.{eqb}
 use Rattle.facts.specs.Pick.{both}
+use Rattle.facts.specs.Same.{sameBytes}
 use Rattle.wire.specs.Le.{padded}
 
 -- bytes: the 64 behind number and length
@@ -25,13 +26,6 @@ slotFor n b = record { number = n; len = length b; bytes = padded b 0 64 }
 -- the body that a slot holds
 abbrev pub slotBody : Slot → List ℕ
 slotBody s = take (s .len) (s .bytes)
-
--- the same byte at every place
-unfoldable pub sameBytes : List ℕ → List ℕ → Bool
-sameBytes [] [] = true
-sameBytes [] (y ∷ ys) = false
-sameBytes (x ∷ xs) [] = false
-sameBytes (x ∷ xs) (y ∷ ys) = both (eqb x y) (sameBytes xs ys)
 
 -- "holds n with the same length and the same 64 padded bytes"
 unfoldable pub sameSlot : Slot → Slot → Bool

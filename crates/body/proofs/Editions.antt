@@ -7,15 +7,17 @@ use mathlib.Core.List.{List}
 use mathlib.Core.Logic.{_⊎_, inl, inr}
 use native.Mathlib.Decide.{ℕ-discrete}
 use native.Mathlib.Omega.{arith}
-use lib.ListN.{getD}
-use lib.Dec.{eqb}
+use lib.ListN.{length, getD, set, length-set}
+use lib.Seq.{getD-set-other}
+use lib.Dec.{eqb, ltb}
 use borrow.Author.Tests.{eqb-true}
-use Rattle.facts.specs.Pick.{pick}
+use Rattle.facts.specs.Pick.{pick, both}
 use Rattle.facts.proofs.Picks.{pick-ind}
 use Rattle.editions.specs.declared.Edition.{Edition}
 use Rattle.wire.specs.Le.{field}
+use Rattle.wire.proofs.Laws.{field-same}
 use Rattle.layout.specs.Layout.{shapes, fieldsIn}
-use Rattle.kinds.specs.Table.{kindOf, typeOf}
+use Rattle.kinds.specs.Table.{kindOf, typeOf, lengthOf}
 use Rattle.kinds.specs.declared.Kind.{Kind}
 use Rattle.kinds.proofs.Laws.{type-kind}
 use Rattle.fields.specs.Fields.{securityOf, badAt}
@@ -62,13 +64,17 @@ update-fault : (ed : Edition) (b : List ℕ) → faultOf ed Kind.SymbolUpdate b 
 unfolding updateFault faultOf faultFrom pick
 update-fault ed b = refl
 
--- a fault of its own where it fails and none was before
-untyped-fault : (b : List ℕ) → updateFault true b ≡ 0 → updateFault false b ≡ 20
+-- a fault of its own where it fails and the Timestamp is good, whatever lies behind it
+untyped-fault : (b : List ℕ) → nanosOk (field b 1 4) ≡ true → updateFault false b ≡ 20
 unfolding updateFault pick
-untyped-fault b e = go (nanosOk (field b 1 4)) refl
+untyped-fault b h = rw h refl
+
+no-fault-stamp : (t : Bool) (b : List ℕ) → updateFault t b ≡ 0 → nanosOk (field b 1 4) ≡ true
+unfolding updateFault pick
+no-fault-stamp t b e = go (nanosOk (field b 1 4)) refl
   where
-    go : (t : Bool) → nanosOk (field b 1 4) ≡ t → updateFault false b ≡ 20
-    go true h = rw h refl
+    go : (s : Bool) → nanosOk (field b 1 4) ≡ s → nanosOk (field b 1 4) ≡ true
+    go true h = h
     go false h = let z : _≡_ {A = ℕ} 1 0 = rw h at e in absurd (omega arith)
 
 untyped-some : (b : List ℕ) → updateFault false b ≡ 0 → ⊥
@@ -119,6 +125,32 @@ lettered-alike b l =
     ∙ sym (update-fault Edition.V13b b)
     ∙ ap (λ (k : Kind). faultOf Edition.V13b k b) (sym (l .update)))
 
+-- "from 1.3.a it is reserved": whatever stands there, a Symbol Update is judged alike
+module _ (b : List ℕ) (x : ℕ) (u : IsUpdate b) where
+  abbrev c : List ℕ
+  c = set b 20 x
+
+  other-byte : (k : ℕ) → (k ≡ 20 → ⊥) → getD c k 0 ≡ getD b k 0
+  other-byte k n = getD-set-other b 20 k x 0 n
+
+  reserved-fault : updateFault true c ≡ updateFault true b
+  unfolding updateFault
+  reserved-fault =
+      let stamp : field c 1 4 ≡ field b 1 4 = field-same c b 1 4 (λ k h m. other-byte k (λ e. omega arith)) in
+      λ i. pick (nanosOk (stamp i)) (pick true (pick (testOk (other-byte 21 (λ e. omega arith) i)) (pick (marketOk (other-byte 41 (λ e. omega arith) i)) 0 41) 21) 20) 1
+
+  pub reserved-unjudged : judgeBody Edition.V13b c ≡ judgeBody Edition.V13b b
+  unfolding judgeBody ranged framed securityOk
+  reserved-unjudged =
+      let first : getD c 0 0 ≡ getD b 0 0 = other-byte 0 (λ e. omega arith) in
+      let kind : kindOf (getD c 0 0) ≡ kindOf (getD b 0 0) = ap kindOf first in
+      let fault : faultOf Edition.V13b (kindOf (getD c 0 0)) c ≡ faultOf Edition.V13b (kindOf (getD b 0 0)) b =
+      ap (λ (k : Kind). faultOf Edition.V13b k c) (kind ∙ u)
+      ∙ (update-fault Edition.V13b c ∙ reserved-fault ∙ sym (update-fault Edition.V13b b))
+      ∙ ap (λ (k : Kind). faultOf Edition.V13b k b) (sym u) in
+      let size : length c ≡ length b = length-set b 20 x in
+      λ i. pick (both (ltb 0 (size i)) (eqb (size i) (lengthOf (first i)))) (pick (eqb (fault i) 0) (Judged.Good (kind i)) (Judged.Bad (badAt 4 (fault i)))) (Judged.Bad (badAt 3 0))
+
 -- ---- a recording of 1.3, read by 1.3.b
 pub older-alike : (b : List ℕ) → goodBody Edition.V13 b ≡ true → judgeBody Edition.V13b b ≡ judgeBody Edition.V13 b
 older-alike b g = go (is-update (kindOf (getD b 0 0)))
@@ -127,7 +159,7 @@ older-alike b g = go (is-update (kindOf (getD b 0 0)))
     go (yes u) = sym (lettered-alike b (good-lettered b g u))
     go (no n) = no-update-alike Edition.V13b Edition.V13 b n
 
--- "a body that is good in 1.3 reads in 1.3.b with the same fields"
+-- a body that is good in 1.3 reads in 1.3.b, with the same fields
 pub older-right : (b : List ℕ) → goodBody Edition.V13 b ≡ true → OnlyRight Edition.V13b Edition.V13 b
 unfolding goodBody readBody
 older-right b g =
@@ -135,17 +167,23 @@ older-right b g =
     record { taken = ap (λ (j : Judged). eqb (judgedNumber j) 0) e ∙ g; same-message = ap (λ (j : Judged). message j b) e; type-right = λ u. inl refl }
 
 -- ---- a recording of 1.3.b, read by 1.3
--- a Symbol Update without a letter is refused, at that byte
-pub unlettered-refused : (b : List ℕ) → goodBody Edition.V13b b ≡ true → Unlettered b → judgeBody Edition.V13 b ≡ Judged.Bad (badAt 4 20)
-unfolding ranged pick securityOk
-unlettered-refused b g l =
-    let none : updateFault true b ≡ 0 = sym (update-fault Edition.V13b b) ∙ ap (λ (k : Kind). faultOf Edition.V13b k b) (sym (l .update)) ∙ good-fault Edition.V13b b g in
+-- "Under 1.3 any other byte is refused with 4": at that byte, behind a good Timestamp, whatever the other letters are
+pub untyped-refused : (b : List ℕ) → framed b ≡ true → Unlettered b → nanosOk (field b 1 4) ≡ true → judgeBody Edition.V13 b ≡ Judged.Bad (badAt 4 20)
+unfolding ranged pick
+untyped-refused b f l n =
     let at-20 : faultOf Edition.V13 (kindOf (getD b 0 0)) b ≡ 20 =
     ap (λ (k : Kind). faultOf Edition.V13 k b) (l .update)
     ∙ update-fault Edition.V13 b
     ∙ ap (λ (t : Bool). updateFault t b) (l .no-letter)
-    ∙ untyped-fault b none in
-    judge-framed Edition.V13 (kindOf (getD b 0 0)) b (framed-is b (good-framed Edition.V13b b g)) ∙ rw at-20 refl
+    ∙ untyped-fault b n in
+    judge-framed Edition.V13 (kindOf (getD b 0 0)) b (framed-is b f) ∙ rw at-20 refl
+
+-- so a Symbol Update that is good in 1.3.b and has no letter is refused, at that byte
+pub unlettered-refused : (b : List ℕ) → goodBody Edition.V13b b ≡ true → Unlettered b → judgeBody Edition.V13 b ≡ Judged.Bad (badAt 4 20)
+unfolding securityOk
+unlettered-refused b g l =
+    let none : updateFault true b ≡ 0 = sym (update-fault Edition.V13b b) ∙ ap (λ (k : Kind). faultOf Edition.V13b k b) (sym (l .update)) ∙ good-fault Edition.V13b b g in
+    untyped-refused b (good-framed Edition.V13b b g) l (no-fault-stamp true b none)
 
 -- any other message reads with the same fields
 pub newer-right : (b : List ℕ) → goodBody Edition.V13b b ≡ true → (IsUpdate b → ⊥) → OnlyRight Edition.V13 Edition.V13b b

@@ -29,7 +29,8 @@ priceOk n = both (leb 1 n) (leb n mostPrice)
 unfoldable pub sizeOk : ℕ → Bool
 sizeOk n = leb 1 n
 
--- "version 1.3, where byte 20 of a Symbol Update is Security Type, `E` or `F`; from 1.3.a it is reserved" (request 10), and "Nothing else is judged: not .. reserved bytes". All that differs between the editions
+-- "version 1.3, where byte 20 of a Symbol Update is Security Type, `E` or `F`; from 1.3.a it is reserved" (request 10), and "Nothing else is judged: not .. reserved bytes". All in which the editions judge differently; what
+-- they show is `securityIn` (Shown)
 unfoldable pub securityOk : Edition → ℕ → Bool
 securityOk Edition.V13 x = oneOf x (69 ∷ 70 ∷ [])
 securityOk Edition.V13b x = true

@@ -11,6 +11,13 @@ ghost use Rattle.wire.specs.Le.{field};
 ghost use Rattle.body.specs.Ranges.{nanosOk, sideOk, priceOk, sizeOk, securityOk, testOk, marketOk};
 ghost use Rattle.body.specs.Faults.{faultOf};
 ghost use Rattle.body.specs.Read.{judgeBody, readBody};
+ghost use Rattle.body.specs.Shown.{securityIn};
+
+// What byte 20 of a Symbol Update is in an edition: its Security Type, or reserved.
+pub enum Security {
+    Type(u8),
+    Reserved,
+}
 
 // A good body of a kind, or why and where it is bad.
 pub enum Judged {
@@ -42,7 +49,7 @@ pub fn size_ok(n: u32) -> bool
     1 <= n
 }
 
-// What differs between the editions: byte 20 of a Symbol Update is its Security Type in 1.3, and reserved from 1.3.a on.
+// In 1.3 byte 20 of a Symbol Update is judged; from 1.3.a on it is reserved.
 pub fn security_ok(e: Edition, x: u8) -> bool
     ensures { λ r. ⌜ r ≡ securityOk e x ⌝ }
 {
@@ -171,5 +178,15 @@ pub fn read_body(e: Edition, b: &[u8]) -> Body
     match judge_body(e, b) {
         Judged::Bad(f) => Body::Bad(f),
         Judged::Good(k) => fields::decode(k, b),
+    }
+}
+
+// What the fields of a Symbol Update show of byte 20 in an edition, whether in range or not.
+pub fn security_in(e: Edition, b: &[u8]) -> Security
+    ensures { λ r. ⌜ r ≡ securityIn e (now (b .entry)) ⌝ }
+{
+    match e {
+        Edition::V13 => Security::Type(fields::security_of(b)),
+        Edition::V13b => Security::Reserved,
     }
 }

@@ -7,6 +7,7 @@ use mathlib.Core.List.{List}
 use lib.ListN.{replicate}
 use Rattle.facts.specs.Limits.{shelfSize}
 use Rattle.facts.specs.Pick.{pick, both, either}
+use Rattle.facts.specs.Same.{sameBytes}
 use Rattle.facts.specs.Search.{first}
 use Rattle.facts.specs.Pieces.{cut, pieces, join, putPiece}
 use Rattle.editions.specs.declared.Edition.{Edition}
@@ -62,7 +63,7 @@ unfolding exercises.begins exercises.goesOn
     row-work.remade row-work.reduced row-work.committed
     plan.ofKnown plan.target plan.upon keys.sideOf row-work.moves plan.rowFor plan.updatePlan plan.roomFor plan.addPlan plan.modifyPlan plan.executionPlan plan.planBy
     book.planned book.carried book.applied
-    slots.sameBytes slots.sameSlot
+    sameBytes slots.sameSlot
     theory.judge theory.goodSlot theory.highest theory.count theory.countsOf theory.try theory.stop theory.drain theory.after theory.run theory.said theory.told
     shelf.goodShelf shelf.slotFrom shelf.bytesOf shelf.slotAt shelf.putSlot
     generic.receives generic.handledBy generic.fit generic.nextOk receiver.sizesOk

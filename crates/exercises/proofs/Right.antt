@@ -4,6 +4,7 @@
 use mathlib.Core.Path.{_≡_, refl}
 use mathlib.Core.List.{[], _∷_, map}
 use Rattle.facts.specs.Pick.{pick, both, either}
+use Rattle.facts.specs.Same.{sameBytes}
 use Rattle.facts.specs.Search.{first}
 use Rattle.facts.specs.Pieces.{cut, pieces, join, putPiece}
 use Rattle.facts.specs.Sums.{sumBy, onlyIf, countBy}
@@ -69,7 +70,7 @@ unfolding table
     ladder.keyOf ladder.far ladder.placesOf ladder.prices
     spread.between spread.spreadOf
     views.goodTables views.viewFault views.spreadView
-    slots.sameBytes slots.sameSlot
+    sameBytes slots.sameSlot
     theory.judge theory.goodSlot theory.highest theory.count theory.countsOf theory.try theory.stop theory.drain theory.after theory.run theory.said theory.told
     shelf.goodShelf shelf.slotFrom shelf.bytesOf shelf.slotAt shelf.putSlot
     generic.receives generic.handledBy generic.fit generic.nextOk receiver.sizesOk
@@ -100,7 +101,7 @@ unfolding table
     ladder.keyOf ladder.far ladder.placesOf ladder.prices
     spread.between spread.spreadOf
     views.goodTables views.viewFault views.spreadView
-    slots.sameBytes slots.sameSlot
+    sameBytes slots.sameSlot
     theory.judge theory.goodSlot theory.highest theory.count theory.countsOf theory.try theory.stop theory.drain theory.after theory.run theory.said theory.told
     shelf.goodShelf shelf.slotFrom shelf.bytesOf shelf.slotAt shelf.putSlot
     generic.receives generic.handledBy generic.fit generic.nextOk receiver.sizesOk

@@ -9,10 +9,12 @@ use native.Mathlib.Omega.{arith}
 use borrow.Author.Tests.{leb-true}
 use Rattle.facts.specs.Limits.{entrySize, shelfSize}
 use Rattle.facts.specs.Pick.{pick, both, either}
+use Rattle.facts.specs.Same.{sameBytes}
 use Rattle.facts.specs.Search.{first}
 use Rattle.facts.specs.Pieces.{cut, pieces, join, putPiece}
 use Rattle.editions.specs.declared.Edition.{Edition}
 use Rattle.wire.specs.Le.{le, toLe, field, padded}
+use Rattle.wire.specs.Records.{Rec, rec}
 use Rattle.kinds.specs.Table as kinds
 use Rattle.fields.specs.Fields as fields
 use Rattle.body.specs.Ranges as ranges
@@ -32,13 +34,12 @@ use Rattle.book.specs.Book as book
 use Rattle.arbitration.specs.Slots as slots
 use Rattle.arbitration.specs.Receive as theory
 use Rattle.arbitration.specs.Receive.{taken, Said}
-use Rattle.arbitration.specs.Lists.{WellFormed, Copies, Among, here, later, by-taken}
+use Rattle.arbitration.specs.Lists.{msg, WellFormed, Copies, Among, here, later, by-taken}
 use Rattle.shelf.specs.Shelf as shelf
 use Rattle.receiver.specs.Receiver as generic
 use Rattle.receiver.specs.Lent as receiver
 use Rattle.receiver.specs.Demand3.{Given, AnsweredTo, Names}
-use Rattle.receiver.proofs.Editions.{calls-keep}
-use Rattle.receiver.proofs.Real.{real-demand, fresh-started}
+use Rattle.receiver.proofs.Real.{calls-demand, fresh-started}
 use Rattle.exercises.specs.Messages as messages
 
 -- room for four orders and one symbol
@@ -65,8 +66,11 @@ all-good ed (suc (suc (suc zero))) h = refl
 all-good ed (suc (suc (suc (suc zero)))) h = refl
 all-good ed (suc (suc (suc (suc (suc i))))) h = absurd (omega arith)
 
--- the packet's accepted records are true copies
-true-copies : (ed : Edition) → Copies messages.example (theory.accepted (packet.framing ed) given)
+-- the packet's accepted records, in each edition
+abbrev five : List Rec
+five = rec 1 (msg messages.example 1) ∷ rec 2 (msg messages.example 2) ∷ rec 3 (msg messages.example 3) ∷ rec 4 (msg messages.example 4) ∷ rec 5 (msg messages.example 5) ∷ []
+
+five-accepted : (ed : Edition) → theory.accepted (packet.framing ed) given ≡ five
 unfolding messages.numbered messages.systemTime messages.symbolUpdate messages.addOrder messages.example messages.ofExample messages.wholeExample
     pick both either join le toLe field padded
     kinds.table kinds.lookup kinds.lengthOf kinds.kindOf
@@ -77,32 +81,23 @@ unfolding messages.numbered messages.systemTime messages.symbolUpdate messages.a
     head.numberOk head.bodyOf head.bodyJudged head.readRecord
     packet.before packet.behind packet.framesFrom packet.framing
     theory.accepted
-true-copies Edition.V13 = (
-  record { in-list = leb-true 1 5 refl; same = refl },
-  (
-    record { in-list = leb-true 2 5 refl; same = refl },
-    (
-      record { in-list = leb-true 3 5 refl; same = refl },
+five-accepted Edition.V13 = refl
+five-accepted Edition.V13b = refl
+
+-- are true copies
+true-copies : (ed : Edition) → Copies messages.example (theory.accepted (packet.framing ed) given)
+unfolding messages.example
+true-copies ed =
+    subst (Copies messages.example) (sym (five-accepted ed)) (
+      record { in-list = leb-true 1 5 refl; same = refl },
       (
-        record { in-list = leb-true 4 5 refl; same = refl },
-        (record { in-list = leb-true 5 5 refl; same = refl }, tt),
+        record { in-list = leb-true 2 5 refl; same = refl },
+        (
+          record { in-list = leb-true 3 5 refl; same = refl },
+          (record { in-list = leb-true 4 5 refl; same = refl }, (record { in-list = leb-true 5 5 refl; same = refl }, tt)),
+        ),
       ),
-    ),
-  ),
-)
-true-copies Edition.V13b = (
-  record { in-list = leb-true 1 5 refl; same = refl },
-  (
-    record { in-list = leb-true 2 5 refl; same = refl },
-    (
-      record { in-list = leb-true 3 5 refl; same = refl },
-      (
-        record { in-list = leb-true 4 5 refl; same = refl },
-        (record { in-list = leb-true 5 5 refl; same = refl }, tt),
-      ),
-    ),
-  ),
-)
+    )
 
 sizes-good : receiver.sizesOk 20 entrySize shelfSize ≡ true
 unfolding receiver.sizesOk both rows.goodRows entries.goodEntries shelf.goodShelf
@@ -134,7 +129,7 @@ unfolding all-taken messages.numbered messages.systemTime messages.symbolUpdate 
     row-work.moves row-work.remade row-work.reduced row-work.committed
     plan.ofKnown plan.target plan.upon plan.rowFor plan.updatePlan plan.roomFor plan.addPlan plan.modifyPlan plan.executionPlan plan.planBy
     book.planned book.carried book.applied
-    slots.sameBytes slots.sameSlot
+    sameBytes slots.sameSlot
     theory.judge theory.goodSlot theory.try theory.drain theory.after theory.run theory.said theory.accepted
     shelf.slotFrom shelf.bytesOf shelf.slotAt shelf.putSlot
     rows.goodRows entries.goodEntries shelf.goodShelf
@@ -158,9 +153,7 @@ example-answered ed n l h = subst (Among n) (sym (computed ed .0)) (among n l h)
 
 -- so demand 3 says of it what it says
 pub example-demanded : (ed : Edition) → (5 ≤ receiver.receivedAll given (start ed) .rx .next - 1) ⊎ Names (receiver.real ed) messages.example (receiver.zeroBook 20 entrySize) (receiver.receivedAll given (start ed))
-example-demanded ed =
-    subst (λ (k : receiver.Lent). (5 ≤ k .rx .next - 1) ⊎ Names (receiver.real ed) messages.example (receiver.zeroBook 20 entrySize) k) (sym (calls-keep given (start ed)))
-    (real-demand ed messages.example 20 entrySize .second (start ed) given (example-given ed) 5 (example-answered ed))
+example-demanded ed = calls-demand ed messages.example 20 entrySize .second (start ed) given refl (example-given ed) 5 (example-answered ed)
 
 -- and its first side is the one that holds: all five are applied
 pub example-next : (ed : Edition) → receiver.receivedAll given (start ed) .rx .next ≡ 6

@@ -8,6 +8,7 @@ use lib.IntN.{ℤ, pos, negsuc}
 use lib.ListN.{getD}
 use Rattle.facts.specs.Limits.{shelfSize}
 use Rattle.facts.specs.Pick.{pick, both}
+use Rattle.facts.specs.Same.{sameBytes}
 use Rattle.facts.specs.declared.Found.{Found}
 use Rattle.editions.specs.declared.Edition.{Edition}
 use Rattle.wire.specs.Le.{field}
@@ -18,7 +19,6 @@ use Rattle.rows.specs.Find.{findOrder}
 use Rattle.facts.specs.Limits.{entrySize}
 use Rattle.views.specs.declared.SpreadAnswer.{SpreadAnswer}
 use Rattle.views.specs.Views.{spreadView}
-use Rattle.arbitration.specs.Slots.{sameBytes}
 use Rattle.receiver.specs.declared.Account.{Account}
 use Rattle.receiver.specs.declared.Received.{Received}
 use Rattle.receiver.specs.Receiver.{receivedNumber}

@@ -1,4 +1,5 @@
 pub mod Picks
+pub mod SameLaws
 pub mod Runs
 pub mod Lists
 pub mod Searches

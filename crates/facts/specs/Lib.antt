@@ -1,4 +1,5 @@
 pub mod Pick
+pub mod Same
 pub mod Search
 pub mod Pieces
 pub mod Sums

@@ -1,4 +1,5 @@
 // Reads packets behind two-byte lengths from standard input and prints what the readers find: the vectors of tools/vectors.py.
+use body::Security;
 use editions::Edition;
 use fields::AddOrder;
 use fields::Body;
@@ -289,7 +290,7 @@ fn show_body(e: Edition, b: &[u8]) {
     also(wire::u8_at(b, 0) as u64);
     match body::read_body(e, b) {
         Body::SystemTime(seconds) => also(seconds as u64),
-        Body::SymbolUpdate => show_symbol(e, fields::symbol_of(b), fields::security_of(b)),
+        Body::SymbolUpdate => show_symbol(fields::symbol_of(b), body::security_in(e, b)),
         Body::SystemState => show_state(fields::state_of(b)),
         Body::TradingStatus(m) => show_status(m),
         Body::SymbolClear(m) => show_clear(m),
@@ -331,21 +332,21 @@ fn also_deal(price: u64, size: u32) {
     also(size as u64);
 }
 
-// The Security Type is a field in 1.3 alone.
-fn show_type(e: Edition, x: u8) {
-    match e {
-        Edition::V13 => also(x as u64),
-        Edition::V13b => {}
+// The Security Type, where there is one.
+fn show_type(y: Security) {
+    match y {
+        Security::Type(x) => also(x as u64),
+        Security::Reserved => {}
     }
 }
 
-fn show_symbol(e: Edition, s: Symbol, x: u8) {
+fn show_symbol(s: Symbol, y: Security) {
     let ticker = s.ticker;
     let opening = s.opening;
     let closing = s.closing;
     also(s.id as u64);
     also_each(&ticker);
-    show_type(e, x);
+    show_type(y);
     also(s.lot as u64);
     also_each(&opening);
     also_each(&closing);

@@ -1,8 +1,9 @@
 -- The real parts keep what the theory asks: by the laws of the readers, the book and the shelf. So demand 3 holds of `start` and `receive`.
 -- Assumes nothing.
-use Prim.Native.Nat.{ℕ, _%_, _≤_}
-use mathlib.Core.Path.{_≡_, refl, sym, ap, _∙_}
+use Prim.Native.Nat.{ℕ, _-_, _≤_}
+use mathlib.Core.Path.{_≡_, refl, sym, ap, subst, _∙_}
 use mathlib.Core.Bool.{Bool, true, false}
+use mathlib.Core.Logic.{_⊎_}
 use mathlib.Core.List.{List, [], _∷_}
 use native.Mathlib.Omega.{arith}
 use lib.ListN.{length, length-replicate}
@@ -20,15 +21,18 @@ use Rattle.symbols.specs.Entries.{goodEntries}
 use Rattle.book.proofs.Steps.{broken-keeps, bad-body, rule-good, lengths-kept}
 use Rattle.arbitration.specs.Receive.{recordsOf}
 use Rattle.arbitration.specs.Lists.{Every, Numbered, Bounded}
-use Rattle.shelf.specs.Shelf.{goodShelf, putSlot}
+use Rattle.shelf.specs.Shelf.{goodShelf}
 use Rattle.shelf.proofs.StoreLaws.{shelfLaws, length-put-slot}
 use Rattle.shelf.proofs.Laws.{good-size, zeros-empty}
 use Rattle.receiver.specs.Demand3 as demand
+use Rattle.receiver.specs.Chosen.{Chosen}
 use Rattle.receiver.specs.Lent.{sizesOk, real, Lent, lent, fresh, freshState, zeroBook, Begun, begun, startNumber, started}
 use Rattle.receiver.specs.declared.State.{State}
 use Rattle.receiver.specs.declared.Started.{Started}
 use Rattle.receiver.proofs.PartsLaws.{PartsLaws}
+use Rattle.receiver.proofs.Accounts.{account-reports}
 use Rattle.receiver.proofs.Demand.{demand-3}
+use Rattle.receiver.proofs.Editions.{chosen-run, call-more}
 
 -- what is known of a good record is known of each record of a packet
 pub every-framed : (ed : Edition) (P : Rec → Type 0) → ((c : Rec) → GoodRec ed c → P c) → (p : List ℕ) → Every P (recordsOf (framing ed p))
@@ -68,6 +72,24 @@ realLaws ed = record {
 -- ---- demand 3 of the real receiver, in tables of o numbers and s bytes
 pub real-demand : (ed : Edition) (ms : List (List ℕ)) (o s : ℕ) → demand.Demand3 (real ed) ms (zeroBook o s)
 real-demand ed ms o s = demand-3 (real ed) (realLaws ed) ms (zeroBook o s)
+
+-- and of the calls of `receive` that a run makes
+pub calls-demand : (ed : Edition) (ms : List (List ℕ)) (o s : ℕ) → Chosen ed ms o s
+calls-demand ed ms o s =
+    let d = real-demand ed ms o s in
+    let b0 = zeroBook o s in
+    record {
+      first = λ k0 ps e g. subst (demand.MadeBy (real ed) ms b0) (sym (chosen-run ed ps k0 e)) (d .first k0 ps g);
+      second = λ k0 ps e g j a. subst (λ (k : Lent). (j ≤ k .rx .next - 1) ⊎ demand.Names (real ed) ms b0 k) (sym (chosen-run ed ps k0 e)) (d .second k0 ps g j a);
+      agreement = λ k0 k0′ ps ps′ e e′ g g′ n.
+          let r = chosen-run ed ps k0 e in
+          let r′ = chosen-run ed ps′ k0′ e′ in
+          ap (λ (k : Lent). k .rx .book) r
+          ∙ d .agreement k0 k0′ ps ps′ g g′ (sym (ap (λ (k : Lent). k .rx .next) r) ∙ n ∙ ap (λ (k : Lent). k .rx .next) r′)
+          ∙ sym (ap (λ (k : Lent). k .rx .book) r′);
+      one-more = call-more;
+      reported = λ k k′ p a e. account-reports (real (k .edition)) k k′ p a e;
+    }
 
 -- a start is where it begins
 pub fresh-started : (ed : Edition) (o s h : ℕ) → sizesOk o s h ≡ true → demand.Started (real ed) (zeroBook o s) (fresh ed o s h)

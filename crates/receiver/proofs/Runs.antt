@@ -34,7 +34,7 @@ use Rattle.receiver.specs.Order.{firstUses}
 use Rattle.receiver.proofs.PartsLaws.{lawsOf, applied-shows, applied-rule}
 use Rattle.receiver.proofs.Fits.{all-received, start-fit}
 use Rattle.receiver.proofs.Editions.{calls-keep}
-use Rattle.receiver.proofs.Real.{realLaws, framing-bounded, fresh-started, real-demand}
+use Rattle.receiver.proofs.Real.{realLaws, framing-bounded, fresh-started, calls-demand}
 
 -- ---- packets hold bytes
 both-known : (cs : List Rec) → Every Bounded cs → AllBytes cs → Every Sent cs
@@ -110,5 +110,5 @@ module _ (ed : Edition) (ms : List (List ℕ)) (bytes : (n : ℕ) → Bytes (msg
   pub run-ordered : (h : ℕ) (ps : List (List ℕ)) → Given (real ed) ms (zeroBook o s) (fresh ed o s h) ps
       → usedIds (receivedAll ps (fresh ed o s h) .rx .book) ≡ firstUses ed (take (receivedAll ps (fresh ed o s h) .rx .next - 1) ms) []
   run-ordered h ps g =
-      let m : MadeBy (real ed) ms (zeroBook o s) (receivedAll ps (fresh ed o s h)) = subst (MadeBy (real ed) ms (zeroBook o s)) (sym (calls-keep ps (fresh ed o s h))) (real-demand ed ms o s .first (fresh ed o s h) ps g) in
+      let m : MadeBy (real ed) ms (zeroBook o s) (receivedAll ps (fresh ed o s h)) = calls-demand ed ms o s .first (fresh ed o s h) ps refl g in
       made-ordered (receivedAll ps (fresh ed o s h) .rx .next - 1) (receivedAll ps (fresh ed o s h) .rx .book) (m .in-list) (m .tables-are) .ids-are

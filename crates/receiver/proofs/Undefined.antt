@@ -23,7 +23,7 @@ use Rattle.book.specs.Book.{Effect}
 use Rattle.book.proofs.Undefined.{bits-applied}
 use Rattle.arbitration.specs.Engine.{ok, broke}
 use Rattle.arbitration.specs.Slots.{slotFor}
-use Rattle.arbitration.specs.Receive.{taken, old, differing, accepted, slotOf, judged, after, run}
+use Rattle.arbitration.specs.Receive.{taken, old, differing, accepted, slotOf, judged, after, run, stop}
 use Rattle.arbitration.specs.Lists.{Every, Numbered, Bounded}
 use Rattle.arbitration.specs.Meaning.{Means, Faithful}
 use Rattle.arbitration.proofs.Answers.{shows, after-next, run-next}
@@ -36,10 +36,11 @@ use Rattle.arbitration.proofs.MeaningLaws.{faithful-first, faithful-second}
 use Rattle.shelf.specs.Store.{shelfStore}
 use Rattle.receiver.specs.Demand3.{MadeBy, Names, AnsweredTo}
 use Rattle.receiver.specs.Receiver.{receivesAll}
-use Rattle.receiver.specs.Lent.{bookEngine, real, Rx, Lent, zeroBook}
+use Rattle.receiver.specs.Lent.{bookEngine, real, Rx, Lent, receivedAll, zeroBook}
 use Rattle.receiver.specs.Undefined.{BitCopy, GivenBits}
 use Rattle.receiver.proofs.PartsLaws.{lawsOf}
 use Rattle.receiver.proofs.Demand.{made-by, named-by, ran, stop-is}
+use Rattle.receiver.proofs.Editions.{chosen-run}
 use Rattle.receiver.proofs.Real.{realLaws}
 
 -- ---- "They are ignored from now on"
@@ -65,33 +66,39 @@ module _ (ed : Edition) (ms : List (List ℕ)) (o s : ℕ) (k0 : Lent) (ps : Lis
   numbered : Every Numbered cs
   numbered = every-accepted (framing ed) Numbered (realLaws ed .numbered) ps
 
-  end-is : receivesAll (real ed) ps k0 .rx ≡ run shelfStore (bookEngine ed) cs (k0 .rx)
-  end-is = ran (real ed) (realLaws ed) ms (zeroBook o s) k0 ps (g .started)
+  run-is : receivedAll ps k0 ≡ receivesAll (real ed) ps k0
+  run-is = chosen-run ed ps k0 (g .chosen)
 
-  pub bits-made : Made shelfStore (bookEngine ed) ms 0 (zeroBook o s) (receivesAll (real ed) ps k0 .rx)
+  stopped : receivedAll ps k0 .stop ≡ stop shelfStore (bookEngine ed) (receivedAll ps k0 .rx)
+  stopped = subst (λ (k : Lent). k .stop ≡ stop shelfStore (bookEngine ed) (k .rx)) (sym run-is) (stop-is (real ed) (realLaws ed) ms (zeroBook o s) k0 ps (g .started))
+
+  end-is : receivedAll ps k0 .rx ≡ run shelfStore (bookEngine ed) cs (k0 .rx)
+  end-is = ap (λ (k : Lent). k .rx) run-is ∙ ran (real ed) (realLaws ed) ms (zeroBook o s) k0 ps (g .started)
+
+  pub bits-made : Made shelfStore (bookEngine ed) ms 0 (zeroBook o s) (receivedAll ps k0 .rx)
   bits-made =
       subst (Made shelfStore (bookEngine ed) ms 0 (zeroBook o s)) (sym end-is)
       (faithful-first shelfStore (bookEngine ed) (lawsOf (real ed) (realLaws ed)) ms (g .well-formed) 0 (zeroBook o s) (k0 .rx) cs ready numbered (all-faithful ed ms cs (g .copies)))
 
-  pub bits-first : MadeBy (real ed) ms (zeroBook o s) (receivesAll (real ed) ps k0)
-  bits-first = made-by (real ed) (realLaws ed) ms (zeroBook o s) (receivesAll (real ed) ps k0) bits-made
+  pub bits-first : MadeBy (real ed) ms (zeroBook o s) (receivedAll ps k0)
+  bits-first = made-by (real ed) (realLaws ed) ms (zeroBook o s) (receivedAll ps k0) bits-made
 
-  pub bits-second : (j : ℕ) → AnsweredTo (real ed) j ps k0 → (j ≤ receivesAll (real ed) ps k0 .rx .next - 1) ⊎ Names (real ed) ms (zeroBook o s) (receivesAll (real ed) ps k0)
+  pub bits-second : (j : ℕ) → AnsweredTo (real ed) j ps k0 → (j ≤ receivedAll ps k0 .rx .next - 1) ⊎ Names (real ed) ms (zeroBook o s) (receivedAll ps k0)
   bits-second j all =
       go (faithful-second shelfStore (bookEngine ed) (lawsOf (real ed) (realLaws ed)) ms (g .well-formed) 0 (zeroBook o s) (k0 .rx) cs ready numbered (all-faithful ed ms cs (g .copies)) j all)
     where
       go : (j < run shelfStore (bookEngine ed) cs (k0 .rx) .next) ⊎ Named shelfStore (bookEngine ed) ms 0 (zeroBook o s) (run shelfStore (bookEngine ed) cs (k0 .rx))
-          → (j ≤ receivesAll (real ed) ps k0 .rx .next - 1) ⊎ Names (real ed) ms (zeroBook o s) (receivesAll (real ed) ps k0)
+          → (j ≤ receivedAll ps k0 .rx .next - 1) ⊎ Names (real ed) ms (zeroBook o s) (receivedAll ps k0)
       go (inl l) = inl (omega (arith, ap (λ (x : Rx). x .next) end-is))
       go (inr m) =
-          inr (named-by (real ed) (realLaws ed) ms (zeroBook o s) (receivesAll (real ed) ps k0) (stop-is (real ed) (realLaws ed) ms (zeroBook o s) k0 ps (g .started))
+          inr (named-by (real ed) (realLaws ed) ms (zeroBook o s) (receivedAll ps k0) stopped
           (subst (Named shelfStore (bookEngine ed) ms 0 (zeroBook o s)) (sym end-is) m))
 
 -- and two such receivers agree
 pub bits-agree : (ed : Edition) (ms : List (List ℕ)) (o s : ℕ) (k0 k0′ : Lent) (ps ps′ : List (List ℕ)) → GivenBits ed ms o s k0 ps → GivenBits ed ms o s k0′ ps′
-    → receivesAll (real ed) ps k0 .rx .next ≡ receivesAll (real ed) ps′ k0′ .rx .next → receivesAll (real ed) ps k0 .rx .book ≡ receivesAll (real ed) ps′ k0′ .rx .book
+    → receivedAll ps k0 .rx .next ≡ receivedAll ps′ k0′ .rx .next → receivedAll ps k0 .rx .book ≡ receivedAll ps′ k0′ .rx .book
 bits-agree ed ms o s k0 k0′ ps ps′ g g′ e =
-    agree shelfStore (bookEngine ed) ms 0 (zeroBook o s) (receivesAll (real ed) ps k0 .rx) (receivesAll (real ed) ps′ k0′ .rx) (bits-made ed ms o s k0 ps g) (bits-made ed ms o s k0′ ps′ g′) e
+    agree shelfStore (bookEngine ed) ms 0 (zeroBook o s) (receivedAll ps k0 .rx) (receivedAll ps′ k0′ .rx) (bits-made ed ms o s k0 ps g) (bits-made ed ms o s k0′ ps′ g′) e
 
 -- ---- two copies that differ only in those bits: the first was taken, by any receiver whose shelf has its size, and any records came after it that packets can bring
 module _ (ed : Edition) (r : Rx) (n : ℕ) (b c : List ℕ) (o : OnlyBits ed b c) (w : Numbered (rec n b)) (size : length (r .shelf) ≡ shelfSize)

@@ -57,7 +57,7 @@ abbrev pub Lent : Type 0
 Lent = generic.Keeps (List ℕ) Book
 
 abbrev pub lent : List ℕ → List ℕ → List ℕ → State → Lent
-lent o s h t = record { rx = rx (t .next) (t .clock) o s h; stop = t .stop; edition = t .edition }
+lent o s h t = generic.keeps (rx (t .next) (t .clock) o s h) (t .stop) (t .edition)
 
 abbrev pub ordersOf : Lent → List ℕ
 ordersOf k = k .rx .book .orders
@@ -80,9 +80,9 @@ abbrev pub Handled : Type 0
 Handled = generic.Handles (List ℕ) Book
 
 abbrev pub handled : Received → Lent → Handled
-handled a k = record { answer = a; after = k }
+handled a k = generic.handles a k
 
--- by the edition that the state has: one that the caller changed between calls is worked "by the same steps"
+-- by the edition that the state has; where a caller changed it between calls, "the same steps hold over what is found"
 abbrev pub received : Lent → List ℕ → Handled
 received k p = generic.receives (real (k .edition)) k p
 

@@ -39,10 +39,16 @@ pub record Keeps (Shelf Book : Type 0) : Type 0 where
   pub stop : ℕ
   pub edition : Edition
 
+abbrev pub keeps : {Shelf Book : Type 0} → theory.Rx Shelf Book → ℕ → Edition → Keeps Shelf Book
+keeps r q v = record { rx = r; stop = q; edition = v }
+
 -- an answer, and the receiver after it
 pub record Handles (Shelf Book : Type 0) : Type 0 where
   pub answer : Received
   pub after : Keeps Shelf Book
+
+abbrev pub handles : {Shelf Book : Type 0} → Received → Keeps Shelf Book → Handles Shelf Book
+handles a k = record { answer = a; after = k }
 
 module _ (P : Parts) where
   -- the receiver of the theory
@@ -53,13 +59,13 @@ module _ (P : Parts) where
   Receiver = Keeps (P .store .Shelf) (P .rules .Book)
 
   abbrev pub receiver : Rx → ℕ → Edition → Receiver
-  receiver r q v = record { rx = r; stop = q; edition = v }
+  receiver r q v = keeps r q v
 
   abbrev pub Handled : Type 0
   Handled = Handles (P .store .Shelf) (P .rules .Book)
 
   abbrev pub handled : Received → Receiver → Handled
-  handled a k = record { answer = a; after = k }
+  handled a k = handles a k
 
   -- "tables, output and state keep every byte"
   unfoldable pub handledBy : Frames Why → Receiver → Handled

@@ -1,6 +1,7 @@
 -- Request 2 over the receiver: copies that differ from the list's messages in undefined bits of a Modify's flags. Those that do differ are no true copies, so demand 3
 -- as document 00 has it does not speak of them; its two halves and the agreement of two receivers are proved of these too.
 use Prim.Native.Nat.{ℕ, _≤_}
+use mathlib.Core.Path.{_≡_}
 use mathlib.Core.List.{List}
 use lib.ListN.{length}
 use Rattle.editions.specs.declared.Edition.{Edition}
@@ -22,4 +23,5 @@ pub record BitCopy (ed : Edition) (ms : List (List ℕ)) (c : Rec) : Type 0 wher
 pub record GivenBits (ed : Edition) (ms : List (List ℕ)) (o s : ℕ) (k0 : Lent) (ps : List (List ℕ)) : Type 0 where
   pub well-formed : WellFormed (goodBody ed) ms
   pub started : Started (real ed) (zeroBook o s) k0
+  pub chosen : k0 .edition ≡ ed
   pub copies : Every (BitCopy ed ms) (accepted (framing ed) ps)

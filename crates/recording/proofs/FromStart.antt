@@ -30,7 +30,7 @@ use Rattle.receiver.specs.declared.State.{State}
 use Rattle.receiver.specs.declared.Started.{Started}
 use Rattle.receiver.proofs.Fits.{never-six}
 use Rattle.receiver.proofs.Editions.{calls-keep}
-use Rattle.receiver.proofs.Real.{realLaws, real-demand, fresh-started, start-ready}
+use Rattle.receiver.proofs.Real.{realLaws, calls-demand, fresh-started, start-ready}
 use Rattle.recording.specs.Stream.{Standing, hears, Hearing, hearing, byte, standingOf, hearingOf, opened, cut, feedable, Feeding, feeding, streamIn, took, fed}
 use Rattle.recording.specs.Whole.{packetsOf, restOf, waiting, fedOn, fedAll, began, openedOver}
 use Rattle.recording.specs.declared.Stream.{Stream}
@@ -147,22 +147,18 @@ module _ (ed : Edition) (o s h : ℕ) (w : List ℕ) (sizes : sizesOk o s h ≡ 
     pub pieces-cut : cut k ≡ ltb 0 (length (restOf (join cs)))
     pieces-cut = ap cut (sym (pieces-heard .0)) ∙ cut-rest (join cs) (began ed o s h)
 
-    -- of a receiver of the edition that was chosen
-    pieces-run : lent o′ s′ h′ (k .receiver) ≡ receivesAll (real ed) (packetsOf (join cs)) (fresh ed o s h)
-    pieces-run = pieces-received ∙ calls-keep (packetsOf (join cs)) (fresh ed o s h)
-
     -- so demand 3 speaks of it, with the recording's packets for those given
     module _ (ms : List (List ℕ)) (wf : WellFormed (goodBody ed) ms) (copies : Copies ms (accepted (framing ed) (packetsOf (join cs)))) where
       pub pieces-given : Given (real ed) ms (zeroBook o s) (fresh ed o s h) (packetsOf (join cs))
       pieces-given = record { well-formed = wf; started = fresh-started ed o s h sizes; copies = copies }
 
       pub pieces-first : MadeBy (real ed) ms (zeroBook o s) (lent o′ s′ h′ (k .receiver))
-      pieces-first = subst (MadeBy (real ed) ms (zeroBook o s)) (sym pieces-run) (real-demand ed ms o s .first (fresh ed o s h) (packetsOf (join cs)) pieces-given)
+      pieces-first = subst (MadeBy (real ed) ms (zeroBook o s)) (sym pieces-received) (calls-demand ed ms o s .first (fresh ed o s h) (packetsOf (join cs)) refl pieces-given)
 
       pub pieces-second : (j : ℕ) → AnsweredTo (real ed) j (packetsOf (join cs)) (fresh ed o s h) → (j ≤ k .receiver .next - 1) ⊎ Names (real ed) ms (zeroBook o s) (lent o′ s′ h′ (k .receiver))
       pieces-second j all =
-          subst (λ (x : Lent). (j ≤ x .rx .next - 1) ⊎ Names (real ed) ms (zeroBook o s) x) (sym pieces-run)
-          (real-demand ed ms o s .second (fresh ed o s h) (packetsOf (join cs)) pieces-given j all)
+          subst (λ (x : Lent). (j ≤ x .rx .next - 1) ⊎ Names (real ed) ms (zeroBook o s) x) (sym pieces-received)
+          (calls-demand ed ms o s .second (fresh ed o s h) (packetsOf (join cs)) refl pieces-given j all)
 
       -- "Two such receivers on one list, with equal capacities and equal k, agree in these three": the other may have got its packets in any way
       pub pieces-agree : (x : Lent) → MadeBy (real ed) ms (zeroBook o s) x → k .receiver .next ≡ x .rx .next → (o′ ≡ ordersOf x) × (s′ ≡ symbolsOf x) × (k .receiver .clock ≡ stateOf x .clock)

@@ -18,8 +18,9 @@ use Rattle.facts.specs.Pieces.{pieces}
 use Rattle.facts.proofs.PieceLaws.{length-pieces, getD-pieces, length-piece, piece-fits, put-in, put-out, pieces-replicate}
 use Rattle.wire.specs.Le.{le, toLe, field, padded}
 use Rattle.wire.proofs.Laws.{length-padded, getD-padded, padded-part, length-toLe, stored-behind}
-use Rattle.arbitration.specs.Slots.{Slot, emptySlot, slotFor, slotBody, sameBytes, sameSlot}
-use Rattle.arbitration.proofs.SlotLaws.{same-bytes-refl, bytes-differ}
+use Rattle.facts.specs.Same.{sameBytes}
+use Rattle.facts.proofs.SameLaws.{same-bytes-refl, bytes-differ}
+use Rattle.arbitration.specs.Slots.{Slot, emptySlot, slotFor, slotBody, sameSlot}
 use Rattle.shelf.specs.Shelf.{slotSize, goodShelf, slotFrom, bytesOf, slotAt, putSlot}
 use Rattle.shelf.proofs.StoreLaws.{length-bytes}
 

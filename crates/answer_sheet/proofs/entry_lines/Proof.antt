@@ -45,7 +45,7 @@ returns-2 c =
     let u = sym (c .before .before .before .before .before .before .before .before .before .before .before .is-used-at .ensures) ∙ not-false _ (c .before .before .before .before .before .before .before .before .before .before .if1 .left) in
     let rs = rows (c .before .before .before .before .before .before .before .before .before .before .before .before .before .before .before .args .orders .now) in
     let e = getD (entries (c .before .before .before .before .before .before .before .before .before .before .before .before .before .before .before .args .symbols .now)) (c .before .before .before .before .before .before .before .before .before .before .before .before .before .before .before .args .i) [] in
-    wrote-as ((λ j. textOf (symbolLines (c .before .before .before .before .before .before .before .before .before .before .before .before .before .before .before .args .e) (c .before .before .before .before .before .before .before .before .before .security-at .ensures j) (c .before .before .before .before .before .before .before .before .entry-at .ensures j) ++ bookLines (c .before .before .before .before .before .before .before .before .entry-at .ensures j .id) rs)) ∙ used-lines (c .before .before .before .before .before .before .before .before .before .before .before .before .before .before .before .args .e) rs e u)
+    wrote-as ((λ j. textOf (symbolLines (c .before .before .before .before .before .before .before .before .before .security-at .ensures j) (c .before .before .before .before .before .before .before .before .entry-at .ensures j) ++ bookLines (c .before .before .before .before .before .before .before .before .entry-at .ensures j .id) rs)) ∙ used-lines (c .before .before .before .before .before .before .before .before .before .before .before .before .before .before .before .args .e) rs e u)
     (lines-then _ _ (c .before .before .before .before .before .before .symbol-lines .ensures) (c .before .before .book-lines .ensures))
 
 pub entry-lines-spec : {M : Type 1} → statement M

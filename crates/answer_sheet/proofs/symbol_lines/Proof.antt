@@ -39,7 +39,7 @@ same-length c = search needs
 
 returns : tie.Need-returns
 unfolding symbolLines lineText plain symbolKey lotKey
-returns c = wrote-as (lines-between (plain symbolKey (decimalOf (c .before .before .before .before .before .before .before .before .before .before .before .before .before .before .before .before .before .before .before .before .before .before .args .s .id))) (plain tickerKey (tickerOf (c .before .before .before .before .before .before .before .before .before .before .before .before .before .before .before .before .before .before .before .before .before .before .args .s .ticker))) (plain lotKey (decimalOf (c .before .before .before .before .before .before .before .before .before .before .before .before .before .before .before .before .before .before .before .before .before .before .args .s .lot))) (typeLines (c .before .before .before .before .before .before .before .before .before .before .before .before .before .before .before .before .before .before .before .before .before .before .args .e) (c .before .before .before .before .before .before .before .before .before .before .before .before .before .before .before .before .before .before .before .before .before .before .args .x))) (wrote-then (c .before .before .before .before .before .before .before .before .before .before .before .before .before .before .before .before .line .ensures) (wrote-then (c .before .before .before .before .before .before .before .before .before .before .before .before .ticker-line .ensures) (wrote-then (c .before .before .before .before .before .before .before .before .type-lines .ensures) (c .before .before .line2 .ensures))))
+returns c = wrote-as (lines-between (plain symbolKey (decimalOf (c .before .before .before .before .before .before .before .before .before .before .before .before .before .before .before .before .before .before .before .before .before .before .args .s .id))) (plain tickerKey (tickerOf (c .before .before .before .before .before .before .before .before .before .before .before .before .before .before .before .before .before .before .before .before .before .before .args .s .ticker))) (plain lotKey (decimalOf (c .before .before .before .before .before .before .before .before .before .before .before .before .before .before .before .before .before .before .before .before .before .before .args .s .lot))) (typeLines (c .before .before .before .before .before .before .before .before .before .before .before .before .before .before .before .before .before .before .before .before .before .before .args .y))) (wrote-then (c .before .before .before .before .before .before .before .before .before .before .before .before .before .before .before .before .line .ensures) (wrote-then (c .before .before .before .before .before .before .before .before .before .before .before .before .ticker-line .ensures) (wrote-then (c .before .before .before .before .before .before .before .before .type-lines .ensures) (c .before .before .line2 .ensures))))
 
 pub symbol-lines-spec : {M : Type 1} → statement M
 symbol-lines-spec =

@@ -19,8 +19,8 @@ enum-told c = search needs
 symbol-of-requires : tie.Need-symbol-of-requires
 symbol-of-requires c κs = search needs
 
-security-of-requires : tie.Need-security-of-requires
-security-of-requires c κs = search needs
+security-in-requires : tie.Need-security-in-requires
+security-in-requires c κs = search needs
 
 symbol-fields-requires : tie.Need-symbol-fields-requires
 symbol-fields-requires c κs = search needs
@@ -89,7 +89,7 @@ returns : tie.Need-returns
 returns c = case-fields _ _ _ _ (c .before .m .given .1) _ _ refl
 
 returns-2 : tie.Need-returns-2
-returns-2 c = case-fields _ _ _ _ (c .before .before .before .enum-told .given .1) _ _ (c .symbol-fields .ensures ∙ (λ i. symbolFields (c .before .before .before .before .before .before .args .e) (c .before .before .before .before .before .before .args .t) (c .before .before .symbol-of .ensures i) (c .before .security-of .ensures i)))
+returns-2 c = case-fields _ _ _ _ (c .before .before .before .enum-told .given .1) _ _ (c .symbol-fields .ensures ∙ (λ i. symbolFields (c .before .before .before .before .before .before .args .t) (c .before .before .symbol-of .ensures i) (c .before .security-in .ensures i)))
 
 returns-3 : tie.Need-returns-3
 returns-3 c = case-fields _ _ _ _ (c .before .before .enum-told2 .given .1) _ _ (c .state-fields .ensures ∙ ap (stateFields _) (c .before .state-of .ensures))
@@ -129,7 +129,7 @@ fields-of-spec =
     cast-t15
     enum-told
     symbol-of-requires
-    security-of-requires
+    security-in-requires
     symbol-fields-requires
     enum-told-2
     state-of-requires

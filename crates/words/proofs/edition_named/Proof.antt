@@ -1,8 +1,8 @@
 -- Each comparison is the definition's own test.
 -- Assumes nothing.
 use Rattle.facts.specs.Pick.{pick, either}
-use Rattle.words.specs.Words.{older, lettered, current, editionNamed}
-use Rattle.words.proofs.Laws.{word-is}
+use Rattle.words.specs.Words.{name13, name13a, name13b, editionNamed}
+use Rattle.facts.proofs.SameLaws.{same-told}
 use borrow.Author.Needs.{needs}
 use Rattle.words.proofs.edition_named.Statement.{statement}
 use Rattle.words.proofs.edition_named.Tie as tie
@@ -15,7 +15,7 @@ same-requires c κs = search needs
 
 returns : tie.Need-returns
 unfolding editionNamed pick
-returns c = simp (word-is (c .before .same .result) (c .before .before .before .before .args .w .now) older (c .before .same .ensures .0) (c .before .same .ensures .1), c .if1 .taken)
+returns c = simp (same-told (c .before .same .result) (c .before .before .before .before .args .w .now) name13 (c .before .same .ensures .0) (c .before .same .ensures .1), c .if1 .taken)
 
 slice-aggregate-same-2 : tie.Need-slice-aggregate-same-2
 slice-aggregate-same-2 c = search needs
@@ -25,7 +25,7 @@ same-requires-2 c κs = search needs
 
 returns-2 : tie.Need-returns-2
 unfolding editionNamed pick either
-returns-2 c = simp (word-is (c .before .before .before .before .same .result) (c .before .before .before .before .before .before .before .args .w .now) older (c .before .before .before .before .same .ensures .0) (c .before .before .before .before .same .ensures .1), c .before .before .before .if1 .left, word-is (c .before .same2 .result) (c .before .before .before .before .before .before .before .args .w .now) lettered (c .before .same2 .ensures .0) (c .before .same2 .ensures .1), c .if2 .taken)
+returns-2 c = simp (same-told (c .before .before .before .before .same .result) (c .before .before .before .before .before .before .before .args .w .now) name13 (c .before .before .before .before .same .ensures .0) (c .before .before .before .before .same .ensures .1), c .before .before .before .if1 .left, same-told (c .before .same2 .result) (c .before .before .before .before .before .before .before .args .w .now) name13a (c .before .same2 .ensures .0) (c .before .same2 .ensures .1), c .if2 .taken)
 
 slice-aggregate-same-3 : tie.Need-slice-aggregate-same-3
 slice-aggregate-same-3 c = search needs
@@ -35,11 +35,11 @@ same-requires-3 c κs = search needs
 
 returns-3 : tie.Need-returns-3
 unfolding editionNamed pick either
-returns-3 c = simp (word-is (c .before .before .before .before .before .before .before .same .result) (c .before .before .before .before .before .before .before .before .before .before .args .w .now) older (c .before .before .before .before .before .before .before .same .ensures .0) (c .before .before .before .before .before .before .before .same .ensures .1), c .before .before .before .before .before .before .if1 .left, word-is (c .before .before .before .before .same2 .result) (c .before .before .before .before .before .before .before .before .before .before .args .w .now) lettered (c .before .before .before .before .same2 .ensures .0) (c .before .before .before .before .same2 .ensures .1), c .before .before .before .if2 .left, word-is (c .before .same3 .result) (c .before .before .before .before .before .before .before .before .before .before .args .w .now) current (c .before .same3 .ensures .0) (c .before .same3 .ensures .1), c .if3 .taken)
+returns-3 c = simp (same-told (c .before .before .before .before .before .before .before .same .result) (c .before .before .before .before .before .before .before .before .before .before .args .w .now) name13 (c .before .before .before .before .before .before .before .same .ensures .0) (c .before .before .before .before .before .before .before .same .ensures .1), c .before .before .before .before .before .before .if1 .left, same-told (c .before .before .before .before .same2 .result) (c .before .before .before .before .before .before .before .before .before .before .args .w .now) name13a (c .before .before .before .before .same2 .ensures .0) (c .before .before .before .before .same2 .ensures .1), c .before .before .before .if2 .left, same-told (c .before .same3 .result) (c .before .before .before .before .before .before .before .before .before .before .args .w .now) name13b (c .before .same3 .ensures .0) (c .before .same3 .ensures .1), c .if3 .taken)
 
 returns-4 : tie.Need-returns-4
 unfolding editionNamed pick either
-returns-4 c = simp (word-is (c .before .before .before .before .before .before .before .same .result) (c .before .before .before .before .before .before .before .before .before .before .args .w .now) older (c .before .before .before .before .before .before .before .same .ensures .0) (c .before .before .before .before .before .before .before .same .ensures .1), c .before .before .before .before .before .before .if1 .left, word-is (c .before .before .before .before .same2 .result) (c .before .before .before .before .before .before .before .before .before .before .args .w .now) lettered (c .before .before .before .before .same2 .ensures .0) (c .before .before .before .before .same2 .ensures .1), c .before .before .before .if2 .left, word-is (c .before .same3 .result) (c .before .before .before .before .before .before .before .before .before .before .args .w .now) current (c .before .same3 .ensures .0) (c .before .same3 .ensures .1), c .if3 .left)
+returns-4 c = simp (same-told (c .before .before .before .before .before .before .before .same .result) (c .before .before .before .before .before .before .before .before .before .before .args .w .now) name13 (c .before .before .before .before .before .before .before .same .ensures .0) (c .before .before .before .before .before .before .before .same .ensures .1), c .before .before .before .before .before .before .if1 .left, same-told (c .before .before .before .before .same2 .result) (c .before .before .before .before .before .before .before .before .before .before .args .w .now) name13a (c .before .before .before .before .same2 .ensures .0) (c .before .before .before .before .same2 .ensures .1), c .before .before .before .if2 .left, same-told (c .before .same3 .result) (c .before .before .before .before .before .before .before .before .before .before .args .w .now) name13b (c .before .same3 .ensures .0) (c .before .same3 .ensures .1), c .if3 .left)
 
 pub edition-named-spec : {M : Type 1} → statement M
 edition-named-spec =
