@@ -1,4 +1,5 @@
-/* Rimeheath for C: the order book of the MIAX Pearl Equities Depth of Market feed (DoM 1.3.b, and 1.3 of 2020), kept in memory that the caller lends.
+/* Rimeheath for C: the order book of the MIAX Pearl Equities Depth of Market feed (DoM 1.3.b, and 1.3 of 2020), kept in memory that the
+ * caller lends.
  *
  * The calls are proved functions of the crate `api`; what each does is stated there as an equation. tools/archive writes the archive to
  * link, target/staticlib/libapi.a, for x86-64 Linux, and examples/first.c is a first program:
@@ -13,8 +14,10 @@
  * EDITIONS. Recordings of version 1.3 have the Security Type, 'E' or 'F', in byte 20 of a Symbol Update; from 1.3.a on that byte is
  * reserved, and nothing else differs for reading. The edition is chosen at the start, by a number, and kept in the receiver's state: every
  * call that is lent a state or a stream goes by it, and the readers are told it. The number is RIMEHEATH_EDITION_1_3 for 1.3; any other
- * number means 1.3.a and 1.3.b, as RIMEHEATH_EDITION_1_3_B does. Whoever changes the number in a state between calls has altered it: what
- * follows is worked by the edition that is found, and waits on the shelf or stands in the table as the other one let it in.
+ * number means 1.3.a and 1.3.b, as RIMEHEATH_EDITION_1_3_B does, and where a call writes a state or a stream it is written as 0 or 1. A
+ * caller who changes the number in a state between calls has altered it: what comes then is worked by the edition that is found, and what
+ * the other one let onto the shelf or into the symbol table stays. A shelved message that is bad now stops with 27, and a sheet of 1.3
+ * shows byte 20 of every entry.
  *
  * THE WAY THROUGH. rimeheath_start; then rimeheath_receive for each packet, or rimeheath_open and rimeheath_feed for a recording in chunks
  * of any size; then views (rimeheath_ladder, rimeheath_spread, rimeheath_counts) and rimeheath_sheet, whenever they are wanted.
@@ -63,7 +66,7 @@ enum {
     RIMEHEATH_SHEET_MOST = 1500000 /* a buffer of this many bytes holds any sheet whole */
 };
 
-/* ---- editions of the feed's specification; any other number means 1.3.a and 1.3.b too ---- */
+/* ---- editions of the feed's specification; any other number means 1.3.a and 1.3.b too, and is written back as 0 ---- */
 enum {
     RIMEHEATH_EDITION_1_3_B = 0, /* 1.3.a and 1.3.b: byte 20 of a Symbol Update is reserved and not judged */
     RIMEHEATH_EDITION_1_3 = 1    /* 1.3, of 2020: byte 20 of a Symbol Update is its Security Type, 'E' or 'F', else 4 */
@@ -95,7 +98,7 @@ enum {
     RIMEHEATH_STATE_NEXT,    /* the number of the message that is applied next */
     RIMEHEATH_STATE_SECOND,  /* the second that the last System Time told; the low 32 bits count */
     RIMEHEATH_STATE_STOP,    /* why the message next, which has come, is not applied: one of the stops; the low 8 bits count */
-    RIMEHEATH_STATE_EDITION, /* the edition that was chosen at the start; any number but RIMEHEATH_EDITION_1_3 means 1.3.a and 1.3.b */
+    RIMEHEATH_STATE_EDITION, /* the edition that was chosen at the start */
     RIMEHEATH_STATE_SIZE
 };
 
@@ -109,7 +112,8 @@ enum {
     RIMEHEATH_STOP_SIZE = 24,         /* an Execution of more shares than the order has */
     RIMEHEATH_STOP_ROWS = 25,         /* an Add, and no row is free */
     RIMEHEATH_STOP_ENTRIES = 26,      /* a Symbol Update of a new symbol, and no entry is free */
-    RIMEHEATH_STOP_SHELF = 27         /* the shelf holds another number or no good message at the place of next: the caller altered it */
+    RIMEHEATH_STOP_SHELF = 27         /* the shelf holds another number or no good message at the place of next: the caller altered
+                                       * it, or the edition */
 };
 
 /* ---- a packet's account, nine numbers ----
@@ -163,23 +167,23 @@ enum {
  * An entry is the body of the last Symbol Update of its symbol, 42 bytes. From a start, entries in use stand in front, in the order in
  * which their symbols came first, and free ones behind them. These are offsets in an entry; numbers have their lowest byte first. */
 enum {
-    RIMEHEATH_ENTRY_TYPE = 0,     /* 1 byte: 1 where the entry is in use, 0 where it is free; any other is passed over */
-    RIMEHEATH_ENTRY_NANOS = 1,    /* 4 bytes: nanoseconds since the second */
-    RIMEHEATH_ENTRY_SYMBOL = 5,   /* 4 bytes: symbol ID */
-    RIMEHEATH_ENTRY_TICKER = 9,   /* 11 bytes: the name, with spaces behind it */
+    RIMEHEATH_ENTRY_TYPE = 0,      /* 1 byte: 1 where the entry is in use, 0 where it is free; any other is passed over */
+    RIMEHEATH_ENTRY_NANOS = 1,     /* 4 bytes: nanoseconds since the second */
+    RIMEHEATH_ENTRY_SYMBOL = 5,    /* 4 bytes: symbol ID */
+    RIMEHEATH_ENTRY_TICKER = 9,    /* 11 bytes: the name, with spaces behind it */
     RIMEHEATH_ENTRY_SECURITY = 20, /* 1 byte: the Security Type in 1.3, 'E' or 'F'; reserved from 1.3.a on */
-    RIMEHEATH_ENTRY_TEST = 21,    /* 1 byte: 'Y' for a test security, 'N' for any other (22 is reserved) */
-    RIMEHEATH_ENTRY_LOT = 23,     /* 2 bytes: round lot in shares */
-    RIMEHEATH_ENTRY_OPENING = 25, /* 8 bytes, as 09:30:00 */
-    RIMEHEATH_ENTRY_CLOSING = 33, /* 8 bytes, as 16:00:00 */
-    RIMEHEATH_ENTRY_MARKET = 41,  /* 1 byte: the letter of the primary market */
-    RIMEHEATH_TICKER_SIZE = 11    /* bytes of a ticker */
+    RIMEHEATH_ENTRY_TEST = 21,     /* 1 byte: 'Y' for a test security, 'N' for any other (22 is reserved) */
+    RIMEHEATH_ENTRY_LOT = 23,      /* 2 bytes: round lot in shares */
+    RIMEHEATH_ENTRY_OPENING = 25,  /* 8 bytes, as 09:30:00 */
+    RIMEHEATH_ENTRY_CLOSING = 33,  /* 8 bytes, as 16:00:00 */
+    RIMEHEATH_ENTRY_MARKET = 41,   /* 1 byte: the letter of the primary market */
+    RIMEHEATH_TICKER_SIZE = 11     /* bytes of a ticker */
 };
 
 /* ---- receiving ---- */
 
-/* Starts a receiver of an edition: zeroes the three tables; state becomes 1, 0, 0 and the edition's number. A small table is filled sooner: RIMEHEATH_MOST_ROWS rows and
- * RIMEHEATH_MOST_ENTRIES entries are what the program `sheet` uses. Refused by 6. */
+/* Starts a receiver of an edition: zeroes the three tables; state becomes 1, 0, 0 and the edition's number, 0 or 1. A small table is filled
+ * sooner: RIMEHEATH_MOST_ROWS rows and RIMEHEATH_MOST_ENTRIES entries are what the program `sheet` uses. Refused by 6. */
 uint8_t rimeheath_start(uint64_t edition, uint64_t *orders, size_t orders_len, uint8_t *symbols, size_t symbols_len, uint8_t *shelf,
                         size_t shelf_len, uint64_t state[4]);
 
@@ -235,18 +239,19 @@ uint8_t rimeheath_sheet(uint8_t *text, size_t text_len, const uint64_t *orders, 
 
 /* ---- reading ---- */
 
-/* Judges a packet of an edition: records[0] becomes the number of its records. Refused by 1, 2, 5, 3, 4, and for the last four with the offset in the
- * packet. */
+/* Judges a packet of an edition: records[0] becomes the number of its records. Refused by 1, 2, 5, 3, 4, and for the last four with the
+ * offset in the packet. */
 uint32_t rimeheath_packet(uint64_t edition, const uint8_t *packet, size_t packet_len, uint64_t records[1]);
 
-/* Judges the first record of what is left of a packet of an edition: head becomes its number and the length of its body, which stands behind 10 bytes.
+/* Judges the first record of what is left of a packet of an edition: head becomes its number and the length of its body, which stands
+ * behind 10 bytes.
  * The next record starts behind that body. With nothing left the answer is 2, as with any part of a header, and never 1: a caller stops by
  * itself at the packet's end. Refused by 2, 5, 3, 4, with the offset in what is left: 0, or 10 and the offset in the body. */
 uint32_t rimeheath_record(uint64_t edition, const uint8_t *rest, size_t rest_len, uint64_t head[2]);
 
-/* Judges a body of an edition and reads its numbers. fields[0] becomes the type; behind it stand the numbers of the message in the order of their places,
- * then zeros. Letters are their codes; of an attributable ID, four letters, the first is the lowest byte. Refused by 3, 4, with
- * the offset in the body.
+/* Judges a body of an edition and reads its numbers. fields[0] becomes the type; behind it stand the numbers of the message in the order of
+ * their places, but for the security type, which stands behind the others, then zeros. Letters are their codes; of an attributable ID,
+ * four letters, the first is the lowest byte. Refused by 3, 4, with the offset in the body.
  *    49 System Time              second
  *     1 Symbol Update            symbol, lot, market, and in 1.3 the security type behind them (left out: the others of
  *                                RIMEHEATH_ENTRY_.., which are its offsets in the body)

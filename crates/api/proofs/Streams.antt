@@ -2,9 +2,8 @@
 -- next one the same stream back.
 -- Assumes nothing.
 use Prim.Native.Nat.{ℕ, _%_, _^_, _<_}
-use mathlib.Core.Path.{_≡_, sym, ap, _∙_}
-use mathlib.Core.Bool.{Bool}
-use mathlib.Core.List.{List, [], _∷_}
+use mathlib.Core.Path.{_≡_, ap, _∙_}
+use mathlib.Core.List.{List}
 use native.Mathlib.Omega.{arith}
 use Rattle.fields.specs.Fields.{badAt}
 use Rattle.receiver.specs.declared.State.{State}
@@ -13,8 +12,8 @@ use Rattle.recording.specs.declared.Stream.{Stream}
 use Rattle.recording.specs.declared.Fed.{Fed}
 use Rattle.recording.specs.Stream.{opened, cut, Feeding, feeding, fed, fedNumber}
 use Rattle.recording.specs.Whole.{fedOn}
-use Rattle.api.specs.Calls.{stateIn, Call, call}
-use Rattle.api.specs.Streams.{streamNumbers, streamFrom, openAnswer, FeedCall, feedCall, feedAnswer}
+use Rattle.api.specs.Calls.{stateIn, call}
+use Rattle.api.specs.Streams.{streamNumbers, streamFrom, openAnswer, feedCall, feedAnswer}
 use Rattle.api.proofs.Handing.{handed}
 use Rattle.api.proofs.Chain.{Held, state-back}
 

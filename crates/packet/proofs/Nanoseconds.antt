@@ -1,7 +1,7 @@
 -- Nanoseconds of a second, in a packet (request 6): the body is refused with 4, so its record is, so a packet is that has it behind good ones, whatever stands behind it.
 -- Assumes nothing.
-use Prim.Native.Nat.{ℕ, _+_, _-_, _≤_}
-use mathlib.Core.Path.{_≡_, refl, sym, ap, _∙_}
+use Prim.Native.Nat.{ℕ, _+_, _≤_}
+use mathlib.Core.Path.{_≡_, sym, ap, _∙_}
 use mathlib.Core.Bool.{true, true≢false}
 use mathlib.Core.List.{List}
 use native.Mathlib.Omega.{arith}
@@ -9,7 +9,6 @@ use lib.ListN.{length, drop, length-drop}
 use Rattle.editions.specs.declared.Edition.{Edition}
 use Rattle.wire.specs.Records.{Rec, bad}
 use Rattle.fields.specs.Fields.{badAt}
-use Rattle.body.specs.Read.{judgeBody}
 use Rattle.body.specs.declared.Judged.{Judged}
 use Rattle.body.specs.Nanoseconds.{PastSecond}
 use Rattle.body.proofs.Nanoseconds.{past-judged, past-bad}

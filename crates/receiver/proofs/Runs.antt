@@ -1,7 +1,7 @@
 -- From a start, for whole runs of the real receiver: what each applied message keeps of the book, every call of `receive` keeps, since a run applies good messages that are
 -- numbered from 1 and made of bytes.
 -- Assumes nothing.
-use Prim.Native.Nat.{ℕ, zero, suc, _+_, _-_, _≤_}
+use Prim.Native.Nat.{ℕ, suc, _+_, _-_, _≤_}
 use mathlib.Core.Path.{_≡_, refl, sym, ap, subst, _∙_}
 use mathlib.Core.Bool.{true}
 use mathlib.Core.List.{List, [], _∷_, _++_}
@@ -22,9 +22,8 @@ use Rattle.arbitration.specs.Engine.{ok}
 use Rattle.arbitration.specs.Receive.{recordsOf, accepted}
 use Rattle.arbitration.specs.Lists.{Every, Bounded, Sent, msg, made}
 use Rattle.arbitration.proofs.Invariant.{made-keeps}
-use Rattle.arbitration.proofs.Carried.{Keeping, start-carried, packets-hold}
+use Rattle.arbitration.proofs.Carried.{start-carried, packets-hold}
 use Rattle.arbitration.proofs.Packets.{every-append}
-use Rattle.shelf.specs.Shelf.{slotAt}
 use Rattle.shelf.specs.Store.{shelfStore}
 use Rattle.shelf.proofs.Laws.{zeros-empty}
 use Rattle.receiver.specs.Receiver.{Rx}

@@ -1,3 +1,5 @@
+-- In 1.3 three appends, each where the one before ended; later nothing is written.
+-- Assumes nothing.
 use Rattle.facts.specs.Pieces.{join}
 use Rattle.text.specs.Text.{lineOf}
 use Rattle.text.proofs.Laws.{wrote-then, wrote-last, wrote-none}
@@ -7,50 +9,35 @@ use Rattle.answer_sheet.specs.Sheet.{typeLines}
 use borrow.Author.Needs.{needs}
 use Rattle.answer_sheet.proofs.type_lines.Statement.{statement}
 use Rattle.answer_sheet.proofs.type_lines.Tie as tie
-use Rattle.answer_sheet.proofs.type_lines.Reads as reads
-use Rattle.answer_sheet.proofs.type_lines.Lts as lts
-use Rattle.text.proofs.byte.Reads as byte-reads
-use Rattle.text.proofs.bytes.Reads as bytes-reads
-use Rattle.text.proofs.shown.Reads as shown-reads
 
--- src/lib.rt:189:24
 enum-known-y : tie.Need-enum-known-y
 enum-known-y c = search needs
 
--- src/lib.rt:190:42
 slice-aggregate-bytes : tie.Need-slice-aggregate-bytes
 slice-aggregate-bytes c = search needs
 
--- src/lib.rt:190:17
 bytes-requires : tie.Need-bytes-requires
 bytes-requires c κs = search needs
 
--- src/lib.rt:191:40
 shown-requires : tie.Need-shown-requires
 shown-requires c κs = search needs
 
--- src/lib.rt:191:17
 byte-requires : tie.Need-byte-requires
 byte-requires c κs = search needs
 
--- src/lib.rt:192:13
 byte-requires-2 : tie.Need-byte-requires-2
 byte-requires-2 c κs = search needs
 
--- src/lib.rt:194:31
 enum-told : tie.Need-enum-told
 enum-told c = search needs
 
--- src/lib.rt:185:1
 same-length : tie.Need-same-length
 same-length c = search needs
 
--- src/lib.rt:185:1
 returns : tie.Need-returns
 unfolding typeLines textOf lineText plain lineOf join typeKey
 returns c = rw (c .before .before .before .before .before .before .before .before .before .before .before .before .before .before .before .y .given .1, ← c .before .before .before .before .before .before .before .shown .ensures) (wrote-last (wrote-then (c .before .before .before .before .before .before .before .before .before .before .before .bytes .ensures) (wrote-then (c .before .before .before .before .before .before .byte .ensures) (c .before .before .byte2 .ensures))))
 
--- src/lib.rt:185:1
 returns-2 : tie.Need-returns-2
 unfolding typeLines textOf join
 returns-2 c = rw (c .enum-told .given .1) (wrote-none (search needs))

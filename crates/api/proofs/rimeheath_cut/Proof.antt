@@ -1,4 +1,4 @@
--- The stream of the thirteen numbers is cut or not.
+-- The stream of the fourteen numbers is cut or not.
 -- Assumes nothing.
 use mathlib.Core.Path.{ap, _∙_}
 use Rattle.recording.specs.Stream.{cut}

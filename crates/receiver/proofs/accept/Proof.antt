@@ -1,14 +1,12 @@
 -- What the records made is the theory's run and counts, and the answer is read off it.
 -- Assumes nothing.
-use mathlib.Core.Path.{sym, ap, _∙_}
-use mathlib.Core.List.{List}
+use mathlib.Core.Path.{ap, _∙_}
 use native.Mathlib.Omega.{arith}
-use Rattle.wire.specs.Records.{Rec}
 use Rattle.packet.specs.Packet.{Framing, framing}
 use Rattle.arbitration.specs.Receive.{recordsOf, noCounts}
 use Rattle.arbitration.specs.Loops.{work as workAll}
 use Rattle.shelf.specs.Store.{shelfStore}
-use Rattle.receiver.specs.Lent.{bookEngine, real, rx, lent, workingOf}
+use Rattle.receiver.specs.Lent.{bookEngine, real, rx, lent}
 use Rattle.receiver.proofs.Accounts.{next-grows, accepted}
 use borrow.Author.Needs.{needs}
 use Rattle.receiver.proofs.accept.Statement.{statement}
