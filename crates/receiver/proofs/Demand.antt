@@ -14,7 +14,7 @@ use Rattle.arbitration.proofs.Halves.{Made, Named, agree, start-ready, first-ha
 use Rattle.arbitration.proofs.Packets.{every-accepted, packets-run}
 use Rattle.receiver.specs.Parts.{Parts, engineOf}
 use Rattle.receiver.specs.Receiver.{Rx, Receiver, receivesAll}
-use Rattle.receiver.specs.Demand3.{Started, Given, MadeBy, Names, AnsweredTo, Demand3}
+use Rattle.receiver.specs.Demand3.{Started, Given, MadeBy, Names, AnsweredTo, Demand3, partsCalls}
 use Rattle.receiver.proofs.PartsLaws.{PartsLaws, lawsOf}
 use Rattle.receiver.proofs.Accounts.{account-reports}
 use Rattle.receiver.proofs.Fits.{one-call-more, all-received, all-stop, start-fit, start-stop}
@@ -81,11 +81,11 @@ module _ (P : Parts) (L : PartsLaws P) (ms : List (List ℕ)) (b0 : P .rules .Bo
         go (inl l) = inl (omega (arith, ap (λ (x : Rx P). x .next) (ran k0 ps (g .started))))
         go (inr m) = inr (named-by end (stop-is k0 ps (g .started)) (subst (Named S E ms 0 b0) (sym (ran k0 ps (g .started))) m))
 
-  pub demand-3 : Demand3 P ms b0
+  pub demand-3 : Demand3 P (partsCalls P) ms b0
   demand-3 = record {
-    first = first-of;
-    second = second-of;
-    agreement = λ k0 k0′ ps ps′ g g′ e. agree S E ms 0 b0 _ _ (made-so k0 ps g) (made-so k0′ ps′ g′) e;
+    first = λ k0 ps u g. first-of k0 ps g;
+    second = λ k0 ps u g. second-of k0 ps g;
+    agreement = λ k0 k0′ ps ps′ u u′ g g′ e. agree S E ms 0 b0 _ _ (made-so k0 ps g) (made-so k0′ ps′ g′) e;
     one-more = one-call-more P L;
-    reported = account-reports P;
+    reported = λ k k′ p a u e. account-reports P k k′ p a e;
   }

@@ -70,7 +70,7 @@ realLaws ed = record {
 }
 
 -- ---- demand 3 of the real receiver, in tables of o numbers and s bytes
-pub real-demand : (ed : Edition) (ms : List (List ℕ)) (o s : ℕ) → demand.Demand3 (real ed) ms (zeroBook o s)
+pub real-demand : (ed : Edition) (ms : List (List ℕ)) (o s : ℕ) → demand.Demand3 (real ed) (demand.partsCalls (real ed)) ms (zeroBook o s)
 real-demand ed ms o s = demand-3 (real ed) (realLaws ed) ms (zeroBook o s)
 
 -- and of the calls of `receive` that a run makes
@@ -79,16 +79,16 @@ calls-demand ed ms o s =
     let d = real-demand ed ms o s in
     let b0 = zeroBook o s in
     record {
-      first = λ k0 ps e g. subst (demand.MadeBy (real ed) ms b0) (sym (chosen-run ed ps k0 e)) (d .first k0 ps g);
-      second = λ k0 ps e g j a. subst (λ (k : Lent). (j ≤ k .rx .next - 1) ⊎ demand.Names (real ed) ms b0 k) (sym (chosen-run ed ps k0 e)) (d .second k0 ps g j a);
+      first = λ k0 ps e g. subst (demand.MadeBy (real ed) ms b0) (sym (chosen-run ed ps k0 e)) (d .first k0 ps tt g);
+      second = λ k0 ps e g j a. subst (λ (k : Lent). (j ≤ k .rx .next - 1) ⊎ demand.Names (real ed) ms b0 k) (sym (chosen-run ed ps k0 e)) (d .second k0 ps tt g j a);
       agreement = λ k0 k0′ ps ps′ e e′ g g′ n.
           let r = chosen-run ed ps k0 e in
           let r′ = chosen-run ed ps′ k0′ e′ in
           ap (λ (k : Lent). k .rx .book) r
-          ∙ d .agreement k0 k0′ ps ps′ g g′ (sym (ap (λ (k : Lent). k .rx .next) r) ∙ n ∙ ap (λ (k : Lent). k .rx .next) r′)
+          ∙ d .agreement k0 k0′ ps ps′ tt tt g g′ (sym (ap (λ (k : Lent). k .rx .next) r) ∙ n ∙ ap (λ (k : Lent). k .rx .next) r′)
           ∙ sym (ap (λ (k : Lent). k .rx .book) r′);
       one-more = call-more;
-      reported = λ k k′ p a e. account-reports (real (k .edition)) k k′ p a e;
+      reported = λ k k′ p a e h. subst (λ (v : Edition). demand.Reported (real v) k p a k′) e (account-reports (real (k .edition)) k k′ p a h);
     }
 
 -- a start is where it begins

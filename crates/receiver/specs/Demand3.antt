@@ -9,7 +9,7 @@ use Rattle.arbitration.specs.Engine.{ok, broke}
 use Rattle.arbitration.specs.Receive.{recordsOf, accepted, said, countsOf}
 use Rattle.arbitration.specs.Lists.{WellFormed, Copies, Answered, made, Zeroed}
 use Rattle.receiver.specs.Parts.{Parts, engineOf}
-use Rattle.receiver.specs.Receiver.{Receiver, receives, receivesAll, handled}
+use Rattle.receiver.specs.Receiver.{Receiver, Handled, receives, receivesAll, handled}
 use Rattle.receiver.specs.declared.Account.{Account}
 use Rattle.receiver.specs.declared.Received.{Received}
 
@@ -22,7 +22,7 @@ module _ (P : Parts) where
 
   -- "Take any list of well-formed messages, numbered from 1. Start a receiver, leave its tables to it, and give it packets whose accepted records are true copies
   -- from that list, lost, repeated or shuffled at will." ms is the list, k0 the receiver after its start, ps are the packets so far, any number of them: a call for each,
-  -- and each call is handed what the one before left (`receivesAll`), so that its tables are left to it
+  -- and each call is handed what the one before left (`Calls` below), so that its tables are left to it
   pub record Given (ms : List (List ℕ)) (b0 : P .rules .Book) (k0 : Receiver P) (ps : List (List ℕ)) : Type 0 where
     pub well-formed : WellFormed (P .rules .good) ms
     pub started : Started b0 k0
@@ -50,17 +50,27 @@ module _ (P : Parts) where
     pub stop-is : a .stop ≡ k′ .stop
     pub counts-are : a .counts ≡ countsOf (said (P .store) (engineOf (P .rules)) (recordsOf (P .frame p)) (k .rx))
 
-  pub record Demand3 (ms : List (List ℕ)) (b0 : P .rules .Book) : Type 0 where
+  -- the calls of which it is said: the receivers that they may start with, what one call does with a packet, and what a call for each packet does
+  pub record Calls : Type 1 where
+    pub begins : Receiver P → Type 0
+    pub call : Receiver P → List ℕ → Handled P
+    pub calls : List (List ℕ) → Receiver P → Receiver P
+
+  pub record Demand3 (C : Calls) (ms : List (List ℕ)) (b0 : P .rules .Book) : Type 0 where
     -- "After each accepted packet": ps are any packets, so this holds after each one of a run
-    pub first : (k0 : Receiver P) (ps : List (List ℕ)) → Given ms b0 k0 ps → MadeBy ms b0 (receivesAll P ps k0)
+    pub first : (k0 : Receiver P) (ps : List (List ℕ)) → C .begins k0 → Given ms b0 k0 ps → MadeBy ms b0 (C .calls ps k0)
     -- "If every number up to j was answered as taken, repeated or old, then k is at least j, or the receiver names message k + 1"
-    pub second : (k0 : Receiver P) (ps : List (List ℕ)) → Given ms b0 k0 ps → (j : ℕ) → AnsweredTo j ps k0
-        → (j ≤ receivesAll P ps k0 .rx .next - 1) ⊎ Names ms b0 (receivesAll P ps k0)
+    pub second : (k0 : Receiver P) (ps : List (List ℕ)) → C .begins k0 → Given ms b0 k0 ps → (j : ℕ) → AnsweredTo j ps k0
+        → (j ≤ C .calls ps k0 .rx .next - 1) ⊎ Names ms b0 (C .calls ps k0)
     -- "Two such receivers on one list, with equal capacities and equal k, agree in these three": one b0, so equal capacities
-    pub agreement : (k0 k0′ : Receiver P) (ps ps′ : List (List ℕ)) → Given ms b0 k0 ps → Given ms b0 k0′ ps′
-        → receivesAll P ps k0 .rx .next ≡ receivesAll P ps′ k0′ .rx .next
-        → receivesAll P ps k0 .rx .book ≡ receivesAll P ps′ k0′ .rx .book
+    pub agreement : (k0 k0′ : Receiver P) (ps ps′ : List (List ℕ)) → C .begins k0 → C .begins k0′ → Given ms b0 k0 ps → Given ms b0 k0′ ps′
+        → C .calls ps k0 .rx .next ≡ C .calls ps′ k0′ .rx .next
+        → C .calls ps k0 .rx .book ≡ C .calls ps′ k0′ .rx .book
     -- "each": one packet more is one call more, so that all of this is said of the receiver after each call of a run
-    pub one-more : (k0 : Receiver P) (ps : List (List ℕ)) (p : List ℕ) → receivesAll P (ps ++ (p ∷ [])) k0 ≡ receives P (receivesAll P ps k0) p .after
+    pub one-more : (k0 : Receiver P) (ps : List (List ℕ)) (p : List ℕ) → C .calls (ps ++ (p ∷ [])) k0 ≡ C .call (C .calls ps k0) p .after
     -- "the next number it reports", the rule that it names, and how many records were answered in each way: an accepted packet's account tells them
-    pub reported : (k k′ : Receiver P) (p : List ℕ) (a : Account) → receives P k p ≡ handled P (Received.Accepted a) k′ → Reported k p a k′
+    pub reported : (k k′ : Receiver P) (p : List ℕ) (a : Account) → C .begins k → C .call k p ≡ handled P (Received.Accepted a) k′ → Reported k p a k′
+
+  -- the calls of a receiver of these parts
+  abbrev pub partsCalls : Calls
+  partsCalls = record { begins = λ k. Unit {0}; call = receives P; calls = receivesAll P }
