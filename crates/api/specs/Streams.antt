@@ -1,20 +1,21 @@
 -- What the calls for a recording in chunks answer: a stream is fourteen lent numbers, and the meaning is that of `recording`.
 use Prim.Native.Nat.{ℕ, _%_}
-use mathlib.Core.List.{List, [], _∷_}
+use mathlib.Core.List.{List, [], _∷_, _++_}
 use lib.ListN.{getD}
-use Rattle.editions.specs.Editions.{numberOf}
+use Rattle.receiver.specs.Lent.{stateNumbers}
 use Rattle.fields.specs.Fields.{badAt}
 use Rattle.recording.specs.declared.Stream.{Stream}
 use Rattle.recording.specs.declared.Fed.{Fed}
 use Rattle.recording.specs.Stream.{Feeding, fedNumber}
 use Rattle.api.specs.Calls.{stateIn, Call, call}
 
--- next, second, stop, edition; bytes held, bytes to pass over, bad packets; records taken, old, too far, repeated, differing over all accepted packets; number and offset of the last bad packet
+-- the receiver's state; bytes held, bytes to pass over, bad packets; records taken, old, too far, repeated, differing over all accepted packets; number and offset of the last bad packet
 abbrev pub streamNumbers : Stream → List ℕ
 streamNumbers k =
-    k .receiver .next ∷ k .receiver .clock .second ∷ k .receiver .stop ∷ numberOf (k .receiver .edition) ∷ k .held ∷ k .skip ∷ k .bad
+    stateNumbers (k .receiver)
+    ++ (k .held ∷ k .skip ∷ k .bad
     ∷ k .totals .taken ∷ k .totals .old ∷ k .totals .far ∷ k .totals .repeated ∷ k .totals .differing
-    ∷ k .last .number ∷ k .last .at ∷ []
+    ∷ k .last .number ∷ k .last .at ∷ [])
 
 -- a stream in fourteen lent numbers: the first four as of a receiver's state, so that the second is the low 32 bits of its number, the stop the low 8 and the edition that of any number; the last bad packet's number is the low 8 of its own
 abbrev pub streamFrom : List ℕ → Stream

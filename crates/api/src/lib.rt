@@ -177,16 +177,14 @@ fn stream_from(l: &[u64; 14]) -> Stream
 fn stream_numbers(k: Stream) -> [u64; 14]
     ensures { λ r. ⌜ r ≡ streamNumbers k ⌝ }
 {
-    let s = k.receiver;
-    let clock = s.clock;
-    let e = s.edition;
+    let head = state_numbers(k.receiver);
     let t = k.totals;
     let last = k.last;
     [
-        s.next,
-        clock.second as u64,
-        s.stop as u64,
-        editions::number_of(e),
+        head[0],
+        head[1],
+        head[2],
+        head[3],
         k.held as u64,
         k.skip as u64,
         k.bad,
