@@ -5,8 +5,10 @@
 #[macro_use]
 mod common;
 use common::watched::Receiver;
+use common::written::{record, recording};
 use common::{all_seeds, example_path, seeds, well_formed, Desk, Edition, V1_3b, EDITIONS, V1_3};
 use second::answers::answers_of_recording;
+use second::examples::MORNING_SHEET;
 use second::morning::*;
 use second::packet::{read_body, read_packet, read_record, Message, Refusal};
 #[cfg(linked)]
@@ -191,23 +193,6 @@ fn update_of(symbol: u8, byte: u8) -> Vec<u8> {
 /// A System Time, whose record has 15 bytes.
 fn time(second: u8) -> Vec<u8> {
     vec![49, second, 0, 0, 0]
-}
-
-fn record(number: u64, body: &[u8]) -> Vec<u8> {
-    let mut bytes = number.to_le_bytes().to_vec();
-    bytes.extend((body.len() as u16).to_le_bytes());
-    bytes.extend(body);
-    bytes
-}
-
-/// The packets of a recording, each behind its length.
-fn recording(packets: &[Vec<u8>]) -> Vec<u8> {
-    let mut bytes = Vec::new();
-    for packet in packets {
-        bytes.extend((packet.len() as u16).to_le_bytes());
-        bytes.extend(packet);
-    }
-    bytes
 }
 
 /// "Security Type, `E` or `F`", 69 and 70, under 1.3; "from 1.3.a it is reserved".
@@ -434,31 +419,17 @@ fn byte_20_is_part_of_a_copy<R: Editions>() {
 /// Document 01's example with a Security Type, and its sheet: "Only the 1.3 sheet shows it, as `type=` after
 /// `ticker=`."
 fn the_example_in_1_3<R: Editions>() {
-    let plain = "recording=whole
-bad=0
-next=6
-stop=0
-second=34200
-symbols=1
-orders=3
-symbol=7
-ticker=ABC
-lot=100
-spread=20000
-bid=10000000 150 2
-ask=10020000 200 1
-";
     for (byte, line) in [(b'E', "type=E\n"), (b'F', "type=F\n")] {
         let mut typed = R::started(V1_3, 10, 4);
         comes_to(&mut typed, &example(byte), 6, 0);
-        let wanted = plain.replace("ticker=ABC\n", &format!("ticker=ABC\n{line}"));
+        let wanted = MORNING_SHEET.replace("ticker=ABC\n", &format!("ticker=ABC\n{line}"));
         assert_eq!(typed.sheet(), wanted);
         let mut other = R::started(V1_3b, 10, 4);
         comes_to(&mut other, &example(byte), 6, 0);
-        assert_eq!(other.sheet(), plain);
+        assert_eq!(other.sheet(), MORNING_SHEET);
         // A sheet goes by the state's edition.
         typed.change_edition(V1_3b);
-        assert_eq!(typed.sheet(), plain);
+        assert_eq!(typed.sheet(), MORNING_SHEET);
         other.change_edition(V1_3);
         assert_eq!(other.sheet(), wanted);
     }

@@ -5,6 +5,7 @@
 #[macro_use]
 mod common;
 use common::watched::Receiver;
+use common::written::{claiming, record, recording};
 use common::{Desk, V1_3b};
 use second::answers::answers_of_recording;
 use second::packet::{read_body, read_packet, read_record, Refusal};
@@ -225,25 +226,6 @@ fn time() -> Vec<u8> {
 fn with(mut body: Vec<u8>, at: usize, bytes: &[u8]) -> Vec<u8> {
     body[at..at + bytes.len()].copy_from_slice(bytes);
     body
-}
-
-/// A record: number, length, body.
-fn record(number: u64, body: &[u8]) -> Vec<u8> {
-    claiming(number, body.len() as u16, body)
-}
-
-fn claiming(number: u64, length: u16, body: &[u8]) -> Vec<u8> {
-    [&number.to_le_bytes(), &length.to_le_bytes()[..], body].concat()
-}
-
-/// The packets of a recording, each behind its length.
-fn recording(packets: &[Vec<u8>]) -> Vec<u8> {
-    let mut bytes = Vec::new();
-    for packet in packets {
-        bytes.extend((packet.len() as u16).to_le_bytes());
-        bytes.extend(packet);
-    }
-    bytes
 }
 
 /// A message put on a shelf by a caller: slots of 74 bytes, number n in slot n mod 64.

@@ -3,6 +3,7 @@
 #![allow(dead_code, unused_imports)] // each test uses some of it
 
 pub mod watched;
+pub mod written;
 
 use second::book::{apply, broken_rule};
 pub use second::desk::Desk;
