@@ -25,9 +25,9 @@ holdLeast = 1502
 abbrev pub entrySize : ℕ
 entrySize = 42
 
--- "Capacity 1 to 1,600 rows"
+-- "Capacity 1 to 1,600 rows"; "Raise the order table to 16,000 rows in the library" (document 02, No. 9)
 abbrev pub mostRows : ℕ
-mostRows = 1600
+mostRows = 16000
 
 -- "The symbol table holds 1 to 1,000 entries"
 abbrev pub mostEntries : ℕ

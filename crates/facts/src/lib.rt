@@ -19,7 +19,10 @@ pub const HOLD_LEAST: usize = 1_502;
 
 pub const ENTRY_SIZE: usize = 42;
 
-pub const MOST_ROWS: usize = 1_600;
+// "Raise the order table to 16,000 rows in the library; the sheet program keeps 1,600" (document 02, No. 9).
+pub const MOST_ROWS: usize = 16_000;
+
+pub const SHEET_ROWS: usize = 1_600;
 
 pub const MOST_ENTRIES: usize = 1_000;
 

@@ -63,6 +63,6 @@ live r =
 unfoldable pub spoiled : Row → Bool
 spoiled r = not (either (free r) (live r))
 
--- no refusal 6 for a table of n numbers ("Capacity 1 to 1,600 rows"; "a table size outside these limits or not in whole rows")
+-- no refusal 6 for a table of n numbers ("Capacity 1 to 1,600 rows", which request 9 raises; "a table size outside these limits or not in whole rows")
 unfoldable pub goodRows : ℕ → Bool
 goodRows n = both (eqb (n % rowSize) 0) (both (leb 1 (n / rowSize)) (leb (n / rowSize) mostRows))

@@ -1,7 +1,8 @@
 // The order table: five numbers to a row. Each function answers for any table, any place and any row; only `row_in` and `put_row` know where a number lies.
 ghost use mathlib.Core.Path.{_≡_};
 ghost use Prim.Native.Nat.{_<_};
-ghost use lib.ListN.{length, getD, replicate};
+ghost use lib.ListN.{length, getD, drop, replicate};
+ghost use Rattle.facts.specs.Search.{first};
 ghost use Rattle.rows.specs.Keys.{keyFor, symbolIn, sideIn, sideOf};
 ghost use Rattle.rows.specs.Rows.{rows, rowCount, putRow, zeroRow, free, live, goodRows};
 ghost use Rattle.rows.specs.Find.{isOrder, findOrder, findFree, heldAt, ofSymbol, ofKey, countLive};
@@ -108,9 +109,13 @@ pub fn put_row(t: &mut [u64], i: usize, r: Row)
     t[b + 4] = r.rank;
 }
 
+// The rank first: it tells a live row at once.
 pub fn is_free(r: Row) -> bool
     ensures { λ b. ⌜ b ≡ free r ⌝ }
 {
+    if r.rank != 0 {
+        return false;
+    }
     if r.order != 0 {
         return false;
     }
@@ -121,9 +126,6 @@ pub fn is_free(r: Row) -> bool
         return false;
     }
     if r.size != 0 {
-        return false;
-    }
-    if r.rank != 0 {
         return false;
     }
     true
@@ -211,11 +213,12 @@ pub fn find_order(t: &[u64], id: u64) -> Found
     Found::Nothing
 }
 
-pub fn find_free(t: &[u64]) -> Found
-    ensures { λ r. ⌜ r ≡ findFree (rows (now (t .entry))) ⌝ }
+// The lowest free row from row s on.
+pub fn free_from(t: &[u64], s: usize) -> Found
+    ensures { λ r. ⌜ r ≡ first free s (drop s (rows (now (t .entry)))) ⌝ }
 {
     let n = row_count(t);
-    let mut i = 0;
+    let mut i = s;
     while i < n {
         if is_free(row_in(t, i)) {
             return Found::At(i);
@@ -223,6 +226,12 @@ pub fn find_free(t: &[u64]) -> Found
         i += 1;
     }
     Found::Nothing
+}
+
+pub fn find_free(t: &[u64]) -> Found
+    ensures { λ r. ⌜ r ≡ findFree (rows (now (t .entry))) ⌝ }
+{
+    free_from(t, 0)
 }
 
 // The row that a search ended at, whichever search it was.

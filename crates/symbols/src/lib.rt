@@ -100,6 +100,12 @@ pub fn is_used_at(t: &[u8], i: usize) -> bool
     is_used(entry_bytes(t, i))
 }
 
+pub fn is_symbol_at(t: &[u8], i: usize, id: u32) -> bool
+    ensures { λ b. ⌜ b ≡ isSymbol id (getD (entries (now (t .entry))) i []) ⌝ }
+{
+    is_symbol(entry_bytes(t, i), id)
+}
+
 pub fn find_symbol(t: &[u8], id: u32) -> Found
     ensures { λ r. ⌜ r ≡ findSymbol id (entries (now (t .entry))) ⌝ }
 {

@@ -1,75 +1,19 @@
--- The search from row i on, over the rows left, gives what the whole search gives; each turn takes one row off.
--- Assumes nothing.
-use mathlib.Core.Path.{_≡_, refl, sym, _∙_}
-use mathlib.Core.Bool.{true, false}
-use Prim.Native.Nat.{_≤_, _-_}
-use native.Mathlib.Omega.{arith}
-use lib.ListN.{getD, drop}
-use borrow.Author.Needs.{needs}
-use Rattle.facts.specs.Search.{first}
-use Rattle.rows.specs.Rows.{rows, rowCount, zeroRow, free}
 use Rattle.rows.specs.Find.{findFree}
-use Rattle.rows.proofs.Walks.{row-hit, row-miss, row-end}
+use borrow.Author.Needs.{needs}
 use Rattle.rows.proofs.find_free.Statement.{statement}
 use Rattle.rows.proofs.find_free.Tie as tie
+use Rattle.rows.proofs.find_free.Reads as reads
+use Rattle.rows.proofs.find_free.Lts as lts
+use Rattle.rows.proofs.free_from.Reads as free-from-reads
 
-abbrev Inv-loop : tie.InvT-loop
-Inv-loop t n i₀ i = (i ≤ n) × (n ≡ rowCount t) × (findFree (rows t) ≡ first free i (drop i (rows t)))
+-- src/lib.rt:234:5
+free-from-requires : tie.Need-free-from-requires
+free-from-requires c κs = search needs
 
-abbrev μ-loop : tie.MeasureT-loop
-μ-loop t n i₀ i = n - i
-
-row-count-requires : tie.Need-row-count-requires Inv-loop μ-loop
-row-count-requires c κs = search needs
-
-loop-holds : tie.Need-loop-holds Inv-loop μ-loop
+-- src/lib.rt:231:1
+returns : tie.Need-returns
 unfolding findFree
-loop-holds c = (omega arith, omega arith, refl)
-
-row-in-requires : tie.Need-row-in-requires Inv-loop μ-loop
-row-in-requires c κs = omega arith
-
-is-free-requires : tie.Need-is-free-requires Inv-loop μ-loop
-is-free-requires c κs = search needs
-
-returns : tie.Need-returns Inv-loop μ-loop
-returns c =
-    let a = c .before .before .before .before .before .before .before .args in
-    let l = c .before .before .before .before .loop in
-    let e : free (getD (rows (a .t .now)) (l .i) zeroRow) ≡ true = cc in
-    sym (l .inv .2 ∙ row-hit (free) (a .t .now) (l .i) (omega arith) e)
-
-add-i : tie.Need-add-i Inv-loop μ-loop
-add-i c = omega arith
-
-loop-less : tie.Need-loop-less Inv-loop μ-loop
-loop-less c = omega arith
-
-loop-again : tie.Need-loop-again Inv-loop μ-loop
-loop-again c =
-    let a = c .before .before .before .before .before .before .before .args in
-    let l = c .before .before .before .before .loop in
-    let e : free (getD (rows (a .t .now)) (l .i) zeroRow) ≡ false = cc in
-    (omega arith, omega arith, l .inv .2 ∙ row-miss (free) (a .t .now) (l .i) (omega arith) e)
-
-returns-2 : tie.Need-returns-2 Inv-loop μ-loop
-returns-2 c =
-    let a = c .before .before .before .before .args in
-    let l = c .before .loop in
-    sym (l .inv .2 ∙ row-end (free) (a .t .now) (l .i) (omega arith))
+returns c = c .free-from .ensures
 
 pub find-free-spec : {M : Type 1} → statement M
-find-free-spec =
-    tie.close
-    (tie.spec
-    Inv-loop
-    μ-loop
-    row-count-requires
-    loop-holds
-    row-in-requires
-    is-free-requires
-    returns
-    add-i
-    loop-less
-    loop-again
-    returns-2)
+find-free-spec = tie.close (tie.spec free-from-requires returns)
