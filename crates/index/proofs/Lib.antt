@@ -1,0 +1,9 @@
+pub mod Cases
+pub mod Counts
+pub mod Reached
+pub mod Looked
+pub mod Stored
+pub mod Frees
+pub mod Built
+pub mod Kept
+pub mod Lengths
