@@ -1,0 +1,5 @@
+pub mod Cases
+pub mod Alone
+pub mod Found
+pub mod Noted
+pub mod Lengths
