@@ -1,5 +1,5 @@
 -- What judging and reading a body find (document 01, "a body is good when its length is that type's and its fields are in range"), and at which of its bytes (request 5).
-use Prim.Native.Nat.{ℕ}
+use Prim.Native.Nat.{ℕ, _+_, _*_}
 use mathlib.Core.List.{List}
 use mathlib.Core.Bool.{Bool}
 use lib.ListN.{length, getD}
@@ -10,6 +10,7 @@ use Rattle.kinds.specs.Table.{lengthOf, kindOf}
 use Rattle.kinds.specs.declared.Kind.{Kind}
 use Rattle.fields.specs.Fields.{badAt, decoded}
 use Rattle.fields.specs.declared.Body.{Body}
+use Rattle.fields.specs.declared.Fault.{Fault}
 use Rattle.body.specs.Faults.{faultOf}
 use Rattle.body.specs.declared.Judged.{Judged}
 
@@ -29,6 +30,15 @@ judgeBody ed b = pick (framed b) (ranged ed (kindOf (getD b 0 0)) b) (Judged.Bad
 abbrev pub judgedNumber : Judged → ℕ
 judgedNumber (Judged.Good k) = 0
 judgedNumber (Judged.Bad f) = f .number
+
+-- number and offset in one number: the number in the low 8 bits, the offset in those above
+abbrev pub withOffset : Fault → ℕ
+withOffset f = f .number + 256 * f .at
+
+-- all that judging tells but the kind, in one number: 0 for a good body
+abbrev pub judgedCode : Judged → ℕ
+judgedCode (Judged.Good k) = 0
+judgedCode (Judged.Bad f) = withOffset f
 
 -- what is judged good is decoded as its kind, and nothing else is
 unfoldable pub message : Judged → List ℕ → Body

@@ -10,7 +10,7 @@ ghost use Rattle.facts.specs.Pick.{pick, both};
 ghost use Rattle.wire.specs.Le.{field};
 ghost use Rattle.body.specs.Ranges.{nanosOk, sideOk, priceOk, sizeOk, securityOk, testOk, marketOk};
 ghost use Rattle.body.specs.Faults.{faultOf};
-ghost use Rattle.body.specs.Read.{judgeBody, readBody};
+ghost use Rattle.body.specs.Read.{judgedCode, judgeBody, readBody};
 ghost use Rattle.body.specs.Shown.{securityIn};
 
 // What byte 20 of a Symbol Update is in an edition: its Security Type, or reserved.
@@ -151,24 +151,34 @@ fn fault(e: Edition, k: Kind, b: &[u8]) -> usize
     }
 }
 
-// Judges a body of an edition, and decodes nothing: 3 at its start, then 4 at the earliest field out of range.
-pub fn judge_body(e: Edition, b: &[u8]) -> Judged
-    ensures { λ r. ⌜ r ≡ judgeBody e (now (b .entry)) ⌝ }
+// Judges a body of an edition, and decodes nothing: 3 at its start, then 4 at the earliest field out of range; number and offset in one number, 0 for
+// a good body. Whoever asks for no more than this has it in a register.
+pub fn judge(e: Edition, b: &[u8]) -> usize
+    ensures { λ r. ⌜ r ≡ judgedCode (judgeBody e (now (b .entry))) ⌝ }
 {
     if b.len() == 0 {
-        return Judged::Bad(Fault { number: 3, at: 0 });
+        return 3;
     }
     let t = b[0];
     if b.len() != kinds::length_of(t) {
-        return Judged::Bad(Fault { number: 3, at: 0 });
+        return 3;
     }
-    let k = kinds::kind_of(t);
-    let at = fault(e, k, b);
-    if at == 0 {
-        Judged::Good(k)
-    } else {
-        Judged::Bad(Fault { number: 4, at })
+    let at = fault(e, kinds::kind_of(t), b);
+    if at == 0 { 0 } else { 4 + 256 * at }
+}
+
+// The same by cases, and the kind of a good body.
+pub fn judge_body(e: Edition, b: &[u8]) -> Judged
+    ensures { λ r. ⌜ r ≡ judgeBody e (now (b .entry)) ⌝ }
+{
+    let c = judge(e, b);
+    if c == 0 {
+        return Judged::Good(kinds::kind_of(wire::u8_at(b, 0)));
     }
+    Judged::Bad(Fault {
+        number: (c % 256) as u8,
+        at: c / 256,
+    })
 }
 
 // The message that a good body says, or why and where it is bad.

@@ -58,17 +58,20 @@ pub fn kind_of(t: u8) -> Kind
     }
 }
 
-// The length that the table gives a type, 0 where it has no such type.
+// The length that the table gives a type, 0 where it has no such type. All pairs are looked at, from the last to the first, so that no
+// branch hangs on the type.
 pub fn length_of(t: u8) -> usize
     ensures { λ r. ⌜ r ≡ lengthOf t ⌝ }
 {
-    let mut i: usize = 0;
-    while i < 11 {
-        let m = TABLE[i];
+    let all = TABLE;
+    let mut n: usize = 0;
+    let mut i: usize = 11;
+    while 0 < i {
+        i = i - 1;
+        let m = all[i];
         if m.code == t {
-            return m.len as usize;
+            n = m.len as usize;
         }
-        i = i + 1;
     }
-    0
+    n
 }

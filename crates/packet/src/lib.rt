@@ -1,5 +1,4 @@
 // Reads a packet: records back to back, each judged by 2, 5, 3, 4 from the front, before anything is done with any of them.
-use body::Judged;
 use editions::Edition;
 use fields::Fault;
 use fields::Refusal;
@@ -80,13 +79,14 @@ pub fn read_record(e: Edition, t: &[u8]) -> Record
     if !number_ok(h.number) {
         return Record::Bad(Fault { number: 5, at: 0 });
     }
-    match body::judge_body(e, &t[10..10 + n]) {
-        Judged::Good(_) => Record::Good(h),
-        Judged::Bad(f) => Record::Bad(Fault {
-            number: f.number,
-            at: 10 + f.at,
-        }),
+    let c = body::judge(e, &t[10..10 + n]);
+    if c == 0 {
+        return Record::Good(h);
     }
+    Record::Bad(Fault {
+        number: (c % 256) as u8,
+        at: 10 + c / 256,
+    })
 }
 
 // Judges a whole packet of an edition: 1, then its records from the front.

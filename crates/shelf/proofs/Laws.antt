@@ -1,6 +1,6 @@
 -- Where a slot's parts lie in the lent bytes: a slot is a piece of 74 bytes, its number, length and body are parts of that.
 -- Assumes nothing.
-use Prim.Native.Nat.{ℕ, zero, suc, _+_, _*_, _/_, _-_, _≤_, _<_}
+use Prim.Native.Nat.{ℕ, zero, suc, _+_, _*_, _/_, _-_, _≤_, _<_, max}
 use mathlib.Core.Path.{_≡_, refl, sym, ap, _∙_}
 use mathlib.Core.Logic.{_≢_, _⊎_, inl, inr}
 use mathlib.Core.List.{List, [], _++_, append-assoc, append-nil}
@@ -19,8 +19,10 @@ use Rattle.wire.specs.Le.{le, toLe, field, padded}
 use Rattle.wire.proofs.Laws.{length-padded, getD-padded, padded-part, length-toLe, stored-behind}
 use Rattle.facts.specs.Same.{sameBytes}
 use Rattle.facts.proofs.SameLaws.{same-bytes-refl, bytes-differ}
+use Rattle.arbitration.specs.Receive.{highest}
 use Rattle.arbitration.specs.Slots.{Slot, emptySlot, slotFor, slotBody, sameSlot}
 use Rattle.shelf.specs.Shelf.{slotSize, goodShelf, slotFrom, bytesOf, slotAt, putSlot}
+use Rattle.shelf.specs.Store.{shelfStore}
 use Rattle.shelf.proofs.StoreLaws.{length-bytes}
 
 -- ---- the bytes of a slot, as the code cuts them out
@@ -164,3 +166,25 @@ zeros-empty n i = ap (λ (l : List (List ℕ)). slotFrom (getD l i [])) (pieces-
     go zero j = refl
     go (suc m) zero = refl
     go (suc m) (suc j) = go m j
+
+-- ---- the highest number: four slots more
+max-over : (a b c : ℕ) → max (max a b) c ≡ max a (max b c)
+max-over a b c = omega arith
+
+max-four : (o p q r t : ℕ) → max o (max (max p q) (max r t)) ≡ max (max (max (max o p) q) r) t
+max-four o p q r t = sym (max-over (max (max o p) q) r t ∙ ap (λ x. max x (max r t)) (max-over o p q) ∙ max-over o (max p q) (max r t))
+
+pub highest-more : (s : List ℕ) (i top four : ℕ) → top ≡ highest shelfStore i s → four ≡ max (max (slotAt s i .number) (slotAt s (i + 1) .number)) (max (slotAt s (i + 2) .number) (slotAt s (i + 3) .number)) → max top four ≡ highest shelfStore (i + 4) s
+unfolding highest
+highest-more s i top four h f =
+    let e : i + 4 ≡ suc (i + 3) = omega arith in
+    let d : i + 3 ≡ suc (i + 2) = omega arith in
+    let c : i + 2 ≡ suc (i + 1) = omega arith in
+    let b : i + 1 ≡ suc i = omega arith in
+    let one : highest shelfStore (i + 1) s ≡ max (highest shelfStore i s) (slotAt s i .number) = ap (λ n. highest shelfStore n s) b in
+    let two : highest shelfStore (i + 2) s ≡ max (highest shelfStore (i + 1) s) (slotAt s (i + 1) .number) = ap (λ n. highest shelfStore n s) c in
+    let three : highest shelfStore (i + 3) s ≡ max (highest shelfStore (i + 2) s) (slotAt s (i + 2) .number) = ap (λ n. highest shelfStore n s) d in
+    let all : highest shelfStore (i + 4) s ≡ max (highest shelfStore (i + 3) s) (slotAt s (i + 3) .number) = ap (λ n. highest shelfStore n s) e in
+    (λ j. max (h j) (f j))
+    ∙ max-four (highest shelfStore i s) (slotAt s i .number) (slotAt s (i + 1) .number) (slotAt s (i + 2) .number) (slotAt s (i + 3) .number)
+    ∙ sym (all ∙ ap (λ x. max x (slotAt s (i + 3) .number)) (three ∙ ap (λ x. max x (slotAt s (i + 2) .number)) (two ∙ ap (λ x. max x (slotAt s (i + 1) .number)) one)))

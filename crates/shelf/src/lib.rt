@@ -1,5 +1,6 @@
 // The shelf: 64 slots of 74 bytes, each a number, a length and a body padded with zeros to 64 bytes; message n lies in slot n mod 64, and number 0 marks an empty slot.
 // Each function answers for a slice of any length, any slot and any body; a slot that is not there reads as an empty one and is not written.
+ghost use Prim.Native.Nat.{_+_, _≤_, max};
 ghost use mathlib.Core.Path.{_≡_};
 ghost use mathlib.Core.List.{[]};
 ghost use lib.ListN.{length, getD};
@@ -118,18 +119,31 @@ pub fn empty(s: &mut [u8], i: usize)
     wire::wipe(&mut s[at..at + SLOT]);
 }
 
+fn larger(a: u64, b: u64) -> u64
+    ensures { λ r. ⌜ r ≡ max a b ⌝ }
+{
+    if a < b { b } else { a }
+}
+
+// The largest number in four slots: of two pairs at once.
+fn highest_of_four(s: &[u8], i: usize) -> u64
+    requires { ⌜ i ≤ 60 ⌝ }
+    ensures { λ r. ⌜ r ≡ max (max (slotAt (now (s .entry)) i .number) (slotAt (now (s .entry)) (i + 1) .number)) (max (slotAt (now (s .entry)) (i + 2) .number) (slotAt (now (s .entry)) (i + 3) .number)) ⌝ }
+{
+    let a = larger(slot_number(s, i), slot_number(s, i + 1));
+    let b = larger(slot_number(s, i + 2), slot_number(s, i + 3));
+    larger(a, b)
+}
+
 // The largest number in any of the 64 slots, 0 if none.
 pub fn highest(s: &[u8]) -> u64
     ensures { λ r. ⌜ r ≡ highestNumber shelfStore 64 (now (s .entry)) ⌝ }
 {
     let mut top: u64 = 0;
     let mut i: usize = 0;
-    while i < 64 {
-        let n = slot_number(s, i);
-        if top < n {
-            top = n;
-        }
-        i += 1;
+    while i <= 60 {
+        top = larger(top, highest_of_four(s, i));
+        i += 4;
     }
     top
 }
