@@ -50,22 +50,22 @@ abbrev pub Numbered : ℕ → Type 0
 Numbered n = (n ≡ 0) ⊎ ((20 ≤ n) × (n ≤ 27))
 
 module _ (b : List ℕ) (k : Book) where
-  carried-broken : (p : Plan) → (carried p b k .rule ≡ 0 → ⊥) → carried p b k .after ≡ k
+  pub carried-broken : (p : Plan) → (carried p b k .rule ≡ 0 → ⊥) → carried p b k .after ≡ k
   unfolding carried
   carried-broken (Stop n) h = refl
   carried-broken (Go w) h = absurd (h refl)
 
-  carried-orders : (p : Plan) → length (carried p b k .after .orders) ≡ length (k .orders)
+  pub carried-orders : (p : Plan) → length (carried p b k .after .orders) ≡ length (k .orders)
   unfolding carried
   carried-orders (Stop n) = refl
   carried-orders (Go w) = committed-length (w .orders) (k .orders)
 
-  carried-symbols : (p : Plan) → length (carried p b k .after .symbols) ≡ length (k .symbols)
+  pub carried-symbols : (p : Plan) → length (carried p b k .after .symbols) ≡ length (k .symbols)
   unfolding carried
   carried-symbols (Stop n) = refl
   carried-symbols (Go w) = entered-length (w .symbols) b (k .symbols)
 
-  carried-numbers : {p : Plan} → Ruled p → Numbered (carried p b k .rule)
+  pub carried-numbers : {p : Plan} → Ruled p → Numbered (carried p b k .rule)
   unfolding carried
   carried-numbers (stops n l h) = inr (l, h)
   carried-numbers (goes w) = inl refl
@@ -185,7 +185,7 @@ module _ (n : ℕ) (b : List ℕ) (c : Clock) (f : Finds) where
   update-ruled (At i) = goes (works c RowWork.Keep (EntryWork.Put i))
   update-ruled Nothing = stops 26 (omega arith) (omega arith)
 
-  group-ruled : {m : Body} → Group m → Ruled (planBy m n b c f)
+  pub group-ruled : {m : Body} → Group m → Ruled (planBy m n b c f)
   unfolding planBy
   group-ruled (time s) = goes (works (clock s) RowWork.Keep EntryWork.Keep)
   group-ruled update = update-ruled (f .room (idOf b))
@@ -193,7 +193,7 @@ module _ (n : ℕ) (b : List ℕ) (c : Clock) (f : Finds) where
   group-ruled (other h) = subst Ruled (sym (other-idle h)) (goes (works c RowWork.Keep EntryWork.Keep))
   group-ruled (refused r) = stops 27 (omega arith) (omega arith)
 
-  group-bad : {m : Body} → Group m → (bodyNumber m ≡ 0 → ⊥) → planBy m n b c f ≡ Stop 27
+  pub group-bad : {m : Body} → Group m → (bodyNumber m ≡ 0 → ⊥) → planBy m n b c f ≡ Stop 27
   unfolding planBy
   group-bad (time s) h = absurd (h refl)
   group-bad update h = absurd (h refl)

@@ -1,4 +1,5 @@
 pub mod Plan
 pub mod Book
+pub mod Ledger
 pub mod Parts
 pub mod Tidy

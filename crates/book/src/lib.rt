@@ -1,25 +1,31 @@
 // One message applied to a book, or the rule that it breaks, with nothing changed. A message is planned first: each kind has one function from
 // what the searches found to a plan by value. Then the plan is committed, by one call a table. Every function answers for tables of any length
-// and content; sizes are judged by those who lend them (6).
+// and content, and for any index; sizes are judged by those who lend them (6).
+use body::Judged;
 use editions::Edition;
 use facts::Found;
 use fields::AddOrder;
-use fields::Body;
 use fields::DeleteOrder;
 use fields::ModifyOrder;
 use fields::OrderExecution;
 use fields::SymbolClear;
+use kinds::Kind;
 use orders::RowWork;
 use rows::Held;
 use rows::Row;
 use symbols::EntryWork;
+ghost use Prim.Native.Nat.{ℕ};
 ghost use mathlib.Core.Path.{_≡_};
+ghost use mathlib.Core.Bool.{true, false};
+ghost use mathlib.Core.List.{List};
+ghost use Rattle.fields.specs.Fields.{decoded};
 ghost use Rattle.rows.specs.Rows.{rows};
-ghost use Rattle.rows.specs.Find.{findFree};
 ghost use Rattle.symbols.specs.Entries.{entries, idOf};
-ghost use Rattle.symbols.specs.Find.{findSymbol, placeFor};
-ghost use Rattle.book.specs.Plan.{rowFor, onRows, idle, ofKnown, target, roomFor, addPlan, modifyPlan, deletePlan, executionPlan, clearPlan, updatePlan};
-ghost use Rattle.book.specs.Book.{orderIn, book, effect, planned, applied};
+ghost use Rattle.symbols.specs.Find.{placeFor};
+ghost use Rattle.engines.specs.Engines.{freeBy, entryBy};
+ghost use Rattle.book.specs.Plan.{rowFor, onRows, idle, ofKnown, target, roomFor, addPlan, modifyPlan, deletePlan, executionPlan, clearPlan, updatePlan, planBy};
+ghost use Rattle.book.specs.Book.{book};
+ghost use Rattle.book.specs.Ledger.{orderFor, looks, ledger, posting, namesOrder, devised, tried};
 
 // What a book has by value: the current second.
 pub struct Clock {
@@ -190,45 +196,10 @@ pub fn update_plan(clock: Clock, place: Found) -> Plan
 }
 
 // The order that stands under an ID.
-fn order_in(orders: &[u64], id: u64) -> Held
-    ensures { λ r. ⌜ r ≡ orderIn id (now (orders .entry)) ⌝ }
+fn order_in(orders: &[u64], index: &[u64], id: u64) -> Held
+    ensures { λ r. ⌜ r ≡ orderFor (now (index .entry)) id (now (orders .entry)) ⌝ }
 {
-    rows::held_at(orders, rows::find_order(orders, id))
-}
-
-fn on_add(orders: &[u64], symbols: &[u8], clock: Clock, m: AddOrder, number: u64) -> Plan
-    ensures { λ r. ⌜ r ≡ addPlan clock m number (findSymbol (m .symbol) (entries (now (symbols .entry)))) (orderIn (m .order) (now (orders .entry))) (findFree (rows (now (orders .entry)))) ⌝ }
-{
-    let entry = symbols::find_symbol(symbols, m.symbol);
-    let order = order_in(orders, m.order);
-    add_plan(clock, m, number, entry, order, rows::find_free(orders))
-}
-
-fn on_modify(orders: &[u64], symbols: &[u8], clock: Clock, m: ModifyOrder, number: u64) -> Plan
-    ensures { λ r. ⌜ r ≡ modifyPlan clock m number (findSymbol (m .symbol) (entries (now (symbols .entry)))) (orderIn (m .order) (now (orders .entry))) ⌝ }
-{
-    let entry = symbols::find_symbol(symbols, m.symbol);
-    modify_plan(clock, m, number, entry, order_in(orders, m.order))
-}
-
-fn on_delete(orders: &[u64], symbols: &[u8], clock: Clock, m: DeleteOrder) -> Plan
-    ensures { λ r. ⌜ r ≡ deletePlan clock m (findSymbol (m .symbol) (entries (now (symbols .entry)))) (orderIn (m .order) (now (orders .entry))) ⌝ }
-{
-    let entry = symbols::find_symbol(symbols, m.symbol);
-    delete_plan(clock, m, entry, order_in(orders, m.order))
-}
-
-fn on_execution(orders: &[u64], symbols: &[u8], clock: Clock, m: OrderExecution) -> Plan
-    ensures { λ r. ⌜ r ≡ executionPlan clock m (findSymbol (m .symbol) (entries (now (symbols .entry)))) (orderIn (m .order) (now (orders .entry))) ⌝ }
-{
-    let entry = symbols::find_symbol(symbols, m.symbol);
-    execution_plan(clock, m, entry, order_in(orders, m.order))
-}
-
-fn on_clear(symbols: &[u8], clock: Clock, m: SymbolClear) -> Plan
-    ensures { λ r. ⌜ r ≡ clearPlan clock m (findSymbol (m .symbol) (entries (now (symbols .entry)))) ⌝ }
-{
-    clear_plan(clock, m, symbols::find_symbol(symbols, m.symbol))
+    rows::held_at(orders, engines::find_order(orders, index, id))
 }
 
 fn on_update(symbols: &[u8], clock: Clock, body: &[u8]) -> Plan
@@ -237,50 +208,105 @@ fn on_update(symbols: &[u8], clock: Clock, body: &[u8]) -> Plan
     update_plan(clock, symbols::find_place(symbols, wire::u32_at(body, 5)))
 }
 
-// The plan of a message, by its number and its body, which is read by the edition; nothing is changed.
-pub fn plan_of(
-    e: Edition,
+fn names_order(k: Kind) -> bool
+    ensures { λ r. ⌜ r ≡ namesOrder k ⌝ }
+{
+    match k {
+        Kind::Add => true,
+        Kind::Modify => true,
+        Kind::Delete => true,
+        Kind::Execution => true,
+        _ => false,
+    }
+}
+
+// A message that names an order: symbol and order stand at one place in all four, and are searched for in one.
+fn plan_named(
+    k: Kind,
     orders: &[u64],
     symbols: &[u8],
+    index: &[u64],
     clock: Clock,
     number: u64,
     body: &[u8],
 ) -> Plan
-    ensures { λ r. ⌜ r ≡ planned e number (now (body .entry)) (book (now (orders .entry)) (now (symbols .entry)) clock) ⌝ }
+    requires { ⌜ namesOrder k ≡ true ⌝ }
+    ensures { λ r. ⌜ r ≡ planBy (decoded k (now (body .entry))) number (now (body .entry)) clock (looks (ledger (book (now (orders .entry)) (now (symbols .entry)) clock) (now (index .entry)))) ⌝ }
 {
-    match body::read_body(e, body) {
-        Body::SystemTime(second) => at_rest(Clock { second }),
-        Body::SymbolUpdate => on_update(symbols, clock, body),
-        Body::SystemState => at_rest(clock),
-        Body::TradingStatus(_) => at_rest(clock),
-        Body::SymbolClear(m) => on_clear(symbols, clock, m),
-        Body::Add(m) => on_add(orders, symbols, clock, m, number),
-        Body::Modify(m) => on_modify(orders, symbols, clock, m, number),
-        Body::Delete(m) => on_delete(orders, symbols, clock, m),
-        Body::Execution(m) => on_execution(orders, symbols, clock, m),
-        Body::Trade(_) => at_rest(clock),
-        Body::TradeCancel(_) => at_rest(clock),
-        Body::Bad(_) => Plan::Stop(27),
+    let entry = engines::find_entry(symbols, index, wire::u32_at(body, 5));
+    let order = order_in(orders, index, wire::u64_at(body, 9));
+    match k {
+        Kind::Add => {
+            let free = engines::find_free(orders, index);
+            add_plan(clock, fields::add_of(body), number, entry, order, free)
+        }
+        Kind::Modify => modify_plan(clock, fields::modify_of(body), number, entry, order),
+        Kind::Delete => delete_plan(clock, fields::delete_of(body), entry, order),
+        _ => execution_plan(clock, fields::execution_of(body), entry, order),
     }
 }
 
-// A message by its number and its body.
-pub fn apply(
-    e: Edition,
-    orders: &mut [u64],
-    symbols: &mut [u8],
+// A message that names none: no rule of it looks at an order.
+fn plan_other(k: Kind, symbols: &[u8], index: &[u64], clock: Clock, body: &[u8]) -> Plan
+    requires { ⌜ namesOrder k ≡ false ⌝ }
+    ensures { λ r. ⌜ ((orders : List ℕ) (number : ℕ) → r ≡ planBy (decoded k (now (body .entry))) number (now (body .entry)) clock (looks (ledger (book orders (now (symbols .entry)) clock) (now (index .entry))))) ⌝ }
+{
+    match k {
+        Kind::SystemTime => at_rest(Clock {
+            second: wire::u32_at(body, 1),
+        }),
+        Kind::SymbolUpdate => on_update(symbols, clock, body),
+        Kind::SymbolClear => {
+            let entry = engines::find_entry(symbols, index, wire::u32_at(body, 5));
+            clear_plan(clock, fields::clear_of(body), entry)
+        }
+        Kind::Unknown => Plan::Stop(27),
+        _ => at_rest(clock),
+    }
+}
+
+// The plan of a message of a kind, by its number and its body; nothing is changed.
+pub fn plan_kind(
+    k: Kind,
+    orders: &[u64],
+    symbols: &[u8],
+    index: &[u64],
     clock: Clock,
     number: u64,
     body: &[u8],
-) -> Applied
-    ensures { λ r. ⌜ effect (r .rule) (book (now (orders .exit)) (now (symbols .exit)) (r .clock)) ≡ applied e number (now (body .entry)) (book (now (orders .entry)) (now (symbols .entry)) clock) ⌝ }
+) -> Plan
+    ensures { λ r. ⌜ r ≡ planBy (decoded k (now (body .entry))) number (now (body .entry)) clock (looks (ledger (book (now (orders .entry)) (now (symbols .entry)) clock) (now (index .entry)))) ⌝ }
 {
-    match plan_of(e, orders, symbols, clock, number, body) {
+    if names_order(k) {
+        return plan_named(k, orders, symbols, index, clock, number, body);
+    }
+    plan_other(k, symbols, index, clock, body)
+}
+
+// A message of a kind is planned, and the plan carried out where that is wanted; else its rule alone is told, and nothing is changed.
+pub fn try_kind(
+    k: Kind,
+    orders: &mut [u64],
+    symbols: &mut [u8],
+    index: &mut [u64],
+    clock: Clock,
+    number: u64,
+    body: &[u8],
+    wanted: bool,
+) -> Applied
+    ensures { λ r. ⌜ posting (r .rule) (ledger (book (now (orders .exit)) (now (symbols .exit)) (r .clock)) (now (index .exit))) ≡ tried wanted (planBy (decoded k (now (body .entry))) number (now (body .entry)) clock (looks (ledger (book (now (orders .entry)) (now (symbols .entry)) clock) (now (index .entry))))) (now (body .entry)) (ledger (book (now (orders .entry)) (now (symbols .entry)) clock) (now (index .entry))) ⌝ }
+{
+    match plan_kind(k, orders, symbols, index, clock, number, body) {
         Plan::Stop(n) => Applied { rule: n, clock },
         Plan::Go(w) => {
+            if !wanted {
+                return Applied { rule: 0, clock };
+            }
             let after = w.clock;
             let on_orders = w.orders;
             let on_symbols = w.symbols;
+            engines::note(orders, index, on_orders);
+            engines::note_entry(index, on_symbols, body);
             orders::commit(orders, on_orders);
             symbols::commit(symbols, on_symbols, body);
             Applied {
@@ -291,19 +317,21 @@ pub fn apply(
     }
 }
 
-// The rule that a message would break, 0 for none; nothing is changed.
-pub fn rule_of(
+// A message by its number and its body, which is read by the edition: applied where that is wanted, else the rule that it would break.
+pub fn attempt(
     e: Edition,
-    orders: &[u64],
-    symbols: &[u8],
+    orders: &mut [u64],
+    symbols: &mut [u8],
+    index: &mut [u64],
     clock: Clock,
     number: u64,
     body: &[u8],
-) -> u8
-    ensures { λ r. ⌜ r ≡ applied e number (now (body .entry)) (book (now (orders .entry)) (now (symbols .entry)) clock) .rule ⌝ }
+    wanted: bool,
+) -> Applied
+    ensures { λ r. ⌜ posting (r .rule) (ledger (book (now (orders .exit)) (now (symbols .exit)) (r .clock)) (now (index .exit))) ≡ tried wanted (devised e number (now (body .entry)) (ledger (book (now (orders .entry)) (now (symbols .entry)) clock) (now (index .entry)))) (now (body .entry)) (ledger (book (now (orders .entry)) (now (symbols .entry)) clock) (now (index .entry))) ⌝ }
 {
-    match plan_of(e, orders, symbols, clock, number, body) {
-        Plan::Stop(n) => n,
-        Plan::Go(_) => 0,
+    match body::judge_body(e, body) {
+        Judged::Bad(_) => Applied { rule: 27, clock },
+        Judged::Good(k) => try_kind(k, orders, symbols, index, clock, number, body, wanted),
     }
 }
