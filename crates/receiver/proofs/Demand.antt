@@ -13,7 +13,7 @@ use Rattle.arbitration.proofs.Invariant.{every-copy}
 use Rattle.arbitration.proofs.Halves.{Made, Named, agree, start-ready, first-half, second-half}
 use Rattle.arbitration.proofs.Packets.{every-accepted, packets-run}
 use Rattle.receiver.specs.Parts.{Parts, engineOf}
-use Rattle.receiver.specs.Receiver.{Rx, Receiver, receivesAll}
+use Rattle.receiver.specs.Receiver.{Rx, Receiver, handled, receives, receivesAll}
 use Rattle.receiver.specs.Demand3.{Started, Given, MadeBy, Names, AnsweredTo, Demand3, partsCalls}
 use Rattle.receiver.proofs.PartsLaws.{PartsLaws, lawsOf}
 use Rattle.receiver.proofs.Accounts.{account-reports}
@@ -87,5 +87,5 @@ module _ (P : Parts) (L : PartsLaws P) (ms : List (List ℕ)) (b0 : P .rules .Bo
     second = λ k0 ps u g. second-of k0 ps g;
     agreement = λ k0 k0′ ps ps′ u u′ g g′ e. agree S E ms 0 b0 _ _ (made-so k0 ps g) (made-so k0′ ps′ g′) e;
     one-more = one-call-more P L;
-    reported = λ k k′ p a u e. account-reports P k k′ p a e;
+    reported = λ k0 ps p a u h e. let k = receivesAll P ps k0 in account-reports P k (receives P k p .after) p a (λ i. handled P (e i) (receives P k p .after));
   }

@@ -1,11 +1,14 @@
 pub mod PartsLaws
 pub mod Exits
+pub mod Direct
 pub mod Records
 pub mod Accounts
 pub mod Fits
 pub mod Demand
 pub mod Editions
 pub mod Real
+pub mod Along
+pub mod Engines
 pub mod Runs
 pub mod Undefined
 pub mod Nanoseconds

@@ -30,7 +30,7 @@ use Rattle.shelf.specs.Shelf.{slotAt, putSlot}
 use Rattle.shelf.specs.Store.{shelfStore}
 use Rattle.shelf.proofs.StoreLaws.{shelfLaws}
 use Rattle.receiver.specs.Receiver.{fit, receives, handledBy}
-use Rattle.receiver.specs.Lent.{bookEngine, real, Rx, Lent, handled, received, receivedAll}
+use Rattle.receiver.specs.Lent.{ledgerEngine, real, Rx, Lent, handled, received, receivedAll}
 use Rattle.receiver.specs.declared.Received.{Received}
 use Rattle.receiver.proofs.Accounts.{refused-lost}
 use Rattle.receiver.proofs.Editions.{calls-keep}
@@ -66,24 +66,24 @@ never-listed ed ms w i l p = omega (arith, p .larger, listed-in-second ed ms w i
 -- ---- "A slot for next that holds .. no good body stops with 27": one that the caller altered so, for any tables and shelf
 module _ (ed : Edition) (r : Rx) where
   abbrev here : Slot
-  here = slotOf shelfStore (bookEngine ed) r (r .next)
+  here = slotOf shelfStore (ledgerEngine ed) r (r .next)
 
-  past-stuck : 1 ≤ r .next → here .number ≡ r .next → PastSecond (slotBody here) → try shelfStore (bookEngine ed) r ≡ stuck 27
-  past-stuck l e p = try-bad shelfStore (bookEngine ed) r (λ z. omega (arith, z, e)) e (slot-bad (bookEngine ed) here (past-bad ed (slotBody here) p))
+  past-stuck : 1 ≤ r .next → here .number ≡ r .next → PastSecond (slotBody here) → try shelfStore (ledgerEngine ed) r ≡ stuck 27
+  past-stuck l e p = try-bad shelfStore (ledgerEngine ed) r (λ z. omega (arith, z, e)) e (slot-bad (ledgerEngine ed) here (past-bad ed (slotBody here) p))
 
-  pub past-stops : 1 ≤ r .next → here .number ≡ r .next → PastSecond (slotBody here) → stop shelfStore (bookEngine ed) r ≡ 27
-  past-stops l e p = stop-stuck shelfStore (bookEngine ed) r 27 (past-stuck l e p)
+  pub past-stops : 1 ≤ r .next → here .number ≡ r .next → PastSecond (slotBody here) → stop shelfStore (ledgerEngine ed) r ≡ 27
+  past-stops l e p = stop-stuck shelfStore (ledgerEngine ed) r 27 (past-stuck l e p)
 
   -- and nothing is worked behind it
-  pub past-waits : 1 ≤ r .next → here .number ≡ r .next → PastSecond (slotBody here) → (turns : ℕ) → drain shelfStore (bookEngine ed) turns r ≡ r
-  past-waits l e p turns = drain-stuck shelfStore (bookEngine ed) r 27 (past-stuck l e p) turns
+  pub past-waits : 1 ≤ r .next → here .number ≡ r .next → PastSecond (slotBody here) → (turns : ℕ) → drain shelfStore (ledgerEngine ed) turns r ≡ r
+  past-waits l e p turns = drain-stuck shelfStore (ledgerEngine ed) r 27 (past-stuck l e p) turns
 
 -- such a slot: one for next with such a body in it, as a record is shelved, on any shelf of the right size
-pub past-laid : (ed : Edition) (r : Rx) (b : List ℕ) → length (r .shelf) ≡ shelfSize → 1 ≤ r .next → r .next ≤ lastNumber → PastSecond b → stop shelfStore (bookEngine ed) (shelved shelfStore (bookEngine ed) (rec (r .next) b) r) ≡ 27
+pub past-laid : (ed : Edition) (r : Rx) (b : List ℕ) → length (r .shelf) ≡ shelfSize → 1 ≤ r .next → r .next ≤ lastNumber → PastSecond b → stop shelfStore (ledgerEngine ed) (shelved shelfStore (ledgerEngine ed) (rec (r .next) b) r) ≡ 27
 past-laid ed r b o l m p =
     let c : Rec = rec (r .next) b in
     let short : length b ≤ 64 = omega (arith, framed-is b (p .whole) .most) in
     let x : Slot = slotFor (r .next) b in
     let at : slotAt (putSlot (r .shelf) (r .next % 64) x) (r .next % 64) ≡ x = shelfLaws .get-same (r .shelf) (r .next % 64) x o (slot-lt (r .next)) (bounded-fits c (record { number-to = m; short = short })) in
-    past-stops ed (shelved shelfStore (bookEngine ed) c r) l (ap (λ (y : Slot). y .number) at)
+    past-stops ed (shelved shelfStore (ledgerEngine ed) c r) l (ap (λ (y : Slot). y .number) at)
     (subst PastSecond (sym (ap slotBody at ∙ body-back (r .next) b short)) p)

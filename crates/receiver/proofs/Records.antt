@@ -1,20 +1,25 @@
 -- One record of a packet, and the loop over a packet's records: what is left of the records, from here, gives the end.
 -- Assumes nothing.
 use Prim.Native.Nat.{ℕ, _+_, _≤_, _<_}
-use mathlib.Core.Path.{_≡_, sym, ap, _∙_}
+use mathlib.Core.Path.{_≡_, sym, ap, subst, _∙_}
 use mathlib.Core.List.{List}
 use native.Mathlib.Omega.{arith}
 use lib.ListN.{length, drop}
 use Rattle.facts.specs.Limits.{packetMost}
 use Rattle.editions.specs.declared.Edition.{Edition}
+use mathlib.Core.Bool.{true}
+use Rattle.body.specs.Read.{goodBody}
+use Rattle.body.proofs.Laws.{good-fits}
 use Rattle.packet.specs.Record.{headOf, bodyOf, recOf}
 use Rattle.packet.specs.declared.Head.{Head}
 use Rattle.packet.specs.Packet.{framesFrom, framing}
+use Rattle.packet.proofs.Laws.{GoodRec}
 use Rattle.packet.proofs.Good.{Step, step, step-end, framing-size}
 use Rattle.arbitration.specs.Engine.{Engine, Store}
 use Rattle.arbitration.specs.Receive.{State, recordsOf, judged, acted}
 use Rattle.arbitration.specs.Receive as theory
 use Rattle.arbitration.specs.Loops.{counted, total, Working, working, work}
+use Rattle.arbitration.specs.Lists.{Bounded}
 use Rattle.arbitration.specs.declared.Counts.{Counts}
 use Rattle.arbitration.proofs.Answers.{after-next}
 use Rattle.arbitration.proofs.Tallies.{working-of, work-step, work-end}
@@ -47,6 +52,14 @@ module _ (S : Store) (E : Engine) where
       let t : total (w′ .counts) ≡ total (counted (judged S E c (w .rx)) (w .counts)) = ap (λ (x : W). total (x .counts)) e in
       (omega (arith, after-next S E c (w .rx) .1), omega (arith, counted-total (judged S E c (w .rx)) (w .counts)))
 
+-- the record that the code read at a place
+pub same-record : (p : List ℕ) (at : ℕ) (h : Head) (b : List ℕ) → h ≡ headOf (drop at p) → b ≡ bodyOf (drop at p) → rec (h .number) b ≡ recOf (drop at p)
+same-record p at h b e f = λ i. record { number = e i .number; body = f i }
+
+-- a good record fits a slot, its number at most the last
+pub good-bounded : (ed : Edition) (c : Rec) → GoodRec ed c → Bounded c
+good-bounded ed c g = record { number-to = g .number-to; short = omega (arith, good-fits ed (c .body) (g .body-good) .most) }
+
 -- the records that are left from a place on
 unfoldable pub leftFrom : (ed : Edition) → List ℕ → ℕ → List Rec
 leftFrom ed p at = recordsOf (framesFrom ed (length p) (drop at p))
@@ -72,6 +85,12 @@ module _ (ed : Edition) (p : List ℕ) (at n : ℕ) (inside-p : at < length p) (
   pub next-frames : framesFrom ed (length p) (drop (at + (10 + n)) p) ≡ records (leftFrom ed p (at + (10 + n)))
   next-frames = behind-is ∙ ap records (sym left-is)
 
+  -- what a record of a good packet needs to be taken
+  pub next-good : (h : Head) (b : List ℕ) → h ≡ headOf (drop at p) → b ≡ bodyOf (drop at p) → (1 ≤ h .number) × Bounded (rec (h .number) b) × (goodBody ed b ≡ true)
+  next-good h b e f =
+      let g : GoodRec ed (rec (h .number) b) = subst (GoodRec ed) (sym (same-record p at h b e f)) (walk .good) in
+      (g .number-from, good-bounded ed (rec (h .number) b) g, g .body-good)
+
   module _ (S : Store) (E : Engine) where
     pub next-works : (w w′ end : Working S E) → work S E (leftFrom ed p at) w ≡ end → w′ ≡ working S E (recOf (drop at p)) w → work S E (leftFrom ed p (at + (10 + n))) w′ ≡ end
     next-works w w′ end v u =
@@ -88,7 +107,3 @@ first-frames ed p g =
 -- its end
 pub last-works : (ed : Edition) (S : Store) (E : Engine) (p : List ℕ) (at : ℕ) → length p ≤ at → framesFrom ed (length p) (drop at p) ≡ records (leftFrom ed p at) → (w end : Working S E) → work S E (leftFrom ed p at) w ≡ end → w ≡ end
 last-works ed S E p at h f w end v = work-end S E w end (ap (λ cs. work S E cs w) (sym (step-end ed p at (leftFrom ed p at) h f)) ∙ v)
-
--- the record that the code read at a place
-pub same-record : (p : List ℕ) (at : ℕ) (h : Head) (b : List ℕ) → h ≡ headOf (drop at p) → b ≡ bodyOf (drop at p) → rec (h .number) b ≡ recOf (drop at p)
-same-record p at h b e f = λ i. record { number = e i .number; body = f i }

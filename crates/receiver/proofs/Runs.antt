@@ -1,4 +1,4 @@
--- From a start, for whole runs of the real receiver: what each applied message keeps of the book, every call of `receive` keeps, since a run applies good messages that are
+-- From a start, for whole runs of the real receiver, with an index or without: what each applied message keeps of the book, every call of `receive` keeps, since a run applies good messages that are
 -- numbered from 1 and made of bytes.
 -- Assumes nothing.
 use Prim.Native.Nat.{ℕ, suc, _+_, _-_, _≤_}
@@ -14,6 +14,7 @@ use Rattle.wire.specs.Records.{Rec, bad, records}
 use Rattle.wire.proofs.Bytewise.{bytes-zeros}
 use Rattle.packet.specs.Packet.{Framing, framing}
 use Rattle.packet.proofs.PacketBytes.{AllBytes, Bytewise, framing-bytes}
+use Rattle.engines.specs.Engines.{goodIndex}
 use Rattle.book.specs.Book.{Book}
 use Rattle.book.specs.Plan.{clock}
 use Rattle.book.specs.Tidy.{Tidy, usedIds, firstUse}
@@ -26,14 +27,17 @@ use Rattle.arbitration.proofs.Carried.{start-carried, packets-hold}
 use Rattle.arbitration.proofs.Packets.{every-append}
 use Rattle.shelf.specs.Store.{shelfStore}
 use Rattle.shelf.proofs.Laws.{zeros-empty}
-use Rattle.receiver.specs.Receiver.{Rx}
+use Rattle.receiver.specs.Receiver.{Keeps, Rx}
 use Rattle.receiver.specs.Demand3.{Given, MadeBy}
-use Rattle.receiver.specs.Lent.{sizesOk, bookRules, bookEngine, real, Lent, receivedAll, fresh, zeroBook}
+use Rattle.receiver.specs.Lent.{sizesOk, bookRules, bookEngine, plain, Lent, plainOf, receivedAll, fresh, zeroBook}
 use Rattle.receiver.specs.Order.{firstUses}
 use Rattle.receiver.proofs.PartsLaws.{lawsOf, applied-shows, applied-rule}
 use Rattle.receiver.proofs.Fits.{all-received, start-fit}
-use Rattle.receiver.proofs.Editions.{calls-keep}
-use Rattle.receiver.proofs.Real.{realLaws, framing-bounded, fresh-started, calls-demand}
+use Rattle.receiver.proofs.Real.{plainLaws, framing-bounded, fresh-started, rows-sized, sizes-are}
+use Rattle.receiver.proofs.Engines.{runs-follow, zero-sure, fresh-begins, calls-demand}
+
+abbrev Plainly : Type 0
+Plainly = Keeps (List ℕ) Book
 
 -- ---- packets hold bytes
 both-known : (cs : List Rec) → Every Bounded cs → AllBytes cs → Every Sent cs
@@ -56,21 +60,23 @@ all-sent ed (p ∷ ps) h = every-append Sent (recordsOf (framing ed p)) (accepte
 module _ (ed : Edition)
     (P : Book → Type 0)
     (keeps : (n : ℕ) (b : List ℕ) (k : Book) → 1 ≤ n → Bytes b → bookRules ed .good b ≡ true → bookRules ed .rule n b k ≡ 0 → P k → P (bookRules ed .after n b k))
-    (o s h : ℕ) (sizes : sizesOk o s h ≡ true) (zeroed : P (zeroBook o s)) where
+    (o s h i : ℕ) (sizes : sizesOk o s h i ≡ true) (zeroed : P (zeroBook o s)) where
   applying : (n : ℕ) (b : List ℕ) (x y : Book) → 1 ≤ n → Bytes b → bookRules ed .good b ≡ true → bookEngine ed .apply n b x ≡ ok y → P x → P y
   applying n b x y l c g e p = subst P (sym (applied-shows (bookRules ed) n b x y e)) (keeps n b x l c g (applied-rule (bookRules ed) n b x y e) p)
 
-  pub run-keeps-book : (ps : List (List ℕ)) → Every Bytes ps → P (receivedAll ps (fresh ed o s h) .rx .book)
+  pub run-keeps-book : (ps : List (List ℕ)) → Every Bytes ps → P (receivedAll ps (fresh ed o s h i) .rx .book .plain)
   run-keeps-book ps c =
-      let began = fresh-started ed o s h sizes in
-      let start = start-carried shelfStore (bookEngine ed) (lawsOf (real ed) (realLaws ed)) (zeroBook o s) (fresh ed o s h .rx) (began .zeroed) (λ i l. rw (zeros-empty h i) (bytes-zeros 64)) in
-      subst (λ (k : Lent). P (k .rx .book)) (sym (calls-keep ps (fresh ed o s h)))
-      (subst (λ (r : Rx (real ed)). P (r .book)) (sym (all-received (real ed) (realLaws ed) ps (fresh ed o s h) (start-fit (real ed) (realLaws ed) (zeroBook o s) (fresh ed o s h) began)))
-      (packets-hold shelfStore (bookEngine ed) (lawsOf (real ed) (realLaws ed)) P applying (framing ed) ps (fresh ed o s h .rx) (all-sent ed ps c) (record { carried = start; holds = zeroed }) .holds))
+      let g = sizes-are o s h i sizes in
+      let k0 = plainOf (fresh ed o s h i) in
+      let began = fresh-started ed o s h i (g .0) in
+      let start = start-carried shelfStore (bookEngine ed) (lawsOf (plain ed) (plainLaws ed)) (zeroBook o s) (k0 .rx) (began .zeroed) (λ j l. rw (zeros-empty h j) (bytes-zeros 64)) in
+      subst (λ (k : Plainly). P (k .rx .book)) (sym (runs-follow ed ps (fresh ed o s h i) refl (zero-sure o s i (rows-sized o s h (g .0)) (g .1)) .0))
+      (subst (λ (r : Rx (plain ed)). P (r .book)) (sym (all-received (plain ed) (plainLaws ed) ps k0 (start-fit (plain ed) (plainLaws ed) (zeroBook o s) k0 began)))
+      (packets-hold shelfStore (bookEngine ed) (lawsOf (plain ed) (plainLaws ed)) P applying (framing ed) ps (k0 .rx) (all-sent ed ps c) (record { carried = start; holds = zeroed }) .holds))
 
 -- no row is spoiled; live order IDs are unique; used symbol entries have distinct IDs and lie in front
-pub run-tidy : (ed : Edition) (o s h : ℕ) → sizesOk o s h ≡ true → (ps : List (List ℕ)) → Every Bytes ps → Tidy (receivedAll ps (fresh ed o s h) .rx .book)
-run-tidy ed o s h sizes ps c = run-keeps-book ed Tidy (λ n b k l y g z t. tidy-kept ed n b k l y z t) o s h sizes (tidy-zero o s (clock 0)) ps c
+pub run-tidy : (ed : Edition) (o s h i : ℕ) → sizesOk o s h i ≡ true → (ps : List (List ℕ)) → Every Bytes ps → Tidy (receivedAll ps (fresh ed o s h i) .rx .book .plain)
+run-tidy ed o s h i sizes ps c = run-keeps-book ed Tidy (λ n b k l y g z t. tidy-kept ed n b k l y z t) o s h i sizes (tidy-zero o s (clock 0)) ps c
 
 -- ---- "in order of first use"
 uses-last : (ed : Edition) (ms : List (List ℕ)) (m : List ℕ) (ids : List ℕ) → firstUses ed (ms ++ (m ∷ [])) ids ≡ firstUse ed m (firstUses ed ms ids)
@@ -106,8 +112,9 @@ module _ (ed : Edition) (ms : List (List ℕ)) (bytes : (n : ℕ) → Bytes (msg
   made-ordered k x l e =
       made-keeps (bookEngine ed) ms 0 (zeroBook o s) Ordered (record { tidy = tidy-zero o s (clock 0); ids-are = ids-zero o s (clock 0) }) one-more k x (omega arith) e
 
-  pub run-ordered : (h : ℕ) (ps : List (List ℕ)) → Given (real ed) ms (zeroBook o s) (fresh ed o s h) ps
-      → usedIds (receivedAll ps (fresh ed o s h) .rx .book) ≡ firstUses ed (take (receivedAll ps (fresh ed o s h) .rx .next - 1) ms) []
-  run-ordered h ps g =
-      let m : MadeBy (real ed) ms (zeroBook o s) (receivedAll ps (fresh ed o s h)) = calls-demand ed ms o s .first (fresh ed o s h) ps refl g in
-      made-ordered (receivedAll ps (fresh ed o s h) .rx .next - 1) (receivedAll ps (fresh ed o s h) .rx .book) (m .in-list) (m .tables-are) .ids-are
+  pub run-ordered : (h i : ℕ) → goodIndex i ≡ true → (ps : List (List ℕ)) → Given (plain ed) ms (zeroBook o s) (plainOf (fresh ed o s h i)) ps
+      → usedIds (receivedAll ps (fresh ed o s h i) .rx .book .plain) ≡ firstUses ed (take (receivedAll ps (fresh ed o s h i) .rx .next - 1) ms) []
+  run-ordered h i x ps g =
+      let k : Lent = receivedAll ps (fresh ed o s h i) in
+      let m : MadeBy (plain ed) ms (zeroBook o s) (plainOf k) = calls-demand ed ms o s .first (fresh ed o s h i) ps (fresh-begins ed o s h i x) g in
+      made-ordered (k .rx .next - 1) (k .rx .book .plain) (m .in-list) (m .tables-are) .ids-are

@@ -9,7 +9,7 @@ use Rattle.arbitration.specs.Engine.{ok, broke}
 use Rattle.arbitration.specs.Receive.{recordsOf, accepted, said, countsOf}
 use Rattle.arbitration.specs.Lists.{WellFormed, Copies, Answered, made, Zeroed}
 use Rattle.receiver.specs.Parts.{Parts, engineOf}
-use Rattle.receiver.specs.Receiver.{Receiver, Handled, receives, receivesAll, handled}
+use Rattle.receiver.specs.Receiver.{Receiver, receives, receivesAll}
 use Rattle.receiver.specs.declared.Account.{Account}
 use Rattle.receiver.specs.declared.Received.{Received}
 
@@ -50,27 +50,32 @@ module _ (P : Parts) where
     pub stop-is : a .stop ≡ k′ .stop
     pub counts-are : a .counts ≡ countsOf (said (P .store) (engineOf (P .rules)) (recordsOf (P .frame p)) (k .rx))
 
-  -- the calls of which it is said: the receivers that they may start with, what one call does with a packet, and what a call for each packet does
+  -- the calls of which it is said: the receivers that are called; what of one the demand speaks of; those that a run may start with; what a call with a packet answers and
+  -- leaves; and what a call for each packet leaves
   pub record Calls : Type 1 where
-    pub begins : Receiver P → Type 0
-    pub call : Receiver P → List ℕ → Handled P
-    pub calls : List (List ℕ) → Receiver P → Receiver P
+    pub Kept : Type 0
+    pub seen : Kept → Receiver P
+    pub begins : Kept → Type 0
+    pub answers : Kept → List ℕ → Received
+    pub leaves : Kept → List ℕ → Kept
+    pub calls : List (List ℕ) → Kept → Kept
 
   pub record Demand3 (C : Calls) (ms : List (List ℕ)) (b0 : P .rules .Book) : Type 0 where
     -- "After each accepted packet": ps are any packets, so this holds after each one of a run
-    pub first : (k0 : Receiver P) (ps : List (List ℕ)) → C .begins k0 → Given ms b0 k0 ps → MadeBy ms b0 (C .calls ps k0)
+    pub first : (k0 : C .Kept) (ps : List (List ℕ)) → C .begins k0 → Given ms b0 (C .seen k0) ps → MadeBy ms b0 (C .seen (C .calls ps k0))
     -- "If every number up to j was answered as taken, repeated or old, then k is at least j, or the receiver names message k + 1"
-    pub second : (k0 : Receiver P) (ps : List (List ℕ)) → C .begins k0 → Given ms b0 k0 ps → (j : ℕ) → AnsweredTo j ps k0
-        → (j ≤ C .calls ps k0 .rx .next - 1) ⊎ Names ms b0 (C .calls ps k0)
+    pub second : (k0 : C .Kept) (ps : List (List ℕ)) → C .begins k0 → Given ms b0 (C .seen k0) ps → (j : ℕ) → AnsweredTo j ps (C .seen k0)
+        → (j ≤ C .seen (C .calls ps k0) .rx .next - 1) ⊎ Names ms b0 (C .seen (C .calls ps k0))
     -- "Two such receivers on one list, with equal capacities and equal k, agree in these three": one b0, so equal capacities
-    pub agreement : (k0 k0′ : Receiver P) (ps ps′ : List (List ℕ)) → C .begins k0 → C .begins k0′ → Given ms b0 k0 ps → Given ms b0 k0′ ps′
-        → C .calls ps k0 .rx .next ≡ C .calls ps′ k0′ .rx .next
-        → C .calls ps k0 .rx .book ≡ C .calls ps′ k0′ .rx .book
+    pub agreement : (k0 k0′ : C .Kept) (ps ps′ : List (List ℕ)) → C .begins k0 → C .begins k0′ → Given ms b0 (C .seen k0) ps → Given ms b0 (C .seen k0′) ps′
+        → C .seen (C .calls ps k0) .rx .next ≡ C .seen (C .calls ps′ k0′) .rx .next
+        → C .seen (C .calls ps k0) .rx .book ≡ C .seen (C .calls ps′ k0′) .rx .book
     -- "each": one packet more is one call more, so that all of this is said of the receiver after each call of a run
-    pub one-more : (k0 : Receiver P) (ps : List (List ℕ)) (p : List ℕ) → C .calls (ps ++ (p ∷ [])) k0 ≡ C .call (C .calls ps k0) p .after
+    pub one-more : (k0 : C .Kept) (ps : List (List ℕ)) (p : List ℕ) → C .calls (ps ++ (p ∷ [])) k0 ≡ C .leaves (C .calls ps k0) p
     -- "the next number it reports", the rule that it names, and how many records were answered in each way: an accepted packet's account tells them
-    pub reported : (k k′ : Receiver P) (p : List ℕ) (a : Account) → C .begins k → C .call k p ≡ handled P (Received.Accepted a) k′ → Reported k p a k′
+    pub reported : (k0 : C .Kept) (ps : List (List ℕ)) (p : List ℕ) (a : Account) → C .begins k0 → Started b0 (C .seen k0) → C .answers (C .calls ps k0) p ≡ Received.Accepted a
+        → Reported (C .seen (C .calls ps k0)) p a (C .seen (C .leaves (C .calls ps k0) p))
 
   -- the calls of a receiver of these parts
   abbrev pub partsCalls : Calls
-  partsCalls = record { begins = λ k. Unit {0}; call = receives P; calls = receivesAll P }
+  partsCalls = record { Kept = Receiver P; seen = λ k. k; begins = λ k. Unit {0}; answers = λ k p. receives P k p .answer; leaves = λ k p. receives P k p .after; calls = receivesAll P }

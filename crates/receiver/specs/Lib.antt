@@ -5,3 +5,4 @@ pub mod Lent
 pub mod Chosen
 pub mod Order
 pub mod Undefined
+pub mod Engines

@@ -1,40 +1,68 @@
--- Each exit is one law of Exits over the values that the calls answered.
--- Assumes nothing.
-use mathlib.Core.Path.{sym, ap, _∙_}
+use mathlib.Core.Path.{refl, sym, ap, _∙_}
+use Rattle.book.proofs.Laws.{tried-told}
 use native.Mathlib.Omega.{arith}
 use Prim.Native.Nat.{ℕ}
 use mathlib.Core.List.{List}
-use Rattle.book.specs.Book.{book, applied}
+use Rattle.book.specs.Book.{book}
+use Rattle.book.specs.Ledger.{Posting, ledger, posted}
 use Rattle.receiver.specs.Lent.{real}
 use Rattle.receiver.proofs.Exits.{stops-empty, stops-other, stops-long, stops-rule}
 use Rattle.receiver.proofs.Real.{realLaws}
 use borrow.Author.Needs.{needs}
 use Rattle.receiver.proofs.stop_at.Statement.{statement}
 use Rattle.receiver.proofs.stop_at.Tie as tie
+use Rattle.receiver.proofs.stop_at.Reads as reads
+use Rattle.receiver.proofs.stop_at.Lts as lts
+use Rattle.book.proofs.attempt.Reads as attempt-reads
+use Rattle.shelf.proofs.slot_body.Reads as slot-body-reads
+use Rattle.shelf.proofs.slot_len.Reads as slot-len-reads
+use Rattle.shelf.proofs.slot_number.Reads as slot-number-reads
 
+-- src/lib.rt:356:9
 slot-number-requires : tie.Need-slot-number-requires
 slot-number-requires c κs = search needs
 
+-- src/lib.rt:358:9
 returns : tie.Need-returns
-returns c = stops-empty (real (c .before .before .before .before .before .args .e)) (realLaws (c .before .before .before .before .before .args .e)) (c .before .before .before .before .before .args .at .next) (book (c .before .before .before .before .before .args .orders .now) (c .before .before .before .before .before .args .symbols .now) (c .before .before .before .before .before .args .at .clock)) (c .before .before .before .before .before .args .shelf .now) (sym (c .before .slot-number .ensures) ∙ c .if1 .taken)
+returns c = (stops-empty (real (c .before .before .before .before .before .before .args .e)) (realLaws (c .before .before .before .before .before .before .args .e)) (c .before .before .before .before .before .before .args .at .next) (ledger (book (c .before .before .before .before .before .before .args .orders .now) (c .before .before .before .before .before .before .args .symbols .now) (c .before .before .before .before .before .before .args .at .clock)) (c .before .before .before .before .before .before .args .index .now)) (c .before .before .before .before .before .before .args .shelf .now) (sym (c .before .slot-number .ensures) ∙ c .if1 .taken), refl, refl, refl)
 
+-- src/lib.rt:361:9
 returns-2 : tie.Need-returns-2
-returns-2 c = stops-other (real (c .before .before .before .before .before .before .args .e)) (realLaws (c .before .before .before .before .before .before .args .e)) (c .before .before .before .before .before .before .args .at .next) (book (c .before .before .before .before .before .before .args .orders .now) (c .before .before .before .before .before .before .args .symbols .now) (c .before .before .before .before .before .before .args .at .clock)) (c .before .before .before .before .before .before .args .shelf .now) (λ z. c .before .if1 .left (c .before .before .slot-number .ensures ∙ z)) (λ z. c .if2 .taken (c .before .before .slot-number .ensures ∙ z))
+returns-2 c = (stops-other (real (c .before .before .before .before .before .before .before .args .e)) (realLaws (c .before .before .before .before .before .before .before .args .e)) (c .before .before .before .before .before .before .before .args .at .next) (ledger (book (c .before .before .before .before .before .before .before .args .orders .now) (c .before .before .before .before .before .before .before .args .symbols .now) (c .before .before .before .before .before .before .before .args .at .clock)) (c .before .before .before .before .before .before .before .args .index .now)) (c .before .before .before .before .before .before .before .args .shelf .now) (λ z. c .before .if1 .left (c .before .before .slot-number .ensures ∙ z)) (λ z. c .if2 .taken (c .before .before .slot-number .ensures ∙ z)), refl, refl, refl)
 
+-- src/lib.rt:363:13
 slot-len-requires : tie.Need-slot-len-requires
 slot-len-requires c κs = search needs
 
+-- src/lib.rt:364:9
 returns-3 : tie.Need-returns-3
-returns-3 c = stops-long (real (c .before .before .before .before .before .before .before .before .args .e)) (realLaws (c .before .before .before .before .before .before .before .before .args .e)) (c .before .before .before .before .before .before .before .before .args .at .next) (book (c .before .before .before .before .before .before .before .before .args .orders .now) (c .before .before .before .before .before .before .before .before .args .symbols .now) (c .before .before .before .before .before .before .before .before .args .at .clock)) (c .before .before .before .before .before .before .before .before .args .shelf .now) (λ z. c .before .before .before .if1 .left (c .before .before .before .before .slot-number .ensures ∙ z)) (sym (c .before .before .before .before .slot-number .ensures) ∙ c .before .before .if2 .left) (omega (arith, c .before .slot-len .ensures))
+returns-3 c = (stops-long (real (c .before .before .before .before .before .before .before .before .before .args .e)) (realLaws (c .before .before .before .before .before .before .before .before .before .args .e)) (c .before .before .before .before .before .before .before .before .before .args .at .next) (ledger (book (c .before .before .before .before .before .before .before .before .before .args .orders .now) (c .before .before .before .before .before .before .before .before .before .args .symbols .now) (c .before .before .before .before .before .before .before .before .before .args .at .clock)) (c .before .before .before .before .before .before .before .before .before .args .index .now)) (c .before .before .before .before .before .before .before .before .before .args .shelf .now) (λ z. c .before .before .before .if1 .left (c .before .before .before .before .slot-number .ensures ∙ z)) (sym (c .before .before .before .before .slot-number .ensures) ∙ c .before .before .if2 .left) (omega (arith, c .before .slot-len .ensures)), refl, refl, refl)
 
+-- src/lib.rt:374:9
 slot-body-requires : tie.Need-slot-body-requires
 slot-body-requires c κs = search needs
 
-rule-of-requires : tie.Need-rule-of-requires
-rule-of-requires c κs = search needs
+-- src/lib.rt:367:9
+attempt-requires : tie.Need-attempt-requires
+attempt-requires c κs = search needs
 
+-- src/lib.rt:344:1
+same-length : tie.Need-same-length
+same-length c = search needs
+
+-- src/lib.rt:344:1
+same-length-2 : tie.Need-same-length-2
+same-length-2 c = search needs
+
+-- src/lib.rt:344:1
+same-length-3 : tie.Need-same-length-3
+same-length-3 c = search needs
+
+-- src/lib.rt:344:1
 returns-4 : tie.Need-returns-4
-returns-4 c = c .rule-of .ensures ∙ ap (λ (b : List ℕ). applied (c .before .before .before .before .before .before .before .before .before .before .before .args .e) (c .before .before .before .before .before .before .before .before .before .before .before .args .at .next) b (book (c .before .before .before .before .before .before .before .before .before .before .before .args .orders .now) (c .before .before .before .before .before .before .before .before .before .before .before .args .symbols .now) (c .before .before .before .before .before .before .before .before .before .before .before .args .at .clock)) .rule) (c .before .slot-body .ensures) ∙ stops-rule (real (c .before .before .before .before .before .before .before .before .before .before .before .args .e)) (realLaws (c .before .before .before .before .before .before .before .before .before .before .before .args .e)) (c .before .before .before .before .before .before .before .before .before .before .before .args .at .next) (book (c .before .before .before .before .before .before .before .before .before .before .before .args .orders .now) (c .before .before .before .before .before .before .before .before .before .before .before .args .symbols .now) (c .before .before .before .before .before .before .before .before .before .before .before .args .at .clock)) (c .before .before .before .before .before .before .before .before .before .before .before .args .shelf .now) (λ z. c .before .before .before .before .before .before .if1 .left (c .before .before .before .before .before .before .before .slot-number .ensures ∙ z)) (sym (c .before .before .before .before .before .before .before .slot-number .ensures) ∙ c .before .before .before .before .before .if2 .left) (omega (arith, c .before .before .before .before .slot-len .ensures))
+returns-4 c =
+    let told = c .before .before .before .before .before .before .attempt .ensures ∙ tried-told (c .before .before .before .before .before .before .before .before .before .before .before .before .before .before .before .before .before .before .before .before .before .args .e) (c .before .before .before .before .before .before .before .before .before .before .before .before .before .before .before .before .before .before .before .before .before .args .at .next) _ (ledger (book (c .before .before .before .before .before .before .before .before .before .before .before .before .before .before .before .before .before .before .before .before .before .args .orders .now) (c .before .before .before .before .before .before .before .before .before .before .before .before .before .before .before .before .before .before .before .before .before .args .symbols .now) (c .before .before .before .before .before .before .before .before .before .before .before .before .before .before .before .before .before .before .before .before .before .args .at .clock)) (c .before .before .before .before .before .before .before .before .before .before .before .before .before .before .before .before .before .before .before .before .before .args .index .now)) in
+    (ap (λ (x : Posting). x .rule) told ∙ ap (λ (b : List ℕ). posted (c .before .before .before .before .before .before .before .before .before .before .before .before .before .before .before .before .before .before .before .before .before .args .e) (c .before .before .before .before .before .before .before .before .before .before .before .before .before .before .before .before .before .before .before .before .before .args .at .next) b (ledger (book (c .before .before .before .before .before .before .before .before .before .before .before .before .before .before .before .before .before .before .before .before .before .args .orders .now) (c .before .before .before .before .before .before .before .before .before .before .before .before .before .before .before .before .before .before .before .before .before .args .symbols .now) (c .before .before .before .before .before .before .before .before .before .before .before .before .before .before .before .before .before .before .before .before .before .args .at .clock)) (c .before .before .before .before .before .before .before .before .before .before .before .before .before .before .before .before .before .before .before .before .before .args .index .now)) .rule) (c .before .before .before .before .before .before .before .slot-body .ensures) ∙ stops-rule (real (c .before .before .before .before .before .before .before .before .before .before .before .before .before .before .before .before .before .before .before .before .before .args .e)) (realLaws (c .before .before .before .before .before .before .before .before .before .before .before .before .before .before .before .before .before .before .before .before .before .args .e)) (c .before .before .before .before .before .before .before .before .before .before .before .before .before .before .before .before .before .before .before .before .before .args .at .next) (ledger (book (c .before .before .before .before .before .before .before .before .before .before .before .before .before .before .before .before .before .before .before .before .before .args .orders .now) (c .before .before .before .before .before .before .before .before .before .before .before .before .before .before .before .before .before .before .before .before .before .args .symbols .now) (c .before .before .before .before .before .before .before .before .before .before .before .before .before .before .before .before .before .before .before .before .before .args .at .clock)) (c .before .before .before .before .before .before .before .before .before .before .before .before .before .before .before .before .before .before .before .before .before .args .index .now)) (c .before .before .before .before .before .before .before .before .before .before .before .before .before .before .before .before .before .before .before .before .before .args .shelf .now) (λ z. c .before .before .before .before .before .before .before .before .before .before .before .before .before .before .before .if1 .left (c .before .before .before .before .before .before .before .before .before .before .before .before .before .before .before .before .slot-number .ensures ∙ z)) (sym (c .before .before .before .before .before .before .before .before .before .before .before .before .before .before .before .before .slot-number .ensures) ∙ c .before .before .before .before .before .before .before .before .before .before .before .before .before .before .if2 .left) (omega (arith, c .before .before .before .before .before .before .before .before .before .before .before .before .before .slot-len .ensures)), ap (λ (x : Posting). x .after .plain .orders) told, ap (λ (x : Posting). x .after .plain .symbols) told, ap (λ (x : Posting). x .after .index) told)
 
 pub stop-at-spec : {M : Type 1} → statement M
 stop-at-spec =
@@ -46,5 +74,8 @@ stop-at-spec =
     slot-len-requires
     returns-3
     slot-body-requires
-    rule-of-requires
+    attempt-requires
+    same-length
+    same-length-2
+    same-length-3
     returns-4)
