@@ -15,10 +15,17 @@
 #include "rimeheath.h"
 
 /* The tables are the caller's, here as large as they may be. Lengths of 64-bit tables count numbers, not bytes. */
-enum { ORDERS = RIMEHEATH_MOST_ROWS * RIMEHEATH_ROW_SIZE, SYMBOLS = RIMEHEATH_MOST_ENTRIES * RIMEHEATH_ENTRY_SIZE };
+enum {
+    ORDERS = RIMEHEATH_MOST_ROWS * RIMEHEATH_ROW_SIZE,
+    SYMBOLS = RIMEHEATH_MOST_ENTRIES * RIMEHEATH_ENTRY_SIZE,
+    INDEX = RIMEHEATH_INDEX_SIZE
+};
 static uint64_t orders[ORDERS];
 static uint8_t symbols[SYMBOLS];
 static uint8_t shelf[RIMEHEATH_SHELF_SIZE];
+/* By the index orders are found at once, however many there are; with a length of 0 they are searched row by row, and all else is the
+ * same. */
+static uint64_t finder[INDEX];
 
 /* What a refusal means. */
 static const char *meaning(uint8_t answer) {
@@ -28,7 +35,7 @@ static const char *meaning(uint8_t answer) {
     case RIMEHEATH_REFUSED_BODY: return "no such message, or of another length";
     case RIMEHEATH_REFUSED_FIELD: return "a field out of range";
     case RIMEHEATH_REFUSED_NUMBER: return "a sequence number out of range";
-    case RIMEHEATH_REFUSED_SIZE: return "a table size or the next number";
+    case RIMEHEATH_REFUSED_SIZE: return "the size of a table, the index or the buffer, or the next number";
     case RIMEHEATH_REFUSED_SYMBOL: return "no such symbol";
     default: return "done";
     }
@@ -126,8 +133,10 @@ static bool one_packet(void) {
     uint64_t state[RIMEHEATH_STATE_SIZE], account[RIMEHEATH_ACCOUNT_SIZE], spread[2];
 
     make_packet();
-    if (refused("start", rimeheath_start(edition, orders, ORDERS, symbols, SYMBOLS, shelf, sizeof shelf, state))) return false;
-    if (refused_at("receive", rimeheath_receive(orders, ORDERS, symbols, SYMBOLS, shelf, sizeof shelf, state, packet, used, account)))
+    if (refused("start", rimeheath_start(edition, orders, ORDERS, symbols, SYMBOLS, shelf, sizeof shelf, finder, INDEX, state)))
+        return false;
+    if (refused_at("receive", rimeheath_receive(orders, ORDERS, symbols, SYMBOLS, shelf, sizeof shelf, finder, INDEX, state, packet, used,
+                                                account)))
         return false;
     printf("taken %" PRIu64 ", applied %" PRIu64 ", next %" PRIu64 "\n", account[RIMEHEATH_ACCOUNT_TAKEN],
            account[RIMEHEATH_ACCOUNT_APPLIED], state[RIMEHEATH_STATE_NEXT]);
@@ -139,11 +148,11 @@ static bool one_packet(void) {
 
     /* Nine bytes are no packet. A refusal changes nothing, so the receiver could go on. */
     refused_at("a front of the packet",
-               rimeheath_receive(orders, ORDERS, symbols, SYMBOLS, shelf, sizeof shelf, state, packet, 9, account));
+               rimeheath_receive(orders, ORDERS, symbols, SYMBOLS, shelf, sizeof shelf, finder, INDEX, state, packet, 9, account));
     /* Nor is one whose last order has no price: its body starts behind 10 bytes, and the price 18 bytes into it. */
     memset(packet + used - 44 + 10 + 18, 0, 8);
     refused_at("a packet with a price of 0",
-               rimeheath_receive(orders, ORDERS, symbols, SYMBOLS, shelf, sizeof shelf, state, packet, used, account));
+               rimeheath_receive(orders, ORDERS, symbols, SYMBOLS, shelf, sizeof shelf, finder, INDEX, state, packet, used, account));
     return true;
 }
 
@@ -155,10 +164,12 @@ static bool recording(FILE *file, uint64_t edition) {
     uint8_t chunk[64]; /* any size will do */
     size_t n;
 
-    if (refused("start", rimeheath_start(edition, orders, ORDERS, symbols, SYMBOLS, shelf, sizeof shelf, state))) return false;
+    if (refused("start", rimeheath_start(edition, orders, ORDERS, symbols, SYMBOLS, shelf, sizeof shelf, finder, INDEX, state)))
+        return false;
     if (refused("open", rimeheath_open(state, stream))) return false;
     while ((n = fread(chunk, 1, sizeof chunk, file)) > 0)
-        if (refused("feed", rimeheath_feed(orders, ORDERS, symbols, SYMBOLS, shelf, sizeof shelf, hold, sizeof hold, stream, chunk, n)))
+        if (refused("feed", rimeheath_feed(orders, ORDERS, symbols, SYMBOLS, shelf, sizeof shelf, finder, INDEX, hold, sizeof hold, stream,
+                                           chunk, n)))
             return false;
     if (ferror(file)) return false;
     if (stream[RIMEHEATH_STREAM_BAD] > 0)

@@ -22,8 +22,15 @@
  * THE WAY THROUGH. rimeheath_start; then rimeheath_receive for each packet, or rimeheath_open and rimeheath_feed for a recording in chunks
  * of any size; then views (rimeheath_ladder, rimeheath_spread, rimeheath_counts) and rimeheath_sheet, whenever they are wanted.
  *
- * LENGTHS COUNT ELEMENTS. orders_len and run_len count 64-bit numbers, not bytes: for `uint64_t orders[4 * RIMEHEATH_ROW_SIZE]` the length
- * is 4 * RIMEHEATH_ROW_SIZE, and not sizeof orders. All other lengths count bytes.
+ * THE INDEX. Orders and symbols are found row by row, or through an index: further memory of RIMEHEATH_INDEX_SIZE numbers that is lent
+ * beside the tables. Lend it to the start, which makes it, and then to every packet or chunk of that receiver. With a length of 0 there is
+ * no index (the pointer must still be one); any other length is refused with 6. Both ways give the same answers and the same tables, as long
+ * as nobody else writes to tables or index; with more than some hundred orders the index is by far the quicker one. A receiver that was
+ * started without an index stays without one: an index that no start made, or one of other tables, finds what docs/INDEX.md says, and may
+ * miss orders.
+ *
+ * LENGTHS COUNT ELEMENTS. orders_len, index_len and run_len count 64-bit numbers, not bytes: for
+ * `uint64_t orders[4 * RIMEHEATH_ROW_SIZE]` the length is 4 * RIMEHEATH_ROW_SIZE, and not sizeof orders. All other lengths count bytes.
  *
  * ANSWERS. Every call but rimeheath_cut answers RIMEHEATH_DONE or a refusal, by its number. A refusal changes no byte of what is lent. Any
  * bytes, numbers and lengths may be given: no call asks that anything was checked before.
@@ -56,7 +63,9 @@ extern "C" {
 /* ---- sizes ---- */
 enum {
     RIMEHEATH_ROW_SIZE = 5,        /* numbers in a row of the order table */
-    RIMEHEATH_MOST_ROWS = 1600,    /* an order table has 1 to this many rows */
+    RIMEHEATH_MOST_ROWS = 16000,   /* an order table has 1 to this many rows */
+    RIMEHEATH_SHEET_ROWS = 1600,   /* rows that the program `sheet` lends; a sheet takes any table */
+    RIMEHEATH_INDEX_SIZE = 49403,  /* numbers of an index, if one is lent: always this many; or 0, and none is */
     RIMEHEATH_ENTRY_SIZE = 42,     /* bytes in an entry of the symbol table */
     RIMEHEATH_MOST_ENTRIES = 1000, /* a symbol table has 1 to this many entries */
     RIMEHEATH_SHELF_SIZE = 4736,   /* bytes of a shelf: always this many */
@@ -81,7 +90,7 @@ enum {
     RIMEHEATH_REFUSED_FIELD = 4,  /* a field out of range: nanoseconds (999,999,999 at most), side, price, size, security type (in 1.3),
                                    * test indicator, market */
     RIMEHEATH_REFUSED_NUMBER = 5, /* a sequence number of 0 or above 10^12 */
-    RIMEHEATH_REFUSED_SIZE = 6,   /* a table or buffer whose size is not as said above, or a next number outside 1 to 10^12 + 1 */
+    RIMEHEATH_REFUSED_SIZE = 6,   /* a table, index or buffer whose size is not as said above, or a next number outside 1 to 10^12 + 1 */
     RIMEHEATH_REFUSED_SYMBOL = 30 /* a view of a symbol that no entry in use has */
 };
 /* Where several apply, the first of this order is told: 6; 1; then record by record from the front 2, 5, 3, 4. Of a view: 6, then 30. */
@@ -182,16 +191,18 @@ enum {
 
 /* ---- receiving ---- */
 
-/* Starts a receiver of an edition: zeroes the three tables; state becomes 1, 0, 0 and the edition's number, 0 or 1. A small table is filled
- * sooner: RIMEHEATH_MOST_ROWS rows and RIMEHEATH_MOST_ENTRIES entries are what the program `sheet` uses. Refused by 6. */
+/* Starts a receiver of an edition: zeroes the three tables and makes the index, if one is lent; state becomes 1, 0, 0 and the edition's
+ * number, 0 or 1. A full table stops with 25 or 26; the program `sheet` lends RIMEHEATH_SHEET_ROWS rows and RIMEHEATH_MOST_ENTRIES
+ * entries. Refused by 6. */
 uint8_t rimeheath_start(uint64_t edition, uint64_t *orders, size_t orders_len, uint8_t *symbols, size_t symbols_len, uint8_t *shelf,
-                        size_t shelf_len, uint64_t state[4]);
+                        size_t shelf_len, uint64_t *index, size_t index_len, uint64_t state[4]);
 
-/* Gives a packet to a receiver: state, tables and shelf become what they are after it, and account what is said above. A packet whose
+/* Gives a packet to a receiver: state, tables, shelf and index become what they are after it, and account what is said above. A packet whose
  * messages stop the receiver is accepted all the same: look at the stop. Refused by 6, 1, 2, 5, 3, 4, and for the last four with the offset
  * in the packet. */
 uint32_t rimeheath_receive(uint64_t *orders, size_t orders_len, uint8_t *symbols, size_t symbols_len, uint8_t *shelf, size_t shelf_len,
-                           uint64_t state[4], const uint8_t *packet, size_t packet_len, uint64_t account[9]);
+                           uint64_t *index, size_t index_len, uint64_t state[4], const uint8_t *packet, size_t packet_len,
+                           uint64_t account[9]);
 
 /* ---- a recording in chunks ---- */
 
@@ -201,12 +212,13 @@ uint32_t rimeheath_receive(uint64_t *orders, size_t orders_len, uint8_t *symbols
 uint8_t rimeheath_open(const uint64_t state[4], uint64_t stream[14]);
 
 /* Gives the next chunk of a recording, of any length, cut anywhere. Every packet that ends in it is given to the receiver; one that is
- * refused is counted as bad and passed over, and the stream keeps its number and offset until the next. stream, tables and shelf become
- * what they are after it; in hold stand the bytes of the unfinished packet and zeros behind them: lend the same hold to the next call.
+ * refused is counted as bad and passed over, and the stream keeps its number and offset until the next. stream, tables, shelf and index
+ * become what they are after it; in hold stand the bytes of the unfinished packet and zeros behind them: lend the same hold to the next call.
  * However a recording is cut, it comes to the same in the end. Refused by 6 alone: also where stream says that more bytes are held than
  * hold has. */
 uint8_t rimeheath_feed(uint64_t *orders, size_t orders_len, uint8_t *symbols, size_t symbols_len, uint8_t *shelf, size_t shelf_len,
-                       uint8_t *hold, size_t hold_len, uint64_t stream[14], const uint8_t *chunk, size_t chunk_len);
+                       uint64_t *index, size_t index_len, uint8_t *hold, size_t hold_len, uint64_t stream[14], const uint8_t *chunk,
+                       size_t chunk_len);
 
 /* Whether a recording that ends here is cut: it ends inside a length or a packet. That last piece is dropped and is not counted as bad. */
 bool rimeheath_cut(const uint64_t stream[14]);

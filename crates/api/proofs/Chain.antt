@@ -6,7 +6,7 @@ use mathlib.Core.List.{List}
 use native.Mathlib.Omega.{arith}
 use Rattle.editions.proofs.Laws.{edition-back}
 use Rattle.book.specs.Plan.{clock}
-use Rattle.receiver.specs.Lent.{real, stateNumbers, Lent, lent, ordersOf, symbolsOf, shelfOf, stateOf, Handled, received}
+use Rattle.receiver.specs.Lent.{real, stateNumbers, Lent, lent, ordersOf, symbolsOf, shelfOf, indexOf, stateOf, Handled, received}
 use Rattle.receiver.specs.declared.State.{State}
 use Rattle.receiver.specs.declared.Account.{Account}
 use Rattle.receiver.specs.declared.Received.{Received}
@@ -34,8 +34,8 @@ module _ (k : Lent) (h : Held (stateOf k)) (p m : List ℕ) where
   abbrev after : Lent
   after = received k p .after
 
-  same-call : received (lent (ordersOf k) (symbolsOf k) (shelfOf k) (stateIn numbers)) p ≡ received k p
-  same-call = ap (λ (q : State). received (lent (ordersOf k) (symbolsOf k) (shelfOf k) q) p) (state-back (stateOf k) h)
+  same-call : received (lent (ordersOf k) (symbolsOf k) (shelfOf k) (indexOf k) (stateIn numbers)) p ≡ received k p
+  same-call = ap (λ (q : State). received (lent (ordersOf k) (symbolsOf k) (shelfOf k) (indexOf k) q) p) (state-back (stateOf k) h)
 
   state-left : stateReceived (received k p .answer) (stateOf after) numbers ≡ stateNumbers (stateOf after)
   state-left = go (received k p .answer) refl
@@ -45,9 +45,9 @@ module _ (k : Lent) (h : Held (stateOf k)) (p m : List ℕ) where
       go (Received.Refused r) e = ap (λ (x : Lent). stateNumbers (stateOf x)) (sym (refused-same (real (k .edition)) k p (λ (t : Account) q. let n : Received.Refused r ≡ Received.Accepted t = sym e ∙ q in let z : _≡_ {A = ℕ} 0 1 = cc in absurd (omega arith))))
       go (Received.Bad f) e = ap (λ (x : Lent). stateNumbers (stateOf x)) (sym (refused-same (real (k .edition)) k p (λ (t : Account) q. let n : Received.Bad f ≡ Received.Accepted t = sym e ∙ q in let z : _≡_ {A = ℕ} 0 1 = cc in absurd (omega arith))))
 
-  pub next-call : receiveAnswer (received (lent (ordersOf k) (symbolsOf k) (shelfOf k) (stateIn numbers)) p) numbers m
-      ≡ receiveCall (receivedCode (received k p .answer)) (stateNumbers (stateOf after)) (accountReceived (received k p .answer) m) (ordersOf after) (symbolsOf after) (shelfOf after)
+  pub next-call : receiveAnswer (received (lent (ordersOf k) (symbolsOf k) (shelfOf k) (indexOf k) (stateIn numbers)) p) numbers m
+      ≡ receiveCall (receivedCode (received k p .answer)) (stateNumbers (stateOf after)) (accountReceived (received k p .answer) m) (ordersOf after) (symbolsOf after) (shelfOf after) (indexOf after)
   unfolding receiveAnswer
   next-call =
       ap (λ (x : Handled). receiveAnswer x numbers m) same-call
-      ∙ ap (λ (l : List ℕ). receiveCall (receivedCode (received k p .answer)) l (accountReceived (received k p .answer) m) (ordersOf after) (symbolsOf after) (shelfOf after)) state-left
+      ∙ ap (λ (l : List ℕ). receiveCall (receivedCode (received k p .answer)) l (accountReceived (received k p .answer) m) (ordersOf after) (symbolsOf after) (shelfOf after) (indexOf after)) state-left

@@ -10,7 +10,8 @@ use Rattle.packet.specs.Packet.{readPacket}
 use Rattle.packet.specs.declared.Packet.{Packet}
 use Rattle.packet.proofs.Laws.{record-within}
 use Rattle.packet.proofs.Places.{bad-place}
-use Rattle.api.specs.Calls.{withOffset, packetCode}
+use Rattle.body.specs.Read.{withOffset}
+use Rattle.api.specs.Calls.{packetCode}
 
 pub number-back : (f : Fault) → f .number < 256 → withOffset f % 256 ≡ f .number
 number-back f h = omega (arith, h)

@@ -30,7 +30,8 @@ use Rattle.receiver.specs.declared.Started.{Started}
 use Rattle.receiver.specs.Lent.{stateNumbers, Begun, begun, lent, Handled, handled}
 use Rattle.answer_sheet.specs.declared.SheetAnswer.{SheetAnswer}
 use Rattle.answer_sheet.specs.Sheet.{Sheet, sheetAnd}
-use Rattle.api.specs.Calls.{withOffset, accountNumbers, startCall, startAnswer, receiveCall, receiveAnswer, ladderAnswer, call, bitsOf, spreadAnswer, countsAnswer, packetAnswer, recordAnswer, sheetAnswer}
+use Rattle.body.specs.Read.{withOffset}
+use Rattle.api.specs.Calls.{accountNumbers, startCall, startAnswer, receiveCall, receiveAnswer, ladderAnswer, call, bitsOf, spreadAnswer, countsAnswer, packetAnswer, recordAnswer, sheetAnswer}
 use Rattle.api.specs.Messages.{typed, kindIn, bodyAnswer}
 use Rattle.api.proofs.Types.{type-told}
 
@@ -38,13 +39,13 @@ use Rattle.api.proofs.Types.{type-told}
 pub handed : {A B C : Type 0} (f : B → C) (g : A → B) (x k : A) (b : B) → x ≡ k → g x ≡ b → f (g k) ≡ f b
 handed f g x k b q e = ap f (ap g (sym q) ∙ e)
 
-pub start-handed : (x k : Started) → x ≡ k → (o s h : List ℕ) (b : Begun) → begun x o s h ≡ b → (l : List ℕ) → startAnswer (begun k o s h) l ≡ startAnswer b l
-start-handed x k q o s h b e l = handed (λ y. startAnswer y l) (λ y. begun y o s h) x k b q e
+pub start-handed : (x k : Started) → x ≡ k → (o s h ix : List ℕ) (b : Begun) → begun x o s h ix ≡ b → (l : List ℕ) → startAnswer (begun k o s h ix) l ≡ startAnswer b l
+start-handed x k q o s h ix b e l = handed (λ y. startAnswer y l) (λ y. begun y o s h ix) x k b q e
 
 -- the state is what the call that copies it told
-pub start-ready : (x : Started) (q : State) → x ≡ Started.Ready q → (o s h : List ℕ) (b : Begun) → begun x o s h ≡ b → (l n : List ℕ) → n ≡ stateNumbers q → startCall 0 n o s h ≡ startAnswer b l
+pub start-ready : (x : Started) (q : State) → x ≡ Started.Ready q → (o s h ix : List ℕ) (b : Begun) → begun x o s h ix ≡ b → (l n : List ℕ) → n ≡ stateNumbers q → startCall 0 n o s h ix ≡ startAnswer b l
 unfolding startAnswer
-start-ready x q f o s h b e l n g = ap (λ (y : List ℕ). startCall 0 y o s h) g ∙ start-handed x (Started.Ready q) f o s h b e l
+start-ready x q f o s h ix b e l n g = ap (λ (y : List ℕ). startCall 0 y o s h ix) g ∙ start-handed x (Started.Ready q) f o s h ix b e l
 
 pub ladder-handed : (x k : LadderAnswer) → x ≡ k → (o : List ℕ) (v : LadderOut) → ladderOut x o ≡ v → (l : List ℕ) → ladderAnswer (ladderOut k o) l ≡ ladderAnswer v l
 ladder-handed x k q o v e l = handed (λ y. ladderAnswer y l) (λ y. ladderOut y o) x k v q e
@@ -71,18 +72,18 @@ pub sheet-handed : (x k : SheetAnswer) → x ≡ k → (o : List ℕ) (v : Sheet
 sheet-handed x k q o v e l = handed (λ y. sheetAnswer y l) (λ y. sheetAnd y o) x k v q e
 
 -- ---- a packet to a receiver
-module _ (x : Received) (o s h : List ℕ) (t : State) (u : Handled) (e : handled x (lent o s h t) ≡ u) (l a : List ℕ) where
-  pub receive-handed : (k : Received) → x ≡ k → receiveAnswer (handled k (lent o s h t)) l a ≡ receiveAnswer u l a
-  receive-handed k q = handed (λ y. receiveAnswer y l a) (λ y. handled y (lent o s h t)) x k u q e
+module _ (x : Received) (o s h ix : List ℕ) (t : State) (u : Handled) (e : handled x (lent o s h ix t) ≡ u) (l a : List ℕ) where
+  pub receive-handed : (k : Received) → x ≡ k → receiveAnswer (handled k (lent o s h ix t)) l a ≡ receiveAnswer u l a
+  receive-handed k q = handed (λ y. receiveAnswer y l a) (λ y. handled y (lent o s h ix t)) x k u q e
 
-  pub receive-bad : (f : Fault) → x ≡ Received.Bad f → (n : ℕ) → n ≡ withOffset f → receiveCall n l a o s h ≡ receiveAnswer u l a
+  pub receive-bad : (f : Fault) → x ≡ Received.Bad f → (n : ℕ) → n ≡ withOffset f → receiveCall n l a o s h ix ≡ receiveAnswer u l a
   unfolding receiveAnswer
-  receive-bad f q n g = ap (λ (y : ℕ). receiveCall y l a o s h) g ∙ receive-handed (Received.Bad f) q
+  receive-bad f q n g = ap (λ (y : ℕ). receiveCall y l a o s h ix) g ∙ receive-handed (Received.Bad f) q
 
   -- state and account are what the calls that copy them told
-  pub receive-accepted : (c : Account) → x ≡ Received.Accepted c → (m : List ℕ) → m ≡ stateNumbers t → (n : List ℕ) → n ≡ accountNumbers c → receiveCall 0 m n o s h ≡ receiveAnswer u l a
+  pub receive-accepted : (c : Account) → x ≡ Received.Accepted c → (m : List ℕ) → m ≡ stateNumbers t → (n : List ℕ) → n ≡ accountNumbers c → receiveCall 0 m n o s h ix ≡ receiveAnswer u l a
   unfolding receiveAnswer
-  receive-accepted c q m g n f = (λ i. receiveCall 0 (g i) (f i) o s h) ∙ receive-handed (Received.Accepted c) q
+  receive-accepted c q m g n f = (λ i. receiveCall 0 (g i) (f i) o s h ix) ∙ receive-handed (Received.Accepted c) q
 
 -- ---- a spread
 module _ (x v : SpreadAnswer) (e : x ≡ v) (l : List ℕ) where

@@ -23,13 +23,13 @@ unfolding openAnswer
 open-handed k v e n f = ap (λ (y : List ℕ). call 0 y) f ∙ ap openAnswer e
 
 -- ---- a chunk
-module _ (x : Fed) (o s h w : List ℕ) (v : Feeding) (e : feeding x o s h w ≡ v) (l : List ℕ) where
-  pub feed-handed : (k : Fed) → x ≡ k → feedAnswer (feeding k o s h w) l ≡ feedAnswer v l
-  feed-handed k q = handed (λ y. feedAnswer y l) (λ y. feeding y o s h w) x k v q e
+module _ (x : Fed) (o s h ix w : List ℕ) (v : Feeding) (e : feeding x o s h ix w ≡ v) (l : List ℕ) where
+  pub feed-handed : (k : Fed) → x ≡ k → feedAnswer (feeding k o s h ix w) l ≡ feedAnswer v l
+  feed-handed k q = handed (λ y. feedAnswer y l) (λ y. feeding y o s h ix w) x k v q e
 
-  pub feed-took : (k : Stream) → x ≡ Fed.Took k → (n : List ℕ) → n ≡ streamNumbers k → feedCall 0 n o s h w ≡ feedAnswer v l
+  pub feed-took : (k : Stream) → x ≡ Fed.Took k → (n : List ℕ) → n ≡ streamNumbers k → feedCall 0 n o s h ix w ≡ feedAnswer v l
   unfolding feedAnswer fedNumber
-  feed-took k q n f = ap (λ (y : List ℕ). feedCall 0 y o s h w) f ∙ feed-handed (Fed.Took k) q
+  feed-took k q n f = ap (λ (y : List ℕ). feedCall 0 y o s h ix w) f ∙ feed-handed (Fed.Took k) q
 
 -- ---- one call after another
 -- a stream that a machine holds: its receiver's state, and the last bad packet's number in 8 bits
@@ -50,18 +50,18 @@ next-open q h = ap (λ (x : State). openAnswer (opened x)) (state-back q h)
 
 -- lent what a chunk left, the call for the next chunk c leaves what `fedOn` makes of it: so an open and any number of calls from C are `fedAll`, of which recording/FromStart
 -- speaks, where none is refused
-module _ (k : Stream) (held : HeldStream k) (o s h w : List ℕ) where
+module _ (k : Stream) (held : HeldStream k) (o s h ix w : List ℕ) where
   abbrev left : Feeding
-  left = feeding (Fed.Took k) o s h w
+  left = feeding (Fed.Took k) o s h ix w
 
-  pub next-feed : (c : List ℕ) → feedAnswer (fed (streamFrom (streamNumbers k)) o s h w c) (streamNumbers k) ≡ feedAnswer (fedOn c left) (streamNumbers k)
+  pub next-feed : (c : List ℕ) → feedAnswer (fed (streamFrom (streamNumbers k)) o s h ix w c) (streamNumbers k) ≡ feedAnswer (fedOn c left) (streamNumbers k)
   unfolding fedOn
-  next-feed c = ap (λ (x : Stream). feedAnswer (fed x o s h w c) (streamNumbers k)) (stream-back k held)
+  next-feed c = ap (λ (x : Stream). feedAnswer (fed x o s h ix w c) (streamNumbers k)) (stream-back k held)
 
-  pub next-took : (c : List ℕ) (k′ : Stream) (o′ s′ h′ w′ : List ℕ) → fedOn c left ≡ feeding (Fed.Took k′) o′ s′ h′ w′
-      → feedAnswer (fed (streamFrom (streamNumbers k)) o s h w c) (streamNumbers k) ≡ feedCall 0 (streamNumbers k′) o′ s′ h′ w′
+  pub next-took : (c : List ℕ) (k′ : Stream) (o′ s′ h′ ix′ w′ : List ℕ) → fedOn c left ≡ feeding (Fed.Took k′) o′ s′ h′ ix′ w′
+      → feedAnswer (fed (streamFrom (streamNumbers k)) o s h ix w c) (streamNumbers k) ≡ feedCall 0 (streamNumbers k′) o′ s′ h′ ix′ w′
   unfolding feedAnswer fedNumber
-  next-took c k′ o′ s′ h′ w′ e = next-feed c ∙ ap (λ (x : Feeding). feedAnswer x (streamNumbers k)) e
+  next-took c k′ o′ s′ h′ ix′ w′ e = next-feed c ∙ ap (λ (x : Feeding). feedAnswer x (streamNumbers k)) e
 
 -- and the recording is cut where that stream is
 pub next-cut : (k : Stream) → HeldStream k → cut (streamFrom (streamNumbers k)) ≡ cut k

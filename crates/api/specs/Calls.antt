@@ -1,6 +1,6 @@
 -- What each call of the C boundary answers: a number, and the lent memory after it. The meaning is that of the library's own definitions;
 -- "tables, output and state keep every byte" (document 01), so that a refusal's offset comes in the number (request 5).
-use Prim.Native.Nat.{ℕ, _+_, _*_, _%_, _-_}
+use Prim.Native.Nat.{ℕ, _%_, _-_}
 use mathlib.Core.Bool.{Bool, true, false}
 use mathlib.Core.List.{List, [], _∷_}
 use lib.ListN.{getD}
@@ -13,7 +13,7 @@ use Rattle.receiver.specs.declared.Account.{Account}
 use Rattle.receiver.specs.declared.Received.{Received}
 use Rattle.receiver.specs.declared.Started.{Started}
 use Rattle.book.specs.Plan.{clock}
-use Rattle.receiver.specs.Lent.{stateNumbers, Begun, Handled, startNumber, ordersOf, symbolsOf, shelfOf, stateOf}
+use Rattle.receiver.specs.Lent.{stateNumbers, Begun, Handled, startNumber, ordersOf, symbolsOf, shelfOf, indexOf, stateOf}
 use Rattle.views.specs.declared.Side.{Side}
 use Rattle.views.specs.declared.LadderAnswer.{LadderAnswer}
 use Rattle.views.specs.declared.SpreadAnswer.{SpreadAnswer}
@@ -24,11 +24,7 @@ use Rattle.answer_sheet.specs.declared.SheetAnswer.{SheetAnswer}
 use Rattle.answer_sheet.specs.Sheet.{Sheet, sheetNumber}
 use Rattle.packet.specs.declared.Packet.{Packet}
 use Rattle.packet.specs.declared.Record.{Record}
-use Rattle.fields.specs.declared.Fault.{Fault}
-
--- number and offset in one: the number in the low 8 bits, the offset in those above
-abbrev pub withOffset : Fault → ℕ
-withOffset f = f .number + 256 * f .at
+use Rattle.body.specs.Read.{withOffset}
 
 -- a receiver's state in four lent numbers (`stateNumbers` of receiver): the second is the low 32 bits of its number, the stop the low 8, and any number but 1 stands for 1.3.a and 1.3.b
 abbrev pub stateIn : List ℕ → State
@@ -41,16 +37,17 @@ accountNumbers a =
     ∷ a .next ∷ a .applied ∷ a .highest ∷ a .stop ∷ []
 
 -- ---- a start
--- its number, the state lent for it, and the tables
+-- its number, the state lent for it, the tables and the index
 pub record StartCall : Type 0 where
   pub number : ℕ
   pub state : List ℕ
   pub orders : List ℕ
   pub symbols : List ℕ
   pub shelf : List ℕ
+  pub index : List ℕ
 
-abbrev pub startCall : ℕ → List ℕ → List ℕ → List ℕ → List ℕ → StartCall
-startCall n l o s h = record { number = n; state = l; orders = o; symbols = s; shelf = h }
+abbrev pub startCall : ℕ → List ℕ → List ℕ → List ℕ → List ℕ → List ℕ → StartCall
+startCall n l o s h ix = record { number = n; state = l; orders = o; symbols = s; shelf = h; index = ix }
 
 -- a refusal leaves the lent state as it is
 abbrev pub stateStarted : Started → List ℕ → List ℕ
@@ -58,10 +55,10 @@ stateStarted (Started.Ready q) l = stateNumbers q
 stateStarted (Started.Refused r) l = l
 
 unfoldable pub startAnswer : Begun → List ℕ → StartCall
-startAnswer b l = startCall (startNumber (b .answer)) (stateStarted (b .answer) l) (b .orders) (b .symbols) (b .shelf)
+startAnswer b l = startCall (startNumber (b .answer)) (stateStarted (b .answer) l) (b .orders) (b .symbols) (b .shelf) (b .index)
 
 -- ---- a packet to a receiver
--- its number, the state and the account lent for it, and the tables
+-- its number, the state and the account lent for it, the tables and the index
 pub record ReceiveCall : Type 0 where
   pub number : ℕ
   pub state : List ℕ
@@ -69,9 +66,10 @@ pub record ReceiveCall : Type 0 where
   pub orders : List ℕ
   pub symbols : List ℕ
   pub shelf : List ℕ
+  pub index : List ℕ
 
-abbrev pub receiveCall : ℕ → List ℕ → List ℕ → List ℕ → List ℕ → List ℕ → ReceiveCall
-receiveCall n l a o s h = record { number = n; state = l; account = a; orders = o; symbols = s; shelf = h }
+abbrev pub receiveCall : ℕ → List ℕ → List ℕ → List ℕ → List ℕ → List ℕ → List ℕ → ReceiveCall
+receiveCall n l a o s h ix = record { number = n; state = l; account = a; orders = o; symbols = s; shelf = h; index = ix }
 
 -- the lent state: that of the receiver after an accepted packet
 abbrev pub stateReceived : Received → State → List ℕ → List ℕ
@@ -93,7 +91,7 @@ receivedCode (Received.Bad f) = withOffset f
 unfoldable pub receiveAnswer : Handled → List ℕ → List ℕ → ReceiveCall
 receiveAnswer u l a =
     receiveCall (receivedCode (u .answer)) (stateReceived (u .answer) (stateOf (u .after)) l) (accountReceived (u .answer) a)
-    (ordersOf (u .after)) (symbolsOf (u .after)) (shelfOf (u .after))
+    (ordersOf (u .after)) (symbolsOf (u .after)) (shelfOf (u .after)) (indexOf (u .after))
 
 -- ---- views
 abbrev pub sideAsked : Bool → Side

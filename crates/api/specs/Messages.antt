@@ -20,7 +20,8 @@ use Rattle.fields.specs.declared.Body.{Body}
 use Rattle.body.specs.Shown.{securityIn}
 use Rattle.body.specs.declared.Judged.{Judged}
 use Rattle.body.specs.declared.Security.{Security}
-use Rattle.api.specs.Calls.{withOffset, Call, call}
+use Rattle.body.specs.Read.{withOffset}
+use Rattle.api.specs.Calls.{Call, call}
 
 -- the first of the eight is the type, t in what follows
 abbrev pub eight : ℕ → ℕ → ℕ → ℕ → ℕ → ℕ → ℕ → ℕ → List ℕ

@@ -35,17 +35,18 @@ unfoldable pub openAnswer : Stream → Call
 openAnswer k = call 0 (streamNumbers k)
 
 -- ---- a chunk
--- its number, the stream lent for it, the tables and the buffer
+-- its number, the stream lent for it, the tables, the index and the buffer
 pub record FeedCall : Type 0 where
   pub number : ℕ
   pub stream : List ℕ
   pub orders : List ℕ
   pub symbols : List ℕ
   pub shelf : List ℕ
+  pub index : List ℕ
   pub hold : List ℕ
 
-abbrev pub feedCall : ℕ → List ℕ → List ℕ → List ℕ → List ℕ → List ℕ → FeedCall
-feedCall n l o s h w = record { number = n; stream = l; orders = o; symbols = s; shelf = h; hold = w }
+abbrev pub feedCall : ℕ → List ℕ → List ℕ → List ℕ → List ℕ → List ℕ → List ℕ → FeedCall
+feedCall n l o s h ix w = record { number = n; stream = l; orders = o; symbols = s; shelf = h; index = ix; hold = w }
 
 -- a refusal leaves the lent stream as it is
 abbrev pub streamFed : Fed → List ℕ → List ℕ
@@ -53,4 +54,4 @@ streamFed (Fed.Took k) l = streamNumbers k
 streamFed (Fed.Refused r) l = l
 
 unfoldable pub feedAnswer : Feeding → List ℕ → FeedCall
-feedAnswer f l = feedCall (fedNumber (f .answer)) (streamFed (f .answer) l) (f .orders) (f .symbols) (f .shelf) (f .hold)
+feedAnswer f l = feedCall (fedNumber (f .answer)) (streamFed (f .answer) l) (f .orders) (f .symbols) (f .shelf) (f .index) (f .hold)

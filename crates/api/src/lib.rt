@@ -11,7 +11,8 @@ ghost use Rattle.packet.specs.Packet.{readPacket};
 ghost use Rattle.body.specs.Read.{judgeBody, readBody};
 ghost use Rattle.answer_sheet.specs.Sheet.{sheetView};
 ghost use Rattle.recording.specs.Stream.{opened, fed, cut as isCut};
-ghost use Rattle.api.specs.Calls.{withOffset, stateIn, accountNumbers, sideAsked, startCall, startAnswer, receiveCall, receiveAnswer, fillCall, ladderAnswer, call, bitsOf, spreadAnswer, countsAnswer, packetAnswer, recordAnswer, wordOf, sheetAnswer};
+ghost use Rattle.body.specs.Read.{withOffset};
+ghost use Rattle.api.specs.Calls.{stateIn, accountNumbers, sideAsked, startCall, startAnswer, receiveCall, receiveAnswer, fillCall, ladderAnswer, call, bitsOf, spreadAnswer, countsAnswer, packetAnswer, recordAnswer, wordOf, sheetAnswer};
 ghost use Rattle.api.specs.Streams.{streamNumbers, streamFrom, openAnswer, feedCall, feedAnswer};
 ghost use Rattle.api.specs.Messages.{typeNumber, symbolFields, stateFields, statusFields, clearFields, addFields, modifyFields, deleteFields, executionFields, tradeFields, cancelFields, typed, bodyAnswer};
 use answer_sheet::Recording;
@@ -60,18 +61,19 @@ fn state_numbers(s: State) -> [u64; 4]
     ]
 }
 
-// Starts a receiver of an edition: the tables are zeroed, and state becomes next 1, second 0, stop 0 and the edition's number.
+// Starts a receiver of an edition: the tables are zeroed, the index is made if one is lent, and state becomes next 1, second 0, stop 0 and the edition's number.
 #[no_mangle]
 pub extern "C" fn rimeheath_start(
     edition: u64,
     orders: &mut [u64],
     symbols: &mut [u8],
     shelf: &mut [u8],
+    index: &mut [u64],
     state: &mut [u64; 4],
 ) -> u8
-    ensures { λ r. ⌜ startCall r (now (state .exit)) (now (orders .exit)) (now (symbols .exit)) (now (shelf .exit)) ≡ startAnswer (started (editionOf edition) (now (orders .entry)) (now (symbols .entry)) (now (shelf .entry))) (now (state .entry)) ⌝ }
+    ensures { λ r. ⌜ startCall r (now (state .exit)) (now (orders .exit)) (now (symbols .exit)) (now (shelf .exit)) (now (index .exit)) ≡ startAnswer (started (editionOf edition) (now (orders .entry)) (now (symbols .entry)) (now (shelf .entry)) (now (index .entry))) (now (state .entry)) ⌝ }
 {
-    match receiver::start(editions::edition_of(edition), orders, symbols, shelf) {
+    match receiver::start(editions::edition_of(edition), orders, symbols, shelf, index) {
         Started::Refused(r) => r.number,
         Started::Ready(s) => {
             *state = state_numbers(s);
@@ -126,13 +128,14 @@ pub extern "C" fn rimeheath_receive(
     orders: &mut [u64],
     symbols: &mut [u8],
     shelf: &mut [u8],
+    index: &mut [u64],
     state: &mut [u64; 4],
     p: &[u8],
     account: &mut [u64; 9],
 ) -> u32
-    ensures { λ r. ⌜ receiveCall r (now (state .exit)) (now (account .exit)) (now (orders .exit)) (now (symbols .exit)) (now (shelf .exit)) ≡ receiveAnswer (received (lent (now (orders .entry)) (now (symbols .entry)) (now (shelf .entry)) (stateIn (now (state .entry)))) (now (p .entry))) (now (state .entry)) (now (account .entry)) ⌝ }
+    ensures { λ r. ⌜ receiveCall r (now (state .exit)) (now (account .exit)) (now (orders .exit)) (now (symbols .exit)) (now (shelf .exit)) (now (index .exit)) ≡ receiveAnswer (received (lent (now (orders .entry)) (now (symbols .entry)) (now (shelf .entry)) (now (index .entry)) (stateIn (now (state .entry)))) (now (p .entry))) (now (state .entry)) (now (account .entry)) ⌝ }
 {
-    let r = receiver::receive(orders, symbols, shelf, state_in(state), p);
+    let r = receiver::receive(orders, symbols, shelf, index, state_in(state), p);
     let s = r.state;
     let answer = r.answer;
     match answer {
@@ -214,13 +217,22 @@ pub extern "C" fn rimeheath_feed(
     orders: &mut [u64],
     symbols: &mut [u8],
     shelf: &mut [u8],
+    index: &mut [u64],
     hold: &mut [u8],
     stream: &mut [u64; 14],
     chunk: &[u8],
 ) -> u8
-    ensures { λ r. ⌜ feedCall r (now (stream .exit)) (now (orders .exit)) (now (symbols .exit)) (now (shelf .exit)) (now (hold .exit)) ≡ feedAnswer (fed (streamFrom (now (stream .entry))) (now (orders .entry)) (now (symbols .entry)) (now (shelf .entry)) (now (hold .entry)) (now (chunk .entry))) (now (stream .entry)) ⌝ }
+    ensures { λ r. ⌜ feedCall r (now (stream .exit)) (now (orders .exit)) (now (symbols .exit)) (now (shelf .exit)) (now (index .exit)) (now (hold .exit)) ≡ feedAnswer (fed (streamFrom (now (stream .entry))) (now (orders .entry)) (now (symbols .entry)) (now (shelf .entry)) (now (index .entry)) (now (hold .entry)) (now (chunk .entry))) (now (stream .entry)) ⌝ }
 {
-    match recording::feed(orders, symbols, shelf, hold, stream_from(stream), chunk) {
+    match recording::feed(
+        orders,
+        symbols,
+        shelf,
+        index,
+        hold,
+        stream_from(stream),
+        chunk,
+    ) {
         Fed::Refused(r) => r.number,
         Fed::Took(k) => {
             *stream = stream_numbers(k);

@@ -10,11 +10,12 @@ use receiver::State;
 use recording::Fed;
 use recording::Stream;
 
-// Three rows and one entry: what document 01's example needs.
+// Three rows and one entry: what document 01's example needs. So few are searched sooner than looked up, and no index is lent.
 fn main() {
     let mut orders = [0u64; 3 * rows::ROW_SIZE];
     let mut symbols = [0u8; facts::ENTRY_SIZE];
     let mut shelf = [0u8; facts::SHELF_SIZE];
+    let mut index = [0u64; 0];
     let mut hold = [0u8; facts::HOLD_LEAST];
     let mut block = [0u8; 4096];
     let mut text = [0u8; 4096];
@@ -22,6 +23,7 @@ fn main() {
         &mut orders,
         &mut symbols,
         &mut shelf,
+        &mut index,
         &mut hold,
         &mut block,
         &mut text,
@@ -32,15 +34,16 @@ fn play(
     orders: &mut [u64],
     symbols: &mut [u8],
     shelf: &mut [u8],
+    index: &mut [u64],
     hold: &mut [u8],
     block: &mut [u8],
     text: &mut [u8],
 ) {
-    match receiver::start(Edition::V13b, orders, symbols, shelf) {
+    match receiver::start(Edition::V13b, orders, symbols, shelf, index) {
         Started::Refused(_) => refused(),
         Started::Ready(s) => {
             let n = io::read_full(STDIN_FILENO, block);
-            feed(orders, symbols, shelf, hold, s, &block[..n], text);
+            feed(orders, symbols, shelf, index, hold, s, &block[..n], text);
         }
     }
 }
@@ -49,12 +52,21 @@ fn feed(
     orders: &mut [u64],
     symbols: &mut [u8],
     shelf: &mut [u8],
+    index: &mut [u64],
     hold: &mut [u8],
     s: State,
     chunk: &[u8],
     text: &mut [u8],
 ) {
-    match recording::feed(orders, symbols, shelf, hold, recording::open(s), chunk) {
+    match recording::feed(
+        orders,
+        symbols,
+        shelf,
+        index,
+        hold,
+        recording::open(s),
+        chunk,
+    ) {
         Fed::Refused(_) => refused(),
         Fed::Took(t) => print(orders, symbols, t, text),
     }

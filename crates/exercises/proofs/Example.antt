@@ -3,7 +3,7 @@
 -- Assumes nothing.
 use mathlib.Core.Path.{_≡_, refl, ap, _∙_}
 use Prim.Native.Nat.{ℕ}
-use mathlib.Core.List.{List}
+use mathlib.Core.List.{List, []}
 use lib.ListN.{replicate}
 use Rattle.facts.specs.Limits.{shelfSize}
 use Rattle.facts.specs.Pick.{pick, both, either}
@@ -28,6 +28,9 @@ use Rattle.symbols.specs.Work as entry-work
 use Rattle.orders.specs.Work as row-work
 use Rattle.book.specs.Plan as plan
 use Rattle.book.specs.Book as book
+use Rattle.book.specs.Ledger as ledger
+use Rattle.index.specs.Index as index
+use Rattle.engines.specs.Engines as engines
 use Rattle.arbitration.specs.Slots as slots
 use Rattle.arbitration.specs.Receive as theory
 use Rattle.shelf.specs.Shelf as shelf
@@ -44,7 +47,7 @@ abbrev pub afterExample : Edition → receiver.Lent
 afterExample ed = exercises.goesOn (exercises.begins ed 3 1) messages.wholeExample .last .after
 
 -- all five messages are applied, and the shelf is empty again
-pub example-leaves : (ed : Edition) → afterExample ed ≡ receiver.lent three (symbol7 messages.letterE) (replicate shelfSize 0) (after ed)
+pub example-leaves : (ed : Edition) → afterExample ed ≡ receiver.lent three (symbol7 messages.letterE) (replicate shelfSize 0) [] (after ed)
 unfolding exercises.begins exercises.goesOn
     messages.numbered messages.systemTime messages.symbolUpdate messages.addOrder messages.example messages.ofExample messages.wholeExample
     pick both either first cut pieces join putPiece le toLe field padded
@@ -62,11 +65,13 @@ unfolding exercises.begins exercises.goesOn
     entry-work.entered
     row-work.remade row-work.reduced row-work.committed
     plan.ofKnown plan.target plan.upon keys.sideOf row-work.moves plan.rowFor plan.updatePlan plan.roomFor plan.addPlan plan.modifyPlan plan.executionPlan plan.planBy
-    book.planned book.carried book.applied
+    book.carried ledger.devised ledger.indexAfter ledger.posted
+    index.slots index.hash index.vacant index.filledAt index.placed index.taken index.freed index.entered index.eachRow index.zeroed index.built index.roomy index.came
+    engines.goodIndex engines.orderBy engines.freeBy engines.hinted engines.entryBy engines.putNoted engines.noted engines.hintedTo
     sameBytes slots.sameSlot
     theory.judge theory.goodSlot theory.highest theory.count theory.countsOf theory.try theory.stop theory.drain theory.after theory.run theory.said theory.told
     shelf.goodShelf shelf.slotFrom shelf.bytesOf shelf.slotAt shelf.putSlot
-    generic.receives generic.handledBy generic.fit generic.nextOk receiver.sizesOk
+    generic.receives generic.handledBy generic.fit generic.nextOk receiver.tablesOk receiver.sizesOk
 example-leaves Edition.V13 = refl
 example-leaves Edition.V13b = refl
 

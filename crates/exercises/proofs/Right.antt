@@ -27,6 +27,9 @@ use Rattle.symbols.specs.Work as entry-work
 use Rattle.orders.specs.Work as row-work
 use Rattle.book.specs.Plan as plan
 use Rattle.book.specs.Book as book
+use Rattle.book.specs.Ledger as ledger
+use Rattle.index.specs.Index as index
+use Rattle.engines.specs.Engines as engines
 use Rattle.views.specs.Ladder as ladder
 use Rattle.views.specs.Spread as spread
 use Rattle.views.specs.Views as views
@@ -66,14 +69,16 @@ unfolding table
     entry-work.entered
     row-work.remade row-work.reduced row-work.committed
     plan.ofKnown plan.target plan.upon keys.sideOf row-work.moves plan.rowFor plan.updatePlan plan.roomFor plan.addPlan plan.modifyPlan plan.executionPlan plan.planBy
-    book.planned book.carried book.applied
+    book.carried ledger.devised ledger.indexAfter ledger.posted
+    index.slots index.hash index.vacant index.filledAt index.placed index.taken index.freed index.entered index.eachRow index.zeroed index.built index.roomy index.came
+    engines.goodIndex engines.orderBy engines.freeBy engines.hinted engines.entryBy engines.putNoted engines.noted engines.hintedTo
     ladder.keyOf ladder.far ladder.placesOf ladder.prices
     spread.between spread.spreadOf
     views.goodTables views.viewFault views.spreadView
     sameBytes slots.sameSlot
     theory.judge theory.goodSlot theory.highest theory.count theory.countsOf theory.try theory.stop theory.drain theory.after theory.run theory.said theory.told
     shelf.goodShelf shelf.slotFrom shelf.bytesOf shelf.slotAt shelf.putSlot
-    generic.receives generic.handledBy generic.fit generic.nextOk receiver.sizesOk
+    generic.receives generic.handledBy generic.fit generic.nextOk receiver.tablesOk receiver.sizesOk
 right-13 = refl
 
 right-13b : exercises.tableAnswers Edition.V13b table ≡ exercises.tableResults table
@@ -97,14 +102,16 @@ unfolding table
     entry-work.entered
     row-work.remade row-work.reduced row-work.committed
     plan.ofKnown plan.target plan.upon keys.sideOf row-work.moves plan.rowFor plan.updatePlan plan.roomFor plan.addPlan plan.modifyPlan plan.executionPlan plan.planBy
-    book.planned book.carried book.applied
+    book.carried ledger.devised ledger.indexAfter ledger.posted
+    index.slots index.hash index.vacant index.filledAt index.placed index.taken index.freed index.entered index.eachRow index.zeroed index.built index.roomy index.came
+    engines.goodIndex engines.orderBy engines.freeBy engines.hinted engines.entryBy engines.putNoted engines.noted engines.hintedTo
     ladder.keyOf ladder.far ladder.placesOf ladder.prices
     spread.between spread.spreadOf
     views.goodTables views.viewFault views.spreadView
     sameBytes slots.sameSlot
     theory.judge theory.goodSlot theory.highest theory.count theory.countsOf theory.try theory.stop theory.drain theory.after theory.run theory.said theory.told
     shelf.goodShelf shelf.slotFrom shelf.bytesOf shelf.slotAt shelf.putSlot
-    generic.receives generic.handledBy generic.fit generic.nextOk receiver.sizesOk
+    generic.receives generic.handledBy generic.fit generic.nextOk receiver.tablesOk receiver.sizesOk
 right-13b = refl
 
 pub all-right : (ed : Edition) → exercises.tableAnswers ed table ≡ exercises.tableResults table

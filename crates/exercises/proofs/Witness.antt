@@ -31,6 +31,9 @@ use Rattle.symbols.specs.Work as entry-work
 use Rattle.orders.specs.Work as row-work
 use Rattle.book.specs.Plan as plan
 use Rattle.book.specs.Book as book
+use Rattle.book.specs.Ledger as ledger
+use Rattle.index.specs.Index as index
+use Rattle.engines.specs.Engines as engines
 use Rattle.arbitration.specs.Slots as slots
 use Rattle.arbitration.specs.Receive as theory
 use Rattle.arbitration.specs.Receive.{taken, Said}
@@ -39,12 +42,13 @@ use Rattle.shelf.specs.Shelf as shelf
 use Rattle.receiver.specs.Receiver as generic
 use Rattle.receiver.specs.Lent as receiver
 use Rattle.receiver.specs.Demand3.{Given, AnsweredTo, Names}
-use Rattle.receiver.proofs.Real.{calls-demand, fresh-started}
+use Rattle.receiver.proofs.Real.{fresh-started}
+use Rattle.receiver.proofs.Engines.{fresh-begins, calls-demand}
 use Rattle.exercises.specs.Messages as messages
 
 -- room for four orders and one symbol
 abbrev start : Edition → receiver.Lent
-start ed = receiver.fresh ed 20 entrySize shelfSize
+start ed = receiver.fresh ed 20 entrySize shelfSize 0
 
 abbrev given : List (List ℕ)
 given = messages.wholeExample ∷ []
@@ -99,19 +103,23 @@ true-copies ed =
       ),
     )
 
-sizes-good : receiver.sizesOk 20 entrySize shelfSize ≡ true
-unfolding receiver.sizesOk both rows.goodRows entries.goodEntries shelf.goodShelf
+sizes-good : receiver.tablesOk 20 entrySize shelfSize ≡ true
+unfolding receiver.tablesOk both rows.goodRows entries.goodEntries shelf.goodShelf
 sizes-good = refl
 
+no-index : engines.goodIndex 0 ≡ true
+unfolding engines.goodIndex either
+no-index = refl
+
 -- every premise
-pub example-given : (ed : Edition) → Given (receiver.real ed) messages.example (receiver.zeroBook 20 entrySize) (start ed) given
-example-given ed = record { well-formed = all-good ed; started = fresh-started ed 20 entrySize shelfSize sizes-good; copies = true-copies ed }
+pub example-given : (ed : Edition) → Given (receiver.plain ed) messages.example (receiver.zeroBook 20 entrySize) (receiver.plainOf (start ed)) given
+example-given ed = record { well-formed = all-good ed; started = fresh-started ed 20 entrySize shelfSize 0 sizes-good; copies = true-copies ed }
 
 -- the five are taken one after another, and applied
 all-taken : List Said
 all-taken = record { number = 1; answer = taken } ∷ record { number = 2; answer = taken } ∷ record { number = 3; answer = taken } ∷ record { number = 4; answer = taken } ∷ record { number = 5; answer = taken } ∷ []
 
-computed : (ed : Edition) → (theory.said (receiver.real ed .store) (receiver.bookEngine ed) (theory.accepted (packet.framing ed) given) (start ed .rx) ≡ all-taken) × (receiver.receivedAll given (start ed) .rx .next ≡ 6)
+computed : (ed : Edition) → (theory.said (receiver.plain ed .store) (receiver.bookEngine ed) (theory.accepted (packet.framing ed) given) (receiver.plainOf (start ed) .rx) ≡ all-taken) × (receiver.receivedAll given (start ed) .rx .next ≡ 6)
 unfolding all-taken messages.numbered messages.systemTime messages.symbolUpdate messages.addOrder messages.example messages.ofExample messages.wholeExample
     pick both either first cut pieces join putPiece le toLe field padded
     kinds.table kinds.lookup kinds.lengthOf kinds.kindOf
@@ -128,12 +136,14 @@ unfolding all-taken messages.numbered messages.systemTime messages.symbolUpdate 
     entry-work.entered
     row-work.moves row-work.remade row-work.reduced row-work.committed
     plan.ofKnown plan.target plan.upon plan.rowFor plan.updatePlan plan.roomFor plan.addPlan plan.modifyPlan plan.executionPlan plan.planBy
-    book.planned book.carried book.applied
+    book.planned book.carried book.applied ledger.devised ledger.indexAfter ledger.posted
+    index.slots index.hash index.vacant index.filledAt index.placed index.taken index.freed index.entered index.eachRow index.zeroed index.built index.roomy index.came
+    engines.goodIndex engines.orderBy engines.freeBy engines.hinted engines.entryBy engines.putNoted engines.noted engines.hintedTo
     sameBytes slots.sameSlot
     theory.judge theory.goodSlot theory.try theory.drain theory.after theory.run theory.said theory.accepted
     shelf.slotFrom shelf.bytesOf shelf.slotAt shelf.putSlot
     rows.goodRows entries.goodEntries shelf.goodShelf
-    receiver.receivedAll generic.receives generic.handledBy generic.fit generic.nextOk receiver.sizesOk
+    receiver.receivedAll generic.receives generic.handledBy generic.fit generic.nextOk receiver.tablesOk receiver.sizesOk
 computed Edition.V13 = (refl, refl)
 computed Edition.V13b = (refl, refl)
 
@@ -148,12 +158,12 @@ among (suc (suc (suc (suc zero)))) l h = later (later (later (here refl by-taken
 among (suc (suc (suc (suc (suc zero))))) l h = later (later (later (later (here refl by-taken))))
 among (suc (suc (suc (suc (suc (suc n)))))) l h = absurd (omega arith)
 
-pub example-answered : (ed : Edition) → AnsweredTo (receiver.real ed) 5 given (start ed)
+pub example-answered : (ed : Edition) → AnsweredTo (receiver.plain ed) 5 given (receiver.plainOf (start ed))
 example-answered ed n l h = subst (Among n) (sym (computed ed .0)) (among n l h)
 
 -- so demand 3 says of it what it says
-pub example-demanded : (ed : Edition) → (5 ≤ receiver.receivedAll given (start ed) .rx .next - 1) ⊎ Names (receiver.real ed) messages.example (receiver.zeroBook 20 entrySize) (receiver.receivedAll given (start ed))
-example-demanded ed = calls-demand ed messages.example 20 entrySize .second (start ed) given refl (example-given ed) 5 (example-answered ed)
+pub example-demanded : (ed : Edition) → (5 ≤ receiver.receivedAll given (start ed) .rx .next - 1) ⊎ Names (receiver.plain ed) messages.example (receiver.zeroBook 20 entrySize) (receiver.plainOf (receiver.receivedAll given (start ed)))
+example-demanded ed = calls-demand ed messages.example 20 entrySize .second (start ed) given (fresh-begins ed 20 entrySize shelfSize 0 no-index) (example-given ed) 5 (example-answered ed)
 
 -- and its first side is the one that holds: all five are applied
 pub example-next : (ed : Edition) → receiver.receivedAll given (start ed) .rx .next ≡ 6

@@ -85,10 +85,10 @@ pub record Now : Type 0 where
 abbrev pub now : Lent → Handled → Now
 now k x = record { was = k; last = x }
 
--- right after a start there is no packet yet: as if one had been refused
+-- right after a start there is no packet yet: as if one had been refused. No index is lent; with one the answers are the same (`both-engines` of receiver)
 unfoldable pub begins : Edition → ℕ → ℕ → Now
 begins ed orders symbols =
-    let k : Lent = fresh ed (rowSize * orders) (entrySize * symbols) shelfSize in
+    let k : Lent = fresh ed (rowSize * orders) (entrySize * symbols) shelfSize 0 in
     now k (handled (Received.Refused (refusal 0)) k)
 
 unfoldable pub goesOn : Now → List ℕ → Now

@@ -14,13 +14,13 @@ use views::Side;
 use views::SpreadAnswer;
 use words::Named;
 
-// Full capacities: five numbers a row.
-const ORDERS: usize = rows::ROW_SIZE * facts::MOST_ROWS;
+// The capacities of the program `sheet`: five numbers a row.
+const ORDERS: usize = rows::ROW_SIZE * facts::SHEET_ROWS;
 
 const SYMBOLS: usize = facts::ENTRY_SIZE * facts::MOST_ENTRIES;
 
 // Every row may make a level, of three numbers.
-const LEVELS: usize = 3 * facts::MOST_ROWS;
+const LEVELS: usize = 3 * facts::SHEET_ROWS;
 
 // The longest packet that a two-byte length can announce.
 const LONGEST: usize = 65535;
@@ -29,12 +29,14 @@ fn main() {
     let mut orders = [0u64; ORDERS];
     let mut symbols = [0u8; SYMBOLS];
     let mut shelf = [0u8; facts::SHELF_SIZE];
+    let mut index = [0u64; index::INDEX_SIZE];
     let mut held = [0u8; LONGEST];
     let mut levels = [0u64; LEVELS];
     answer(
         &mut orders,
         &mut symbols,
         &mut shelf,
+        &mut index,
         &mut held,
         &mut levels,
     );
@@ -53,11 +55,12 @@ fn answer(
     orders: &mut [u64],
     symbols: &mut [u8],
     shelf: &mut [u8],
+    index: &mut [u64],
     held: &mut [u8],
     levels: &mut [u64],
 ) {
     match edition_asked() {
-        Named::Known(e) => play(e, orders, symbols, shelf, held, levels),
+        Named::Known(e) => play(e, orders, symbols, shelf, index, held, levels),
         Named::Unknown => {
             io::write_all(
                 STDERR_FILENO,
@@ -72,15 +75,16 @@ fn play(
     orders: &mut [u64],
     symbols: &mut [u8],
     shelf: &mut [u8],
+    index: &mut [u64],
     held: &mut [u8],
     levels: &mut [u64],
 ) {
-    match receiver::start(e, orders, symbols, shelf) {
+    match receiver::start(e, orders, symbols, shelf, index) {
         Started::Refused(_) => {
             io::write_all(STDOUT_FILENO, b"refused\n");
         }
         Started::Ready(s) => {
-            let end = read_all(orders, symbols, shelf, held, s);
+            let end = read_all(orders, symbols, shelf, index, held, s);
             show_tables(orders, symbols, levels, end);
         }
     }
@@ -90,6 +94,7 @@ fn read_all(
     orders: &mut [u64],
     symbols: &mut [u8],
     shelf: &mut [u8],
+    index: &mut [u64],
     held: &mut [u8],
     start: State,
 ) -> State {
@@ -100,7 +105,7 @@ fn read_all(
         if held.len() < n {
             return s;
         }
-        s = give(orders, symbols, shelf, held, n, s);
+        s = give(orders, symbols, shelf, index, held, n, s);
         turns = turns - 1;
     }
     s
@@ -128,6 +133,7 @@ fn give(
     orders: &mut [u64],
     symbols: &mut [u8],
     shelf: &mut [u8],
+    index: &mut [u64],
     held: &[u8],
     n: usize,
     s: State,
@@ -135,7 +141,7 @@ fn give(
     if held.len() < n {
         return s;
     }
-    let r = receiver::receive(orders, symbols, shelf, s, &held[..n]);
+    let r = receiver::receive(orders, symbols, shelf, index, s, &held[..n]);
     let a = r.answer;
     let after = r.state;
     match a {

@@ -48,15 +48,15 @@ module _ (w : ℕ) (big : holdLeast ≤ w) where
   all-in (b ∷ bs) x h = all-in bs (byte b x) (byte-in b x h)
 
 -- ---- what is left between two chunks is all that counts
-module _ (w : ℕ) (y : Hearing) (k : Stream) (o s h w′ : List ℕ) (left : took w y ≡ feeding (Fed.Took k) o s h w′) where
+module _ (w : ℕ) (y : Hearing) (k : Stream) (o s h ix w′ : List ℕ) (left : took w y ≡ feeding (Fed.Took k) o s h ix w′) where
   pub same-stream : streamIn y ≡ k
   unfolding took
   same-stream = let e : Fed.Took (streamIn y) ≡ Fed.Took k = ap (λ (v : Feeding). v .answer) left in cc
 
-  pub again : hearingOf k o s h w′ ≡ y
+  pub again : hearingOf k o s h ix w′ ≡ y
   unfolding took
   again =
-      sym (λ i. hearingOf (same-stream i) (left i .orders) (left i .symbols) (left i .shelf) (left i .hold))
+      sym (λ i. hearingOf (same-stream i) (left i .orders) (left i .symbols) (left i .shelf) (left i .index) (left i .hold))
       ∙ ap (λ u. hearing u (y .skip) (y .kept)) (take-append-seam (y .unfinished) (replicate (w - length (y .unfinished)) 0))
 
   pub same-size : length (y .unfinished) ≤ w → length w′ ≡ w
@@ -66,36 +66,36 @@ module _ (w : ℕ) (y : Hearing) (k : Stream) (o s h w′ : List ℕ) (left : to
       ∙ rw (length-append, length-replicate) (omega arith)
 
 -- a stream that was not refused took the chunk's bytes
-module _ (k k′ : Stream) (o s h w o′ s′ h′ w′ a : List ℕ) (e : fed k o s h w a ≡ feeding (Fed.Took k′) o′ s′ h′ w′) where
-  fed-bytes : (feedable k (length o) (length s) (length h) (length w) ≡ true) × (took (length w) (each byte a (hearingOf k o s h w)) ≡ feeding (Fed.Took k′) o′ s′ h′ w′)
+module _ (k k′ : Stream) (o s h ix w o′ s′ h′ ix′ w′ a : List ℕ) (e : fed k o s h ix w a ≡ feeding (Fed.Took k′) o′ s′ h′ ix′ w′) where
+  fed-bytes : (feedable k (length o) (length s) (length h) (length ix) (length w) ≡ true) × (took (length w) (each byte a (hearingOf k o s h ix w)) ≡ feeding (Fed.Took k′) o′ s′ h′ ix′ w′)
   unfolding fed
   fed-bytes = go (pick-cases e)
     where
-      go : ((feedable k (length o) (length s) (length h) (length w) ≡ true) × (took (length w) (each byte a (hearingOf k o s h w)) ≡ feeding (Fed.Took k′) o′ s′ h′ w′)) ⊎ ((feedable k (length o) (length s) (length h) (length w) ≡ false) × (feeding (Fed.Refused (refusal 6)) o s h w ≡ feeding (Fed.Took k′) o′ s′ h′ w′)) → (feedable k (length o) (length s) (length h) (length w) ≡ true) × (took (length w) (each byte a (hearingOf k o s h w)) ≡ feeding (Fed.Took k′) o′ s′ h′ w′)
+      go : ((feedable k (length o) (length s) (length h) (length ix) (length w) ≡ true) × (took (length w) (each byte a (hearingOf k o s h ix w)) ≡ feeding (Fed.Took k′) o′ s′ h′ ix′ w′)) ⊎ ((feedable k (length o) (length s) (length h) (length ix) (length w) ≡ false) × (feeding (Fed.Refused (refusal 6)) o s h ix w ≡ feeding (Fed.Took k′) o′ s′ h′ ix′ w′)) → (feedable k (length o) (length s) (length h) (length ix) (length w) ≡ true) × (took (length w) (each byte a (hearingOf k o s h ix w)) ≡ feeding (Fed.Took k′) o′ s′ h′ ix′ w′)
       go (inl q) = q
       go (inr q) =
           let r : Fed.Refused (refusal 6) ≡ Fed.Took k′ = ap (λ (v : Feeding). v .answer) (q .1) in
           let z : _≡_ {A = ℕ} 0 1 = cc in absurd (omega arith)
 
   -- a and then b is a ++ b, wherever the stream that a left is not refused
-  pub fed-then : (b : List ℕ) → feedable k′ (length o′) (length s′) (length h′) (length w′) ≡ true → fed k′ o′ s′ h′ w′ b ≡ fed k o s h w (a ++ b)
+  pub fed-then : (b : List ℕ) → feedable k′ (length o′) (length s′) (length h′) (length ix′) (length w′) ≡ true → fed k′ o′ s′ h′ ix′ w′ b ≡ fed k o s h ix w (a ++ b)
   unfolding fed pick
   fed-then b f =
-      let x : Hearing = hearingOf k o s h w in
+      let x : Hearing = hearingOf k o s h ix w in
       let y : Hearing = each byte a x in
       let q = fed-bytes in
-      let room = buffer-fits k (length o) (length s) (length h) (length w) (q .0) in
+      let room = buffer-fits k (length o) (length s) (length h) (length ix) (length w) (q .0) in
       let few : length (y .unfinished) ≤ length w = all-in (length w) (room .1) a x (rw (length-take-le (k .held) w (room .0)) (room .0)) in
-      let size : length w′ ≡ length w = same-size (length w) y k′ o′ s′ h′ w′ (q .1) few in
-      let back : hearingOf k′ o′ s′ h′ w′ ≡ y = again (length w) y k′ o′ s′ h′ w′ (q .1) in
-      ap (λ t. pick t (took (length w′) (each byte b (hearingOf k′ o′ s′ h′ w′))) (feeding (Fed.Refused (refusal 6)) o′ s′ h′ w′)) f
+      let size : length w′ ≡ length w = same-size (length w) y k′ o′ s′ h′ ix′ w′ (q .1) few in
+      let back : hearingOf k′ o′ s′ h′ ix′ w′ ≡ y = again (length w) y k′ o′ s′ h′ ix′ w′ (q .1) in
+      ap (λ t. pick t (took (length w′) (each byte b (hearingOf k′ o′ s′ h′ ix′ w′))) (feeding (Fed.Refused (refusal 6)) o′ s′ h′ ix′ w′)) f
       ∙ (λ i. took (size i) (each byte b (back i)))
       ∙ ap (took (length w)) (sym (feed-append byte a b x))
-      ∙ ap (λ t. pick t (took (length w) (each byte (a ++ b) x)) (feeding (Fed.Refused (refusal 6)) o s h w)) (sym (q .0))
+      ∙ ap (λ t. pick t (took (length w) (each byte (a ++ b) x)) (feeding (Fed.Refused (refusal 6)) o s h ix w)) (sym (q .0))
 
 -- "a recording that ends inside a length or packet gives `recording=cut`": an opened stream that took t is cut where anything is left of t behind its packets, and only there
-pub fed-cut : (q : State) (k : Stream) (o s h w o′ s′ h′ w′ t : List ℕ) → fed (opened q) o s h w t ≡ feeding (Fed.Took k) o′ s′ h′ w′ → cut k ≡ ltb 0 (length (restOf t))
-fed-cut q k o s h w o′ s′ h′ w′ t e =
-    let y : Hearing = each byte t (hearingOf (opened q) o s h w) in
-    let left = fed-bytes (opened q) k o s h w o′ s′ h′ w′ t e .1 in
-    ap cut (sym (same-stream (length w) y k o′ s′ h′ w′ left)) ∙ cut-rest t (standingOf (opened q) o s h)
+pub fed-cut : (q : State) (k : Stream) (o s h ix w o′ s′ h′ ix′ w′ t : List ℕ) → fed (opened q) o s h ix w t ≡ feeding (Fed.Took k) o′ s′ h′ ix′ w′ → cut k ≡ ltb 0 (length (restOf t))
+fed-cut q k o s h ix w o′ s′ h′ ix′ w′ t e =
+    let y : Hearing = each byte t (hearingOf (opened q) o s h ix w) in
+    let left = fed-bytes (opened q) k o s h ix w o′ s′ h′ ix′ w′ t e .1 in
+    ap cut (sym (same-stream (length w) y k o′ s′ h′ ix′ w′ left)) ∙ cut-rest t (standingOf (opened q) o s h ix)

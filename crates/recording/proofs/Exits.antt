@@ -53,8 +53,8 @@ module _ (k : Standing) (p : List ℕ) (short : length p ≤ packetMost) (x : Ha
   heard-bad f e = heard-as (Received.Bad f) e
 
 -- a refused packet, over any tables
-pub missed-as : (k v : Stream) (q : State) (f : Fault) (o s h : List ℕ) → v ≡ missing k q f → standingOf v o s h ≡ standing (more (k .bad) 1) f (k .totals) (lent o s h q)
-missed-as k v q f o s h e = ap (λ (x : Stream). standingOf x o s h) e
+pub missed-as : (k v : Stream) (q : State) (f : Fault) (o s h ix : List ℕ) → v ≡ missing k q f → standingOf v o s h ix ≡ standing (more (k .bad) 1) f (k .totals) (lent o s h ix q)
+missed-as k v q f o s h ix e = ap (λ (x : Stream). standingOf x o s h ix) e
 
 -- ---- `pass`
 module _ (k : Stream) (at end : ℕ) (inside : at < end) where
@@ -85,15 +85,15 @@ clear-zeros w h z l e =
     ap (λ v. take h w ++ (z ++ v)) behind ∙ ap (λ v. take h w ++ v) (append-nil z ∙ e ∙ ap (λ m. replicate m 0) n)
 
 -- ---- `push`: w′ is the buffer w with the byte stored
-module _ (k : Stream) (o s h w : List ℕ) (b : ℕ) (no-skip : k .skip ≡ 0) (fits : k .held ≤ length w) (big : holdLeast ≤ length w) (w′ : List ℕ) (stored : w′ ≡ set w (k .held) b) where
+module _ (k : Stream) (o s h ix w : List ℕ) (b : ℕ) (no-skip : k .skip ≡ 0) (fits : k .held ≤ length w) (big : holdLeast ≤ length w) (w′ : List ℕ) (stored : w′ ≡ set w (k .held) b) where
   abbrev u : List ℕ
   u = take (k .held) w ++ (b ∷ [])
 
   abbrev K : Standing
-  K = standingOf k o s h
+  K = standingOf k o s h ix
 
   abbrev x : Hearing
-  x = hearingOf k o s h w
+  x = hearingOf k o s h ix w
 
   is-grown : byte b x ≡ grown hearer u K
   is-grown = ap (λ n. byte b (hearing (take (k .held) w) n K)) no-skip ∙ byte-grows hearer b (take (k .held) w) K
@@ -104,12 +104,12 @@ module _ (k : Stream) (o s h w : List ℕ) (b : ℕ) (no-skip : k .skip ≡ 0) (
   u-size : length u ≡ k .held + 1
   u-size = length-grew w (k .held) b fits
 
-  one-kept : grown hearer u K ≡ hearing u 0 K → k .held < length w → (m : ℕ) → m ≡ k .held + 1 → Pushed b x (record { receiver = k .receiver; held = m; skip = k .skip; bad = k .bad; last = k .last; totals = k .totals }) o s h w′
+  one-kept : grown hearer u K ≡ hearing u 0 K → k .held < length w → (m : ℕ) → m ≡ k .held + 1 → Pushed b x (record { receiver = k .receiver; held = m; skip = k .skip; bad = k .bad; last = k .last; totals = k .totals }) o s h ix w′
   one-kept g l m e =
       let front : take m w′ ≡ u = ap (λ v. take m v) stored ∙ ap (λ j. take j (set w (k .held) b)) (e ∙ add-one (k .held)) ∙ take-suc-set w (k .held) b l in
       record { fits = omega (arith, same-size); is = (λ i. hearing (front i) (no-skip i) K) ∙ sym g ∙ sym is-grown }
 
-  pub push-first : k .held ≡ 0 → Pushed b x (record { receiver = k .receiver; held = 1; skip = k .skip; bad = k .bad; last = k .last; totals = k .totals }) o s h w′
+  pub push-first : k .held ≡ 0 → Pushed b x (record { receiver = k .receiver; held = 1; skip = k .skip; bad = k .bad; last = k .last; totals = k .totals }) o s h ix w′
   push-first z = one-kept (keeps-one hearer u K (omega (arith, u-size))) (omega arith) 1 (omega arith)
 
   module _ (some : k .held ≡ 0 → ⊥) (n : ℕ) (n-is : n ≡ field w′ 0 2) where
@@ -119,16 +119,16 @@ module _ (k : Stream) (o s h w : List ℕ) (b : ℕ) (no-skip : k .skip ≡ 0) (
     u-two : 2 ≤ length u
     u-two = omega (arith, u-size)
 
-    pub push-over : packetMost < n → Pushed b x (record { receiver = k .receiver; held = 0; skip = n; bad = k .bad; last = k .last; totals = k .totals }) o s h w′
+    pub push-over : packetMost < n → Pushed b x (record { receiver = k .receiver; held = 0; skip = n; bad = k .bad; last = k .last; totals = k .totals }) o s h ix w′
     push-over l =
         let g = over-long hearer u K u-two (lt-ltb packetMost (field u 0 2) (omega (arith, u-field))) in
         record { fits = omega arith; is = (λ i. hearing [] (u-field i) K) ∙ sym g ∙ sym is-grown }
 
-    pub push-keeps : n ≤ packetMost → k .held ≤ n → Pushed b x (record { receiver = k .receiver; held = k .held + 1; skip = k .skip; bad = k .bad; last = k .last; totals = k .totals }) o s h w′
+    pub push-keeps : n ≤ packetMost → k .held ≤ n → Pushed b x (record { receiver = k .receiver; held = k .held + 1; skip = k .skip; bad = k .bad; last = k .last; totals = k .totals }) o s h ix w′
     push-keeps a c = one-kept (keeps hearer u K u-two (le-ltb packetMost (field u 0 2) (omega (arith, u-field))) (omega (arith, u-field, u-size))) (omega arith) (k .held + 1) refl
 
-    pub push-gives : n ≤ packetMost → n < k .held → (r : Stream) (o′ s′ h′ : List ℕ) → standingOf r o′ s′ h′ ≡ heard (take (2 + n - 2) (drop 2 w′)) K → r .held ≡ 0 → r .skip ≡ 0 → Pushed b x r o′ s′ h′ w′
-    push-gives a c r o′ s′ h′ e z y =
+    pub push-gives : n ≤ packetMost → n < k .held → (r : Stream) (o′ s′ h′ ix′ : List ℕ) → standingOf r o′ s′ h′ ix′ ≡ heard (take (2 + n - 2) (drop 2 w′)) K → r .held ≡ 0 → r .skip ≡ 0 → Pushed b x r o′ s′ h′ ix′ w′
+    push-gives a c r o′ s′ h′ ix′ e z y =
         let g = gives hearer u K u-two (le-ltb packetMost (field u 0 2) (omega (arith, u-field))) (omega (arith, u-field, u-size)) in
         let p : take (2 + n - 2) (drop 2 w′) ≡ take (field u 0 2) (drop 2 u) = rw (add-sub-cancel-left 2 n, stored, ← u-field) (same-bytes w (k .held) b fits n (omega arith) (omega arith)) in
         record { fits = omega arith; is = (λ i. hearing (take (z i) w′) (y i) (e i)) ∙ ap (λ q. hearing [] 0 (heard q K)) p ∙ sym g ∙ sym is-grown }
@@ -139,14 +139,14 @@ unfolding field
 here-length t at = refl
 
 -- a stream that passes bytes over is the carving that does
-as-passed : (t : Bool) (n : ℕ) (k : Stream) (o s h w : List ℕ) → hearingOf (pick t (passedEnd n k) (passedOn n k)) o s h w ≡ hearing (take (k .held) w) (k .skip - n) (pick t (hearer .long (standingOf k o s h)) (standingOf k o s h))
+as-passed : (t : Bool) (n : ℕ) (k : Stream) (o s h ix w : List ℕ) → hearingOf (pick t (passedEnd n k) (passedOn n k)) o s h ix w ≡ hearing (take (k .held) w) (k .skip - n) (pick t (hearer .long (standingOf k o s h ix)) (standingOf k o s h ix))
 unfolding pick
-as-passed true n k o s h w = refl
-as-passed false n k o s h w = refl
+as-passed true n k o s h ix w = refl
+as-passed false n k o s h ix w = refl
 
-pub step-passes : (k : Stream) (o s h w chunk : List ℕ) (at : ℕ) (r : Moved) → 0 < k .skip → k .held ≤ length w → Passed k at (length chunk) r → Stepped chunk at (hearingOf k o s h w) r o s h w
+pub step-passes : (k : Stream) (o s h ix w chunk : List ℕ) (at : ℕ) (r : Moved) → 0 < k .skip → k .held ≤ length w → Passed k at (length chunk) r → Stepped chunk at (hearingOf k o s h ix w) r o s h ix w
 unfolding passed
-step-passes k o s h w chunk at r p fits q =
+step-passes k o s h ix w chunk at r p fits q =
     let n : ℕ = r .at - at in
     let place : at + n ≡ r .at = omega (arith, q .on) in
     let behind : drop n (drop at chunk) ≡ drop (r .at) chunk = drop-drop n at chunk ∙ ap (λ j. drop j chunk) place in
@@ -156,14 +156,14 @@ step-passes k o s h w chunk at r p fits q =
       within = q .within;
       fits = omega arith;
       same =
-          ap (λ v. each byte (drop (r .at) chunk) (hearingOf v o s h w)) (q .stream-is)
-          ∙ ap (each byte (drop (r .at) chunk)) (as-passed (eqb n (k .skip)) n k o s h w)
-          ∙ ap (λ d. each byte d (passed hearer n (hearingOf k o s h w))) (sym behind)
-          ∙ passes hearer n (drop at chunk) (hearingOf k o s h w) (omega (arith, q .on)) (q .most) (rw length-drop (omega (arith, q .on, q .within)));
+          ap (λ v. each byte (drop (r .at) chunk) (hearingOf v o s h ix w)) (q .stream-is)
+          ∙ ap (each byte (drop (r .at) chunk)) (as-passed (eqb n (k .skip)) n k o s h ix w)
+          ∙ ap (λ d. each byte d (passed hearer n (hearingOf k o s h ix w))) (sym behind)
+          ∙ passes hearer n (drop at chunk) (hearingOf k o s h ix w) (omega (arith, q .on)) (q .most) (rw length-drop (omega (arith, q .on, q .within)));
     }
 
-pub step-gives : (k : Stream) (o s h w chunk : List ℕ) (at m : ℕ) → k .skip ≡ 0 → k .held ≡ 0 → 0 < m → WholeAt chunk at m → (r : Stream) (o′ s′ h′ : List ℕ) → standingOf r o′ s′ h′ ≡ heard (take (at + m - (at + 2)) (drop (at + 2) chunk)) (standingOf k o s h) → r .held ≡ 0 → r .skip ≡ 0 → Stepped chunk at (hearingOf k o s h w) (record { at = at + m; stream = r }) o′ s′ h′ w
-step-gives k o s h w chunk at m no-skip none some q r o′ s′ h′ e z y =
+pub step-gives : (k : Stream) (o s h ix w chunk : List ℕ) (at m : ℕ) → k .skip ≡ 0 → k .held ≡ 0 → 0 < m → WholeAt chunk at m → (r : Stream) (o′ s′ h′ ix′ : List ℕ) → standingOf r o′ s′ h′ ix′ ≡ heard (take (at + m - (at + 2)) (drop (at + 2) chunk)) (standingOf k o s h ix) → r .held ≡ 0 → r .skip ≡ 0 → Stepped chunk at (hearingOf k o s h ix w) (record { at = at + m; stream = r }) o′ s′ h′ ix′ w
+step-gives k o s h ix w chunk at m no-skip none some q r o′ s′ h′ ix′ e z y =
     let l : List ℕ = drop at chunk in
     let f : field l 0 2 ≡ field chunk at 2 = here-length chunk at in
     let size : at + m - (at + 2) ≡ field l 0 2 = omega (arith, q .is) in
@@ -176,14 +176,14 @@ step-gives k o s h w chunk at m no-skip none some q r o′ s′ h′ e z y =
       fits = omega arith;
       same =
           (λ i. each byte (drop (at + m) chunk) (hearing (take (z i) w) (y i) (e i)))
-          ∙ ap (λ v. each byte (drop (at + m) chunk) (hearing [] 0 (heard v (standingOf k o s h)))) p
-          ∙ ap (λ d. each byte d (hearing [] 0 (heard (take (field l 0 2) (drop 2 l)) (standingOf k o s h)))) (sym behind)
-          ∙ at-once hearer l (standingOf k o s h) (le-ltb packetMost (field l 0 2) (omega (arith, q .small))) (rw length-drop (omega (arith, q .is, q .fits)))
-          ∙ (λ i. each byte l (hearing (take (sym none i) w) (sym no-skip i) (standingOf k o s h)));
+          ∙ ap (λ v. each byte (drop (at + m) chunk) (hearing [] 0 (heard v (standingOf k o s h ix)))) p
+          ∙ ap (λ d. each byte d (hearing [] 0 (heard (take (field l 0 2) (drop 2 l)) (standingOf k o s h ix)))) (sym behind)
+          ∙ at-once hearer l (standingOf k o s h ix) (le-ltb packetMost (field l 0 2) (omega (arith, q .small))) (rw length-drop (omega (arith, q .is, q .fits)))
+          ∙ (λ i. each byte l (hearing (take (sym none i) w) (sym no-skip i) (standingOf k o s h ix)));
     }
 
-pub step-pushes : (chunk : List ℕ) (at : ℕ) (x : Hearing) (r : Stream) (o s h w : List ℕ) → at < length chunk → Pushed (getD chunk at 0) x r o s h w → Stepped chunk at x (record { at = at + 1; stream = r }) o s h w
-step-pushes chunk at x r o s h w l q =
+pub step-pushes : (chunk : List ℕ) (at : ℕ) (x : Hearing) (r : Stream) (o s h ix w : List ℕ) → at < length chunk → Pushed (getD chunk at 0) x r o s h ix w → Stepped chunk at x (record { at = at + 1; stream = r }) o s h ix w
+step-pushes chunk at x r o s h ix w l q =
     record { on = omega arith; within = omega arith; fits = q .fits; same = ap (each byte (drop (at + 1) chunk)) (q .is) ∙ at-byte hearer chunk at x l }
 
 -- ---- the loop's end
@@ -192,25 +192,25 @@ unfolding each
 ran chunk at l y end e = ap (λ d. each byte d y) (sym (drop-of-length-le chunk l)) ∙ e
 
 -- ---- `feed`
-module _ (k : Stream) (o s h w chunk : List ℕ) where
-  pub fed-refused : feedable k (length o) (length s) (length h) (length w) ≡ false → feeding (Fed.Refused (refusal 6)) o s h w ≡ fed k o s h w chunk
+module _ (k : Stream) (o s h ix w chunk : List ℕ) where
+  pub fed-refused : feedable k (length o) (length s) (length h) (length ix) (length w) ≡ false → feeding (Fed.Refused (refusal 6)) o s h ix w ≡ fed k o s h ix w chunk
   unfolding fed pick
   fed-refused e = simp e
 
   -- r and o′ to w′ after all bytes, z the buffer with the rest zeroed
-  pub fed-took : feedable k (length o) (length s) (length h) (length w) ≡ true → (r : Stream) (o′ s′ h′ w′ z : List ℕ) → length w′ ≡ length w → Ran chunk (hearingOf k o s h w) r o′ s′ h′ w′ → z ≡ take (r .held) w′ ++ replicate (length w′ - r .held) 0 → feeding (Fed.Took r) o′ s′ h′ z ≡ fed k o s h w chunk
+  pub fed-took : feedable k (length o) (length s) (length h) (length ix) (length w) ≡ true → (r : Stream) (o′ s′ h′ ix′ w′ z : List ℕ) → length w′ ≡ length w → Ran chunk (hearingOf k o s h ix w) r o′ s′ h′ ix′ w′ → z ≡ take (r .held) w′ ++ replicate (length w′ - r .held) 0 → feeding (Fed.Took r) o′ s′ h′ ix′ z ≡ fed k o s h ix w chunk
   unfolding fed took pick
-  fed-took e r o′ s′ h′ w′ z n q c =
+  fed-took e r o′ s′ h′ ix′ w′ z n q c =
       let len : r .held ≡ length (take (r .held) w′) = sym (length-take-le (r .held) w′ (q .fits)) in
       let buffer : z ≡ take (r .held) w′ ++ replicate (length w - length (take (r .held) w′)) 0 = c ∙ (λ i. take (r .held) w′ ++ replicate (n i - len i) 0) in
-      (λ i. feeding (Fed.Took (record { receiver = r .receiver; held = len i; skip = r .skip; bad = r .bad; last = r .last; totals = r .totals })) o′ s′ h′ (buffer i))
+      (λ i. feeding (Fed.Took (record { receiver = r .receiver; held = len i; skip = r .skip; bad = r .bad; last = r .last; totals = r .totals })) o′ s′ h′ ix′ (buffer i))
       ∙ ap (took (length w)) (q .is)
       ∙ simp e
 
 -- the buffer of a stream that is not refused
-pub buffer-fits : (k : Stream) (o s h w : ℕ) → feedable k o s h w ≡ true → (k .held ≤ w) × (holdLeast ≤ w)
+pub buffer-fits : (k : Stream) (o s h ix w : ℕ) → feedable k o s h ix w ≡ true → (k .held ≤ w) × (holdLeast ≤ w)
 unfolding feedable
-buffer-fits k o s h w e =
-    let b = both-true {a = both (sizesOk o s h) (nextOk (k .receiver .next))} {b = both (leb holdLeast w) (leb (k .held) w)} e .1 in
+buffer-fits k o s h ix w e =
+    let b = both-true {a = both (sizesOk o s h ix) (nextOk (k .receiver .next))} {b = both (leb holdLeast w) (leb (k .held) w)} e .1 in
     let p = both-true {a = leb holdLeast w} {b = leb (k .held) w} b in
     (leb-true (k .held) w (p .1), leb-true holdLeast w (p .0))

@@ -11,12 +11,12 @@ use Rattle.recording.specs.Stream.{feedable, Feeding, feeding, took, fed
 use Rattle.recording.specs.declared.Stream.{Stream}
 use Rattle.recording.specs.declared.Fed.{Fed}
 
-module _ (k : Stream) (o s h w chunk : List ℕ) where
-  pub feed-number : fedNumber (fed k o s h w chunk .answer) ≡ pick (feedable k (length o) (length s) (length h) (length w)) 0 6
+module _ (k : Stream) (o s h ix w chunk : List ℕ) where
+  pub feed-number : fedNumber (fed k o s h ix w chunk .answer) ≡ pick (feedable k (length o) (length s) (length h) (length ix) (length w)) 0 6
   unfolding fed took fedNumber
-  feed-number = pick-map (λ (x : Feeding). fedNumber (x .answer)) (feedable k (length o) (length s) (length h) (length w)) _ _
+  feed-number = pick-map (λ (x : Feeding). fedNumber (x .answer)) (feedable k (length o) (length s) (length h) (length ix) (length w)) _ _
 
   -- "Each refusal returns its number alone; tables, output and state keep every byte"
-  pub feed-keeps : (fedNumber (fed k o s h w chunk .answer) ≡ 0 → ⊥) → fed k o s h w chunk ≡ feeding (Fed.Refused (refusal 6)) o s h w
+  pub feed-keeps : (fedNumber (fed k o s h ix w chunk .answer) ≡ 0 → ⊥) → fed k o s h ix w chunk ≡ feeding (Fed.Refused (refusal 6)) o s h ix w
   unfolding fed took fedNumber
-  feed-keeps = pick-ind (λ x. (fedNumber (x .answer) ≡ 0 → ⊥) → x ≡ feeding (Fed.Refused (refusal 6)) o s h w) (feedable k (length o) (length s) (length h) (length w)) _ (feeding (Fed.Refused (refusal 6)) o s h w) (λ _ n. absurd (n refl)) (λ _ _. refl)
+  feed-keeps = pick-ind (λ x. (fedNumber (x .answer) ≡ 0 → ⊥) → x ≡ feeding (Fed.Refused (refusal 6)) o s h ix w) (feedable k (length o) (length s) (length h) (length ix) (length w)) _ (feeding (Fed.Refused (refusal 6)) o s h ix w) (λ _ n. absurd (n refl)) (λ _ _. refl)

@@ -42,18 +42,18 @@ pub record Passed (k : Stream) (at end : ℕ) (r : Moved) : Type 0 where
   pub stream-is : r .stream ≡ passedOver (r .at - at) k
 
 -- one byte, from x
-pub record Pushed (b : ℕ) (x : Hearing) (r : Stream) (o s h w : List ℕ) : Type 0 where
+pub record Pushed (b : ℕ) (x : Hearing) (r : Stream) (o s h ix w : List ℕ) : Type 0 where
   pub fits : r .held ≤ length w
-  pub is : hearingOf r o s h w ≡ byte b x
+  pub is : hearingOf r o s h ix w ≡ byte b x
 
 -- a move inside a chunk: what is left of it, from here, gives the same end
-pub record Stepped (chunk : List ℕ) (at : ℕ) (x : Hearing) (r : Moved) (o s h w : List ℕ) : Type 0 where
+pub record Stepped (chunk : List ℕ) (at : ℕ) (x : Hearing) (r : Moved) (o s h ix w : List ℕ) : Type 0 where
   pub on : at < r .at
   pub within : r .at ≤ length chunk
   pub fits : r .stream .held ≤ length w
-  pub same : each byte (drop (r .at) chunk) (hearingOf (r .stream) o s h w) ≡ each byte (drop at chunk) x
+  pub same : each byte (drop (r .at) chunk) (hearingOf (r .stream) o s h ix w) ≡ each byte (drop at chunk) x
 
 -- all of a chunk
-pub record Ran (chunk : List ℕ) (x : Hearing) (r : Stream) (o s h w : List ℕ) : Type 0 where
+pub record Ran (chunk : List ℕ) (x : Hearing) (r : Stream) (o s h ix w : List ℕ) : Type 0 where
   pub fits : r .held ≤ length w
-  pub is : hearingOf r o s h w ≡ each byte chunk x
+  pub is : hearingOf r o s h ix w ≡ each byte chunk x

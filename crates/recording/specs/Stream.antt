@@ -12,7 +12,7 @@ use Rattle.arbitration.specs.declared.Counts.{Counts}
 use Rattle.arbitration.specs.Receive.{noCounts}
 use Rattle.arbitration.specs.Stream.{each}
 use Rattle.receiver.specs.Receiver.{nextOk}
-use Rattle.receiver.specs.Lent.{Lent, lent, ordersOf, symbolsOf, shelfOf, stateOf, received, sizesOk}
+use Rattle.receiver.specs.Lent.{Lent, lent, ordersOf, symbolsOf, shelfOf, indexOf, stateOf, received, sizesOk}
 use Rattle.receiver.specs.declared.State.{State}
 use Rattle.receiver.specs.declared.Received.{Received}
 use Rattle.recording.specs.Carve.{Hearer, Carved, carved, carve}
@@ -27,7 +27,7 @@ more a b = min (a + b) 18446744073709551615
 unfoldable pub added : Counts → Counts → Counts
 added t n = record { taken = more (n .taken) (t .taken); old = more (n .old) (t .old); far = more (n .far) (t .far); repeated = more (n .repeated) (t .repeated); differing = more (n .differing) (t .differing) }
 
--- what packets change: the counts, why the last refused packet was, and the receiver with its tables
+-- what packets change: the counts, why the last refused packet was, and the receiver with what it is lent
 pub record Standing : Type 0 where
   pub bad : ℕ
   pub last : Fault
@@ -74,11 +74,11 @@ abbrev pub byte : ℕ → Hearing → Hearing
 byte = carve hearer
 
 -- ---- the stream of the code: its state by value, the tables and the lent buffer
-abbrev pub standingOf : Stream → List ℕ → List ℕ → List ℕ → Standing
-standingOf k o s h = standing (k .bad) (k .last) (k .totals) (lent o s h (k .receiver))
+abbrev pub standingOf : Stream → List ℕ → List ℕ → List ℕ → List ℕ → Standing
+standingOf k o s h ix = standing (k .bad) (k .last) (k .totals) (lent o s h ix (k .receiver))
 
-abbrev pub hearingOf : Stream → List ℕ → List ℕ → List ℕ → List ℕ → Hearing
-hearingOf k o s h w = hearing (take (k .held) w) (k .skip) (standingOf k o s h)
+abbrev pub hearingOf : Stream → List ℕ → List ℕ → List ℕ → List ℕ → List ℕ → Hearing
+hearingOf k o s h ix w = hearing (take (k .held) w) (k .skip) (standingOf k o s h ix)
 
 -- nothing held, nothing to pass over, nothing refused, nothing counted
 abbrev pub opened : State → Stream
@@ -89,8 +89,8 @@ unfoldable pub cut : Stream → Bool
 cut k = either (ltb 0 (k .held)) (ltb 0 (k .skip))
 
 -- "a lent buffer of 1,502 bytes or more for the unfinished packet (else 6, as also when the state claims more bytes held than the buffer has)"; 6 also where a receiver is refused by 6
-unfoldable pub feedable : Stream → ℕ → ℕ → ℕ → ℕ → Bool
-feedable k o s h w = both (both (sizesOk o s h) (nextOk (k .receiver .next))) (both (leb holdLeast w) (leb (k .held) w))
+unfoldable pub feedable : Stream → ℕ → ℕ → ℕ → ℕ → ℕ → Bool
+feedable k o s h i w = both (both (sizesOk o s h i) (nextOk (k .receiver .next))) (both (leb holdLeast w) (leb (k .held) w))
 
 -- an answer, and what was lent after it
 pub record Feeding : Type 0 where
@@ -98,10 +98,11 @@ pub record Feeding : Type 0 where
   pub orders : List ℕ
   pub symbols : List ℕ
   pub shelf : List ℕ
+  pub index : List ℕ
   pub hold : List ℕ
 
-abbrev pub feeding : Fed → List ℕ → List ℕ → List ℕ → List ℕ → Feeding
-feeding a o s h w = record { answer = a; orders = o; symbols = s; shelf = h; hold = w }
+abbrev pub feeding : Fed → List ℕ → List ℕ → List ℕ → List ℕ → List ℕ → Feeding
+feeding a o s h ix w = record { answer = a; orders = o; symbols = s; shelf = h; index = ix; hold = w }
 
 -- document 01's number of each answer, 0 where nothing is refused
 unfoldable pub fedNumber : Fed → ℕ
@@ -115,12 +116,12 @@ streamIn x = record { receiver = stateOf (x .kept .lent); held = length (x .unfi
 unfoldable pub took : ℕ → Hearing → Feeding
 took w x =
     feeding (Fed.Took (streamIn x))
-    (ordersOf (x .kept .lent)) (symbolsOf (x .kept .lent)) (shelfOf (x .kept .lent))
+    (ordersOf (x .kept .lent)) (symbolsOf (x .kept .lent)) (shelfOf (x .kept .lent)) (indexOf (x .kept .lent))
     (x .unfinished ++ replicate (w - length (x .unfinished)) 0)
 
 -- a chunk of any size, and a stream of any state with anything lent
-unfoldable pub fed : Stream → List ℕ → List ℕ → List ℕ → List ℕ → List ℕ → Feeding
-fed k o s h w chunk =
-    pick (feedable k (length o) (length s) (length h) (length w))
-    (took (length w) (each byte chunk (hearingOf k o s h w)))
-    (feeding (Fed.Refused (refusal 6)) o s h w)
+unfoldable pub fed : Stream → List ℕ → List ℕ → List ℕ → List ℕ → List ℕ → List ℕ → Feeding
+fed k o s h ix w chunk =
+    pick (feedable k (length o) (length s) (length h) (length ix) (length w))
+    (took (length w) (each byte chunk (hearingOf k o s h ix w)))
+    (feeding (Fed.Refused (refusal 6)) o s h ix w)

@@ -11,7 +11,7 @@ use Rattle.facts.specs.Limits.{packetMost}
 use Rattle.editions.specs.declared.Edition.{Edition}
 use Rattle.wire.specs.Le.{field}
 use Rattle.fields.specs.Fields.{badAt}
-use Rattle.receiver.specs.Lent.{fresh, freshState}
+use Rattle.receiver.specs.Lent.{fresh, freshState, startIndex}
 use Rattle.arbitration.specs.Receive.{noCounts}
 use Rattle.arbitration.specs.Stream.{each}
 use Rattle.recording.specs.Carve.{Hearer, Carved, carved, carve}
@@ -60,7 +60,7 @@ unfoldable pub fedOn : List ℕ → Feeding → Feeding
 fedOn c x = go (x .answer)
   where
     go : Fed → Feeding
-    go (Fed.Took k) = fed k (x .orders) (x .symbols) (x .shelf) (x .hold) c
+    go (Fed.Took k) = fed k (x .orders) (x .symbols) (x .shelf) (x .index) (x .hold) c
     go (Fed.Refused r) = x
 
 unfoldable pub fedAll : List (List ℕ) → Feeding → Feeding
@@ -69,9 +69,18 @@ fedAll (c ∷ cs) x = fedAll cs (fedOn c x)
 
 -- ---- from a start
 -- nothing counted
-abbrev pub began : Edition → ℕ → ℕ → ℕ → Standing
-began ed o s h = standing 0 (badAt 0 0) noCounts (fresh ed o s h)
+abbrev pub began : Edition → ℕ → ℕ → ℕ → ℕ → Standing
+began ed o s h i = standing 0 (badAt 0 0) noCounts (fresh ed o s h i)
 
 -- a stream that was opened over the tables of a start; w: the lent buffer, with any bytes
-abbrev pub openedOver : Edition → ℕ → ℕ → ℕ → List ℕ → Feeding
-openedOver ed o s h w = feeding (Fed.Took (opened (freshState ed))) (replicate o 0) (replicate s 0) (replicate h 0) w
+abbrev pub openedOver : Edition → ℕ → ℕ → ℕ → ℕ → List ℕ → Feeding
+openedOver ed o s h i w = feeding (Fed.Took (opened (freshState ed))) (replicate o 0) (replicate s 0) (replicate h 0) (startIndex i o) w
+
+-- ---- both engines: "Both give the same answers and the same tables on every run from a start that leaves tables and index to them" (request 9)
+-- two streams after the same chunks: the answer (counts, why the last refused packet was, what is held, the receiver's state), the tables, the shelf and the buffer; all but the index
+pub record SameFeeds (x x′ : Feeding) : Type 0 where
+  pub answer : x .answer ≡ x′ .answer
+  pub orders : x .orders ≡ x′ .orders
+  pub symbols : x .symbols ≡ x′ .symbols
+  pub shelf : x .shelf ≡ x′ .shelf
+  pub hold : x .hold ≡ x′ .hold

@@ -71,11 +71,18 @@ fn missed(k: Stream, receiver: State, last: Fault) -> Stream
 }
 
 // A whole packet: given to the receiver and counted. Nothing is held after it.
-fn hear(orders: &mut [u64], symbols: &mut [u8], shelf: &mut [u8], k: Stream, p: &[u8]) -> Stream
+fn hear(
+    orders: &mut [u64],
+    symbols: &mut [u8],
+    shelf: &mut [u8],
+    index: &mut [u64],
+    k: Stream,
+    p: &[u8],
+) -> Stream
     requires { ⌜ length (now p) ≤ packetMost ⌝ }
-    ensures { λ r. ⌜ (standingOf r (now (orders .exit)) (now (symbols .exit)) (now (shelf .exit)) ≡ heard (now (p .entry)) (standingOf k (now (orders .entry)) (now (symbols .entry)) (now (shelf .entry)))) × (r .held ≡ 0) × (r .skip ≡ 0) ⌝ }
+    ensures { λ r. ⌜ (standingOf r (now (orders .exit)) (now (symbols .exit)) (now (shelf .exit)) (now (index .exit)) ≡ heard (now (p .entry)) (standingOf k (now (orders .entry)) (now (symbols .entry)) (now (shelf .entry)) (now (index .entry)))) × (r .held ≡ 0) × (r .skip ≡ 0) ⌝ }
 {
-    let a = receiver::receive(orders, symbols, shelf, k.receiver, p);
+    let a = receiver::receive(orders, symbols, shelf, index, k.receiver, p);
     let receiver = a.state;
     let answer = a.answer;
     let totals = k.totals;
@@ -141,12 +148,13 @@ fn push(
     orders: &mut [u64],
     symbols: &mut [u8],
     shelf: &mut [u8],
+    index: &mut [u64],
     hold: &mut [u8],
     k: Stream,
     x: u8,
 ) -> Stream
     requires { ⌜ (k .skip ≡ 0) × (k .held ≤ length (now hold)) × (holdLeast ≤ length (now hold)) ⌝ }
-    ensures { λ r. ⌜ Pushed x (hearingOf k (now (orders .entry)) (now (symbols .entry)) (now (shelf .entry)) (now (hold .entry))) r (now (orders .exit)) (now (symbols .exit)) (now (shelf .exit)) (now (hold .exit)) ⌝ }
+    ensures { λ r. ⌜ Pushed x (hearingOf k (now (orders .entry)) (now (symbols .entry)) (now (shelf .entry)) (now (index .entry)) (now (hold .entry))) r (now (orders .exit)) (now (symbols .exit)) (now (shelf .exit)) (now (index .exit)) (now (hold .exit)) ⌝ }
 {
     let held = k.held;
     store(hold, held, x);
@@ -165,7 +173,7 @@ fn push(
         r.held = held + 1;
         return r;
     }
-    hear(orders, symbols, shelf, k, &hold[2..2 + n])
+    hear(orders, symbols, shelf, index, k, &hold[2..2 + n])
 }
 
 // How many bytes a whole packet of at most 1,500 bytes at this place has with its length; 0 where none lies there.
@@ -189,15 +197,16 @@ fn give(
     orders: &mut [u64],
     symbols: &mut [u8],
     shelf: &mut [u8],
+    index: &mut [u64],
     k: Stream,
     chunk: &[u8],
     at: usize,
     n: usize,
 ) -> Stream
     requires { ⌜ WholeAt (now chunk) at n ⌝ }
-    ensures { λ r. ⌜ (standingOf r (now (orders .exit)) (now (symbols .exit)) (now (shelf .exit)) ≡ heard (take (at + n - (at + 2)) (drop (at + 2) (now (chunk .entry)))) (standingOf k (now (orders .entry)) (now (symbols .entry)) (now (shelf .entry)))) × (r .held ≡ 0) × (r .skip ≡ 0) ⌝ }
+    ensures { λ r. ⌜ (standingOf r (now (orders .exit)) (now (symbols .exit)) (now (shelf .exit)) (now (index .exit)) ≡ heard (take (at + n - (at + 2)) (drop (at + 2) (now (chunk .entry)))) (standingOf k (now (orders .entry)) (now (symbols .entry)) (now (shelf .entry)) (now (index .entry)))) × (r .held ≡ 0) × (r .skip ≡ 0) ⌝ }
 {
-    hear(orders, symbols, shelf, k, &chunk[at + 2..at + n])
+    hear(orders, symbols, shelf, index, k, &chunk[at + 2..at + n])
 }
 
 // What is done at a place of a chunk: bytes passed over, a whole packet given as it lies there, or one byte.
@@ -205,13 +214,14 @@ fn step(
     orders: &mut [u64],
     symbols: &mut [u8],
     shelf: &mut [u8],
+    index: &mut [u64],
     hold: &mut [u8],
     k: Stream,
     chunk: &[u8],
     at: usize,
 ) -> Moved
     requires { ⌜ (at < length (now chunk)) × (k .held ≤ length (now hold)) × (holdLeast ≤ length (now hold)) ⌝ }
-    ensures { λ r. ⌜ Stepped (now (chunk .entry)) at (hearingOf k (now (orders .entry)) (now (symbols .entry)) (now (shelf .entry)) (now (hold .entry))) r (now (orders .exit)) (now (symbols .exit)) (now (shelf .exit)) (now (hold .exit)) ⌝ }
+    ensures { λ r. ⌜ Stepped (now (chunk .entry)) at (hearingOf k (now (orders .entry)) (now (symbols .entry)) (now (shelf .entry)) (now (index .entry)) (now (hold .entry))) r (now (orders .exit)) (now (symbols .exit)) (now (shelf .exit)) (now (index .exit)) (now (hold .exit)) ⌝ }
 {
     let held = k.held;
     let next = at + 1;
@@ -222,11 +232,11 @@ fn step(
         let n = whole(chunk, at);
         if n != 0 {
             let to = at + n;
-            let stream = give(orders, symbols, shelf, k, chunk, at, n);
+            let stream = give(orders, symbols, shelf, index, k, chunk, at, n);
             return Moved { at: to, stream };
         }
     }
-    let stream = push(orders, symbols, shelf, hold, k, chunk[at]);
+    let stream = push(orders, symbols, shelf, index, hold, k, chunk[at]);
     Moved { at: next, stream }
 }
 
@@ -235,17 +245,18 @@ fn run(
     orders: &mut [u64],
     symbols: &mut [u8],
     shelf: &mut [u8],
+    index: &mut [u64],
     hold: &mut [u8],
     s: Stream,
     chunk: &[u8],
 ) -> Stream
     requires { ⌜ (s .held ≤ length (now hold)) × (holdLeast ≤ length (now hold)) ⌝ }
-    ensures { λ r. ⌜ Ran (now (chunk .entry)) (hearingOf s (now (orders .entry)) (now (symbols .entry)) (now (shelf .entry)) (now (hold .entry))) r (now (orders .exit)) (now (symbols .exit)) (now (shelf .exit)) (now (hold .exit)) ⌝ }
+    ensures { λ r. ⌜ Ran (now (chunk .entry)) (hearingOf s (now (orders .entry)) (now (symbols .entry)) (now (shelf .entry)) (now (index .entry)) (now (hold .entry))) r (now (orders .exit)) (now (symbols .exit)) (now (shelf .exit)) (now (index .exit)) (now (hold .exit)) ⌝ }
 {
     let mut k = s;
     let mut at: usize = 0;
     while at < chunk.len() {
-        let m = step(orders, symbols, shelf, hold, k, chunk, at);
+        let m = step(orders, symbols, shelf, index, hold, k, chunk, at);
         k = m.stream;
         at = m.at;
     }
@@ -260,10 +271,17 @@ fn clear(hold: &mut [u8], held: usize)
     wire::wipe(&mut hold[held..]);
 }
 
-fn can_feed(s: Stream, orders: usize, symbols: usize, shelf: usize, hold: usize) -> bool
-    ensures { λ r. ⌜ r ≡ feedable s orders symbols shelf hold ⌝ }
+fn can_feed(
+    s: Stream,
+    orders: usize,
+    symbols: usize,
+    shelf: usize,
+    index: usize,
+    hold: usize,
+) -> bool
+    ensures { λ r. ⌜ r ≡ feedable s orders symbols shelf index hold ⌝ }
 {
-    if !receiver::sizes_ok(orders, symbols, shelf) {
+    if !receiver::sizes_ok(orders, symbols, shelf, index) {
         return false;
     }
     let state = s.receiver;
@@ -298,16 +316,24 @@ pub fn feed(
     orders: &mut [u64],
     symbols: &mut [u8],
     shelf: &mut [u8],
+    index: &mut [u64],
     hold: &mut [u8],
     s: Stream,
     chunk: &[u8],
 ) -> Fed
-    ensures { λ r. ⌜ feeding r (now (orders .exit)) (now (symbols .exit)) (now (shelf .exit)) (now (hold .exit)) ≡ fed s (now (orders .entry)) (now (symbols .entry)) (now (shelf .entry)) (now (hold .entry)) (now (chunk .entry)) ⌝ }
+    ensures { λ r. ⌜ feeding r (now (orders .exit)) (now (symbols .exit)) (now (shelf .exit)) (now (index .exit)) (now (hold .exit)) ≡ fed s (now (orders .entry)) (now (symbols .entry)) (now (shelf .entry)) (now (index .entry)) (now (hold .entry)) (now (chunk .entry)) ⌝ }
 {
-    if !can_feed(s, orders.len(), symbols.len(), shelf.len(), hold.len()) {
+    if !can_feed(
+        s,
+        orders.len(),
+        symbols.len(),
+        shelf.len(),
+        index.len(),
+        hold.len(),
+    ) {
         return Fed::Refused(Refusal { number: 6 });
     }
-    let k = run(orders, symbols, shelf, hold, s, chunk);
+    let k = run(orders, symbols, shelf, index, hold, s, chunk);
     clear(hold, k.held);
     Fed::Took(k)
 }

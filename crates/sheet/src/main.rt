@@ -12,8 +12,8 @@ use recording::Fed;
 use recording::Stream;
 use words::Named;
 
-// "It uses full capacities"
-const ORDERS: usize = rows::ROW_SIZE * facts::MOST_ROWS;
+// "It uses full capacities"; of rows "the sheet program keeps 1,600" (document 02, No. 9)
+const ORDERS: usize = rows::ROW_SIZE * facts::SHEET_ROWS;
 
 const SYMBOLS: usize = facts::ENTRY_SIZE * facts::MOST_ENTRIES;
 
@@ -41,6 +41,7 @@ fn main() {
     let mut orders = [0u64; ORDERS];
     let mut symbols = [0u8; SYMBOLS];
     let mut shelf = [0u8; facts::SHELF_SIZE];
+    let mut index = [0u64; index::INDEX_SIZE];
     let mut hold = [0u8; facts::HOLD_LEAST];
     let mut block = [0u8; BLOCK];
     let mut text = [0u8; answer_sheet::SHEET_MOST];
@@ -48,6 +49,7 @@ fn main() {
         &mut orders,
         &mut symbols,
         &mut shelf,
+        &mut index,
         &mut hold,
         &mut block,
         &mut text,
@@ -59,17 +61,19 @@ fn lend(
     orders: &mut [u64; ORDERS],
     symbols: &mut [u8; SYMBOLS],
     shelf: &mut [u8; facts::SHELF_SIZE],
+    index: &mut [u64; index::INDEX_SIZE],
     hold: &mut [u8; facts::HOLD_LEAST],
     block: &mut [u8; BLOCK],
     text: &mut [u8; answer_sheet::SHEET_MOST],
 ) {
-    answer(orders, symbols, shelf, hold, block, text);
+    answer(orders, symbols, shelf, index, hold, block, text);
 }
 
 fn answer(
     orders: &mut [u64],
     symbols: &mut [u8],
     shelf: &mut [u8],
+    index: &mut [u64],
     hold: &mut [u8],
     block: &mut [u8],
     text: &mut [u8],
@@ -84,7 +88,7 @@ fn answer(
             STDERR_FILENO,
             b"rimeheath: sheet takes no word but --help, --version, and --edition with 1.3, 1.3.a or 1.3.b; the recording comes on standard input\n",
         ),
-        Task::Sheet(e) => work(e, orders, symbols, shelf, hold, block, text),
+        Task::Sheet(e) => work(e, orders, symbols, shelf, index, hold, block, text),
     }
 }
 
@@ -156,13 +160,14 @@ fn work(
     orders: &mut [u64],
     symbols: &mut [u8],
     shelf: &mut [u8],
+    index: &mut [u64],
     hold: &mut [u8],
     block: &mut [u8],
     text: &mut [u8],
 ) {
-    match receiver::start(e, orders, symbols, shelf) {
+    match receiver::start(e, orders, symbols, shelf, index) {
         Started::Refused(_) => refused(),
-        Started::Ready(s) => follow(orders, symbols, shelf, hold, block, s, text),
+        Started::Ready(s) => follow(orders, symbols, shelf, index, hold, block, s, text),
     }
 }
 
@@ -170,12 +175,21 @@ fn follow(
     orders: &mut [u64],
     symbols: &mut [u8],
     shelf: &mut [u8],
+    index: &mut [u64],
     hold: &mut [u8],
     block: &mut [u8],
     s: State,
     text: &mut [u8],
 ) {
-    let end = read_all(orders, symbols, shelf, hold, block, recording::open(s));
+    let end = read_all(
+        orders,
+        symbols,
+        shelf,
+        index,
+        hold,
+        block,
+        recording::open(s),
+    );
     finish(orders, symbols, text, end);
 }
 
@@ -198,6 +212,7 @@ fn read_all(
     orders: &mut [u64],
     symbols: &mut [u8],
     shelf: &mut [u8],
+    index: &mut [u64],
     hold: &mut [u8],
     block: &mut [u8],
     start: Stream,
@@ -205,7 +220,7 @@ fn read_all(
     let mut s = start;
     let mut blocks: u64 = 0;
     while blocks < u64::MAX {
-        let t = turn(orders, symbols, shelf, hold, block, s);
+        let t = turn(orders, symbols, shelf, index, hold, block, s);
         let Outcome::More(next) = t else {
             return t;
         };
@@ -220,6 +235,7 @@ fn turn(
     orders: &mut [u64],
     symbols: &mut [u8],
     shelf: &mut [u8],
+    index: &mut [u64],
     hold: &mut [u8],
     block: &mut [u8],
     s: Stream,
@@ -236,7 +252,7 @@ fn turn(
         return Outcome::End(s);
     }
     let n = io::count(got, block);
-    told(recording::feed(orders, symbols, shelf, hold, s, &block[..n]))
+    told(recording::feed(orders, symbols, shelf, index, hold, s, &block[..n]))
 }
 
 // What a block came to.
