@@ -1,9 +1,10 @@
-//! A receiver with the tables and the shelf that are lent to it.
+//! A receiver with the tables, the shelf and the index that are lent to it.
 
 use crate::edition::Edition;
+use crate::index::INDEX_NUMBERS;
 use crate::packet::Refusal;
-use crate::receiver::{receive, start, Answer, State, SHELF_BYTES};
-use crate::tables::{ENTRY_BYTES, MOST_ENTRIES, MOST_ROWS, ROW_NUMBERS};
+use crate::receiver::{receive, receiver_fits, start, Answer, State, SHELF_BYTES};
+use crate::tables::{ENTRY_BYTES, MOST_ENTRIES, ROW_NUMBERS, SHEET_ROWS};
 
 /// What stands in memory that no call has written yet.
 pub const MARK: u64 = 0xA5A5_5A5A_C3C3_3C3C;
@@ -15,10 +16,12 @@ pub struct Desk {
     pub orders: Vec<u64>,
     pub symbols: Vec<u8>,
     pub shelf: Vec<u8>,
+    /// Empty: the tables are scanned.
+    pub index: Vec<u64>,
 }
 
 impl Desk {
-    /// Tables of these capacities and a shelf, full of marks and not started.
+    /// Tables of these capacities and a shelf, full of marks and not started, with no index.
     pub fn unstarted(rows: usize, entries: usize) -> Desk {
         Desk {
             state: State {
@@ -30,6 +33,15 @@ impl Desk {
             orders: vec![MARK; rows * ROW_NUMBERS],
             symbols: vec![MARK_BYTE; entries * ENTRY_BYTES],
             shelf: vec![MARK_BYTE; SHELF_BYTES],
+            index: Vec::new(),
+        }
+    }
+
+    /// The same with an index, full of marks too.
+    pub fn unstarted_with_index(rows: usize, entries: usize) -> Desk {
+        Desk {
+            index: vec![MARK; INDEX_NUMBERS],
+            ..Desk::unstarted(rows, entries)
         }
     }
 
@@ -40,14 +52,33 @@ impl Desk {
         desk
     }
 
-    /// The sheet program's: "It uses full capacities."
+    /// The same with an index.
+    pub fn with_index(edition: Edition, rows: usize, entries: usize) -> Desk {
+        let mut desk = Desk::unstarted_with_index(rows, entries);
+        desk.start(edition).expect("capacities in the limits");
+        desk
+    }
+
+    /// The sheet program's: "It uses full capacities", which are 1,600 rows there (request 9).
     pub fn full(edition: Edition) -> Desk {
-        Desk::new(edition, MOST_ROWS, MOST_ENTRIES)
+        Desk::new(edition, SHEET_ROWS, MOST_ENTRIES)
+    }
+
+    /// Whether none of what is lent is refused by 6.
+    pub fn fits(&self) -> bool {
+        let Desk {
+            state,
+            orders,
+            symbols,
+            shelf,
+            index,
+        } = self;
+        receiver_fits(*state, orders, symbols, shelf, index)
     }
 
     pub fn start(&mut self, edition: Edition) -> Result<(), u8> {
         let (orders, symbols, shelf) = (&mut self.orders, &mut self.symbols, &mut self.shelf);
-        self.state = start(edition, orders, symbols, shelf)?;
+        self.state = start(edition, orders, symbols, shelf, &mut self.index)?;
         Ok(())
     }
 
@@ -58,6 +89,7 @@ impl Desk {
             &mut self.orders,
             &mut self.symbols,
             &mut self.shelf,
+            &mut self.index,
             packet,
         )?;
         self.state = after;

@@ -5,7 +5,7 @@ use crate::edition::Edition;
 use crate::morning::*;
 use crate::packet::{little, read_packet};
 use crate::receiver::{highest_number, slot, slot_number};
-use crate::tables::{MOST_ENTRIES, MOST_ROWS};
+use crate::tables::{MOST_ENTRIES, SHEET_ROWS};
 
 const EDITION: Edition = Edition::V1_3b;
 
@@ -68,7 +68,7 @@ pub fn long_list() -> Vec<Vec<u8>> {
     let mut maker = ListMaker::new(
         20_230_925,
         ListSettings {
-            rows: MOST_ROWS,
+            rows: SHEET_ROWS,
             entries: MOST_ENTRIES,
             symbols: 1,
             orders: 260,

@@ -1,6 +1,9 @@
 //! A plain second reading of document 01 (tap packets of DoM 1.3.b, and of 1.3, into an order book and its
-//! sheet), with requests 2, 5, 6, 10 and 13 of document 02, written from the documents alone. No cleverness:
-//! linear scans everywhere, so that each function can be held against the sentences quoted above it.
+//! sheet), with requests 2, 5, 6, 9, 10 and 13 of document 02, written from the documents alone. No cleverness:
+//! linear scans everywhere, so that each function can be held against the sentences quoted above it. The index of
+//! request 9 is a model of docs/INDEX.md, as plain as the rest.
+//!
+//! `fast` and `plain` are no part of that reading: they are what the benchmarks lay the proved library beside.
 //!
 //! Refusals (6, 30) and broken rules (20 to 27) are document 01's numbers, as plain `u8`. What reads a packet
 //! answers a `packet::Refusal`, which has the offset beside 2 to 5 (request 5).
@@ -16,8 +19,11 @@ pub mod command;
 pub mod desk;
 pub mod edition;
 pub mod examples;
+pub mod fast;
+pub mod index;
 pub mod morning;
 pub mod packet;
+pub mod plain;
 #[cfg(linked)]
 #[allow(unsafe_code)] // C functions cannot be called otherwise; nothing else here does
 pub mod proved;

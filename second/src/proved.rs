@@ -4,6 +4,7 @@
 //! with tables of its own, and answers in Rust's forms. All unsafe code of this crate is in `lent`.
 
 use crate::edition::Edition;
+use crate::index::INDEX_NUMBERS;
 use crate::packet::{Refusal, Side};
 use crate::receiver::{Answer, SHELF_BYTES};
 use crate::tables::{ENTRY_BYTES, ROW_NUMBERS};
@@ -36,6 +37,8 @@ pub mod lent {
             symbols_len: usize,
             shelf: *mut c_uchar,
             shelf_len: usize,
+            index: *mut u64,
+            index_len: usize,
             state: *mut State,
         ) -> u8;
         fn rimeheath_receive(
@@ -45,6 +48,8 @@ pub mod lent {
             symbols_len: usize,
             shelf: *mut c_uchar,
             shelf_len: usize,
+            index: *mut u64,
+            index_len: usize,
             state: *mut State,
             packet: *const c_uchar,
             packet_len: usize,
@@ -114,6 +119,8 @@ pub mod lent {
             symbols_len: usize,
             shelf: *mut c_uchar,
             shelf_len: usize,
+            index: *mut u64,
+            index_len: usize,
             hold: *mut c_uchar,
             hold_len: usize,
             stream: *mut Stream,
@@ -128,9 +135,10 @@ pub mod lent {
         orders: &mut [u64],
         symbols: &mut [u8],
         shelf: &mut [u8],
+        index: &mut [u64],
         state: &mut State,
     ) -> u8 {
-        // SAFETY: each pointer comes with its own slice's length, and the four `&mut` are apart.
+        // SAFETY: each pointer comes with its own slice's length, and the five `&mut` are apart.
         unsafe {
             rimeheath_start(
                 edition,
@@ -140,6 +148,8 @@ pub mod lent {
                 symbols.len(),
                 shelf.as_mut_ptr(),
                 shelf.len(),
+                index.as_mut_ptr(),
+                index.len(),
                 state,
             )
         }
@@ -149,11 +159,12 @@ pub mod lent {
         orders: &mut [u64],
         symbols: &mut [u8],
         shelf: &mut [u8],
+        index: &mut [u64],
         state: &mut State,
         packet: &[u8],
         account: &mut [u64; 9],
     ) -> u32 {
-        // SAFETY: each pointer comes with its own slice's length; the five `&mut` are apart from
+        // SAFETY: each pointer comes with its own slice's length; the six `&mut` are apart from
         // each other and from the packet, which is only read.
         unsafe {
             rimeheath_receive(
@@ -163,6 +174,8 @@ pub mod lent {
                 symbols.len(),
                 shelf.as_mut_ptr(),
                 shelf.len(),
+                index.as_mut_ptr(),
+                index.len(),
                 state,
                 packet.as_ptr(),
                 packet.len(),
@@ -276,11 +289,12 @@ pub mod lent {
         orders: &mut [u64],
         symbols: &mut [u8],
         shelf: &mut [u8],
+        index: &mut [u64],
         hold: &mut [u8],
         stream: &mut Stream,
         chunk: &[u8],
     ) -> u8 {
-        // SAFETY: each pointer comes with its own slice's length; the five `&mut` are apart from
+        // SAFETY: each pointer comes with its own slice's length; the six `&mut` are apart from
         // each other and from the chunk, which is only read.
         unsafe {
             rimeheath_feed(
@@ -290,6 +304,8 @@ pub mod lent {
                 symbols.len(),
                 shelf.as_mut_ptr(),
                 shelf.len(),
+                index.as_mut_ptr(),
+                index.len(),
                 hold.as_mut_ptr(),
                 hold.len(),
                 stream,
@@ -527,16 +543,33 @@ pub struct Proved {
     pub orders: Vec<u64>,
     pub symbols: Vec<u8>,
     pub shelf: Vec<u8>,
+    /// Empty: the tables are scanned (request 9).
+    pub index: Vec<u64>,
     pub state: lent::State,
 }
 
 impl Proved {
-    /// A started receiver of an edition, of so many rows and entries, or 6.
+    /// A started receiver of an edition, of so many rows and entries and with no index, or 6.
     pub fn new(edition: Edition, rows: usize, entries: usize) -> Result<Proved, Refusal> {
+        Proved::started(edition, rows, entries, 0)
+    }
+
+    /// The same with an index.
+    pub fn with_index(edition: Edition, rows: usize, entries: usize) -> Result<Proved, Refusal> {
+        Proved::started(edition, rows, entries, INDEX_NUMBERS)
+    }
+
+    fn started(
+        edition: Edition,
+        rows: usize,
+        entries: usize,
+        index: usize,
+    ) -> Result<Proved, Refusal> {
         let mut receiver = Proved {
             orders: vec![0; rows * ROW_NUMBERS],
             symbols: vec![0; entries * ENTRY_BYTES],
             shelf: vec![0; SHELF_BYTES],
+            index: vec![0; index],
             state: [0; 4],
         };
         receiver.start(edition)?;
@@ -549,6 +582,7 @@ impl Proved {
             &mut self.orders,
             &mut self.symbols,
             &mut self.shelf,
+            &mut self.index,
             &mut self.state,
         ))
     }
@@ -559,6 +593,7 @@ impl Proved {
             &mut self.orders,
             &mut self.symbols,
             &mut self.shelf,
+            &mut self.index,
             &mut self.state,
             packet,
             &mut account,

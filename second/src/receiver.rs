@@ -1,7 +1,8 @@
 //! The receiver: a shelf of 64 slots, a start, and packets taken one by one.
 
-use crate::book;
+use crate::book::{change, rule_broken, Found, Scans};
 use crate::edition::Edition;
+use crate::index::{index_fits, leave, make, Index};
 use crate::packet::{little, read_body, read_packet, Message, Record, Refusal, LAST_NUMBER};
 use crate::tables::{order_table_fits, symbol_table_fits};
 
@@ -101,13 +102,22 @@ pub fn filled_slot(number: u64, body: &[u8]) -> [u8; SLOT_BYTES] {
 }
 
 /// 6, for all that a receiver is lent and its next number.
-pub fn receiver_fits(state: State, orders: &[u64], symbols: &[u8], shelf: &[u8]) -> bool {
-    sizes_fit(orders, symbols, shelf) && next_fits(state.next)
+pub fn receiver_fits(
+    state: State,
+    orders: &[u64],
+    symbols: &[u8],
+    shelf: &[u8],
+    index: &[u64],
+) -> bool {
+    sizes_fit(orders, symbols, shelf, index) && next_fits(state.next)
 }
 
-/// 6: "a table size outside these limits or not in whole rows"
-fn sizes_fit(orders: &[u64], symbols: &[u8], shelf: &[u8]) -> bool {
-    order_table_fits(orders) && symbol_table_fits(symbols) && shelf.len() == SHELF_BYTES
+/// 6: "a table size outside these limits or not in whole rows". Request 9: "Refusal 6 covers the index size."
+fn sizes_fit(orders: &[u64], symbols: &[u8], shelf: &[u8], index: &[u64]) -> bool {
+    order_table_fits(orders)
+        && symbol_table_fits(symbols)
+        && shelf.len() == SHELF_BYTES
+        && index_fits(index)
 }
 
 /// 6: "... or a next number outside 1 to 10^12 + 1"
@@ -115,19 +125,22 @@ pub fn next_fits(next: u64) -> bool {
     (1..=LAST_NUMBER + 1).contains(&next)
 }
 
-/// "A start zeroes all three, the second included, and sets the next number to 1." Here the edition is chosen.
+/// "A start zeroes all three, the second included, and sets the next number to 1." Here the edition is chosen, and
+/// an index is made if one is lent (request 9).
 pub fn start(
     edition: Edition,
     orders: &mut [u64],
     symbols: &mut [u8],
     shelf: &mut [u8],
+    index: &mut [u64],
 ) -> Result<State, u8> {
-    if !sizes_fit(orders, symbols, shelf) {
+    if !sizes_fit(orders, symbols, shelf, index) {
         return Err(6);
     }
     orders.fill(0);
     symbols.fill(0);
     shelf.fill(0);
+    make(index, orders);
     Ok(State {
         next: 1,
         second: 0,
@@ -143,9 +156,10 @@ pub fn receive(
     orders: &mut [u64],
     symbols: &mut [u8],
     shelf: &mut [u8],
+    index: &mut [u64],
     packet: &[u8],
 ) -> Result<(State, Answer), Refusal> {
-    if !receiver_fits(state, orders, symbols, shelf) {
+    if !receiver_fits(state, orders, symbols, shelf, index) {
         return Err(Refusal::alone(6));
     }
     let records = read_packet(state.edition, packet)?;
@@ -154,7 +168,7 @@ pub fn receive(
     let first_next = state.next;
     let mut answer = Answer::default();
     for record in records {
-        match work_record(&mut state, orders, symbols, shelf, &record) {
+        match work_record(&mut state, orders, symbols, shelf, index, &record) {
             Worked::Taken => answer.taken += 1,
             Worked::Old => answer.old += 1,
             Worked::TooFar => answer.too_far += 1,
@@ -162,7 +176,7 @@ pub fn receive(
             Worked::Differing => answer.differing += 1,
         }
     }
-    state.stop = stop(&state, orders, symbols, shelf);
+    state.stop = stop(&state, orders, symbols, shelf, index);
     answer.next = state.next;
     answer.applied = state.next - first_next;
     answer.highest = highest_number(shelf);
@@ -176,6 +190,7 @@ fn work_record(
     orders: &mut [u64],
     symbols: &mut [u8],
     shelf: &mut [u8],
+    index: &mut [u64],
     record: &Record,
 ) -> Worked {
     // "A record with n below next is old (11); n at or above next + 64 is too far (12)."
@@ -202,13 +217,40 @@ fn work_record(
     // "After each taken record, while the slot for next holds next and its message applies, it is
     // applied, its slot zeroed and next raised by one."
     while let Some(message) = message_of_next(state, shelf) {
-        if book::apply(state.next, &message, orders, symbols, &mut state.second).is_err() {
+        if apply(state, &message, orders, symbols, index).is_err() {
             break;
         }
         slot_mut(shelf, state.next).fill(0);
         state.next += 1;
     }
     Worked::Taken
+}
+
+/// Message next applied, or the first broken rule with nothing changed, the index included.
+fn apply(
+    state: &mut State,
+    message: &Message,
+    orders: &mut [u64],
+    symbols: &mut [u8],
+    index: &mut [u64],
+) -> Result<(), u8> {
+    let found = found(message, orders, symbols, index);
+    if let Some(rule) = rule_broken(message, &found, orders) {
+        return Err(rule);
+    }
+    if !index.is_empty() {
+        leave(index, message, &found, orders);
+    }
+    let (number, second) = (state.next, &mut state.second);
+    change(number, message, &found, orders, symbols, second)
+}
+
+/// Request 9's two engines: with no index the tables are scanned, with one it is asked.
+fn found(message: &Message, orders: &[u64], symbols: &[u8], index: &[u64]) -> Found {
+    match index {
+        [] => Found::by(&Scans, message, orders, symbols),
+        index => Found::by(&Index(index), message, orders, symbols),
+    }
 }
 
 /// The message in next's slot, if the slot holds next and a good body. A length above 64 is no
@@ -224,13 +266,16 @@ fn message_of_next(state: &State, shelf: &[u8]) -> Option<Message> {
 
 /// "the stop: 0 if next's slot is empty or its message breaks no rule, else the rule that its
 /// message breaks. A slot for next that holds another number or no good body stops with 27."
-fn stop(state: &State, orders: &[u64], symbols: &[u8], shelf: &[u8]) -> u8 {
+fn stop(state: &State, orders: &[u64], symbols: &[u8], shelf: &[u8], index: &[u64]) -> u8 {
     if slot_number(slot(shelf, state.next)) == 0 {
         return 0;
     }
     match message_of_next(state, shelf) {
         None => 27,
-        Some(message) => book::broken_rule(&message, orders, symbols).unwrap_or(0),
+        Some(message) => {
+            let found = found(&message, orders, symbols, index);
+            rule_broken(&message, &found, orders).unwrap_or(0)
+        }
     }
 }
 

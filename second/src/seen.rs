@@ -1,9 +1,15 @@
-//! Which faults the refused packets of a run had, and where, so that a run can say that it tried them all.
+//! Which faults the refused packets of a run had, and where, and what searches through an index met, so that a run
+//! can say that it tried them all.
 
+use crate::book::Search;
+use crate::desk::Desk;
 use crate::edition::Edition;
+use crate::index::*;
 use crate::morning::mend_field;
 use crate::packet::*;
 use crate::reading::{first_fault, message_name, Fault, JUDGED_FIELDS};
+use crate::receiver::Answer;
+use crate::tables::*;
 
 /// Refused packets by number, place and fault. The refusals 2 to 5 alone are counted, which tell an offset.
 #[derive(Clone, Debug, Default, PartialEq, Eq)]
@@ -127,6 +133,187 @@ impl Faults {
             .zip(self.security_type_first)
         {
             seen.push((format!("bad security type before a bad {behind}"), count));
+        }
+        seen
+    }
+}
+
+/// What the searches through an index met, what was lent as one, and what became of it (request 9).
+const SEARCHES: [&str; 23] = [
+    // Calls that were refused for the size of the index alone.
+    "a start",
+    "a packet",
+    "a piece",
+    // Orders of a packet's messages, by what their searches pass before it.
+    "an order at its first slot",
+    "an order behind slots of others",
+    "an order behind a slot of its tag that is stale",
+    "an order behind a live one of its tag",
+    "no order, behind slots of others",
+    "no order, behind a slot of its tag",
+    "a slot of a row behind the table",
+    "a search on from the last slot to the first",
+    "a search through all slots",
+    // Symbols of a packet's messages.
+    "a symbol by its hint",
+    "a symbol past a hint of another",
+    "a symbol past a hint behind the table",
+    // Free rows.
+    "a free row in a later block than counted",
+    "a free row that no count tells",
+    "built anew",
+    "built anew over a spoiled row",
+    "built anew over two live rows of one order",
+    // Stops, and engines that came to different ones over altered tables or an altered index.
+    "stop 25 in 16,000 rows",
+    "another stop than without",
+    "another table than without",
+];
+
+#[derive(Clone, Debug, Default, PartialEq, Eq)]
+pub struct Searches([u64; SEARCHES.len()]);
+
+impl Searches {
+    /// Something of `SEARCHES`, by its name, if it was so.
+    pub fn note(&mut self, what: &str, so: bool) {
+        let place = SEARCHES.iter().position(|known| *known == what);
+        self.0[place.expect("one of SEARCHES")] += u64::from(so);
+    }
+
+    /// A good packet, before a receiver with an index gets it: what its messages' searches would pass now.
+    pub fn note_packet(&mut self, desk: &Desk, packet: &[u8]) {
+        let Ok(records) = read_packet(desk.state.edition, packet) else {
+            return;
+        };
+        for record in records {
+            if record.number < desk.state.next || desk.index.is_empty() {
+                continue;
+            }
+            let (symbol, order) = match record.message {
+                Message::AddOrder { symbol, order, .. } => {
+                    self.note_free_row(desk);
+                    (symbol, order)
+                }
+                Message::ModifyOrder { symbol, order, .. }
+                | Message::DeleteOrder { symbol, order, .. }
+                | Message::OrderExecution { symbol, order, .. } => (symbol, order),
+                _ => continue,
+            };
+            self.note_symbol(desk, symbol);
+            self.note_order(desk, order);
+        }
+    }
+
+    fn note_symbol(&mut self, desk: &Desk, symbol: u32) {
+        let hint = desk.index[hint_of(symbol)];
+        let known = Index(&desk.index).known_entry(&desk.symbols, symbol);
+        let by_hint = known.is_some_and(|place| place as u64 == hint);
+        let inside = hint < entries_in(&desk.symbols) as u64;
+        self.note("a symbol by its hint", by_hint);
+        let searched = known.is_some() && !by_hint;
+        self.note("a symbol past a hint of another", searched && inside);
+        self.note("a symbol past a hint behind the table", searched && !inside);
+    }
+
+    fn note_free_row(&mut self, desk: &Desk) {
+        let counted = (0..BLOCKS).find(|block| desk.index[COUNTS + block] != 0);
+        let free = Index(&desk.index).free_row(&desk.orders);
+        if let (Some(block), Some(place)) = (counted, free) {
+            let later = place / BLOCK_ROWS > block;
+            self.note("a free row in a later block than counted", later);
+        }
+        let untold = free.is_none() && free_row(&desk.orders).is_some();
+        self.note("a free row that no count tells", untold);
+    }
+
+    fn note_order(&mut self, desk: &Desk, order: u64) {
+        let (first, index) = (first_slot(order), &desk.index);
+        let (mut others, mut stale, mut live, mut behind) = (false, false, false, false);
+        let (mut found, mut looked) = (false, 0);
+        for place in slots_from(first) {
+            let (row_number, slot) = ((index[place] % 65_536) as usize, index[place]);
+            looked += 1;
+            if slot == 0 {
+                break;
+            }
+            if slot / 65_536 != tag(order) {
+                others = true;
+            } else if row_has_order(&desk.orders, row_number, order) {
+                found = true;
+                break;
+            } else if row_number >= rows_in(&desk.orders) {
+                behind = true;
+            } else if row_is_live(row(&desk.orders, row_number)) {
+                live = true;
+            } else {
+                stale = true;
+            }
+        }
+        self.note("an order at its first slot", found && looked == 1);
+        self.note("an order behind slots of others", found && others);
+        let behind_stale = found && stale;
+        self.note(
+            "an order behind a slot of its tag that is stale",
+            behind_stale,
+        );
+        self.note("an order behind a live one of its tag", found && live);
+        self.note("no order, behind slots of others", !found && others);
+        let own = stale || live || behind;
+        self.note("no order, behind a slot of its tag", !found && own);
+        self.note("a slot of a row behind the table", behind);
+        let last = first + looked > ORDER_SLOTS;
+        self.note("a search on from the last slot to the first", last);
+        let all = looked == ORDER_SLOTS;
+        self.note("a search through all slots", all);
+    }
+
+    /// The index was built anew; the rows are those that the call left. (Of large tables that is all that is told:
+    /// their rows would be looked at for too long.)
+    pub fn note_built_anew(&mut self, orders: &[u64]) {
+        self.note("built anew", true);
+        if rows_in(orders) > 200 {
+            return;
+        }
+        let mut live = Vec::new();
+        let mut spoiled = false;
+        for row in orders.chunks(ROW_NUMBERS) {
+            if row_is_live(row) {
+                live.push(row[ORDER_ID]);
+            } else {
+                spoiled |= !row_is_free(row);
+            }
+        }
+        live.sort();
+        let doubled = live.windows(2).any(|two| two[0] == two[1]);
+        self.note("built anew over a spoiled row", spoiled);
+        self.note("built anew over two live rows of one order", doubled);
+    }
+
+    /// The stop of a packet that a receiver with an index and so many rows accepted.
+    pub fn note_stop(&mut self, stop: u8, rows: usize) {
+        self.note("stop 25 in 16,000 rows", stop == 25 && rows == MOST_ROWS);
+    }
+
+    /// What both engines answered to a packet after somebody altered something.
+    pub fn note_parted(&mut self, scanning: &Answer, indexed: &Answer, rows_differ: bool) {
+        let stops = (scanning.next, scanning.stop) != (indexed.next, indexed.stop);
+        self.note("another stop than without", stops);
+        self.note("another table than without", rows_differ);
+    }
+
+    pub fn add(&mut self, other: &Searches) {
+        add_each(&mut self.0, &other.0);
+    }
+
+    /// All that a long run must have seen, and how often this one has.
+    pub fn seen(&self) -> Vec<(String, u64)> {
+        let mut seen = Vec::new();
+        for (place, (what, count)) in SEARCHES.iter().zip(self.0).enumerate() {
+            let what = match place {
+                0..=2 => format!("{what} refused for the index alone"),
+                _ => format!("with an index, {what}"),
+            };
+            seen.push((what, count));
         }
         seen
     }

@@ -3,7 +3,6 @@
 
 use crate::desk::Desk;
 use crate::packet::{little, Refusal, MOST_PACKET_BYTES};
-use crate::receiver::receiver_fits;
 
 /// "a lent buffer of 1,502 bytes or more for the unfinished packet": its length and its bytes.
 pub const LEAST_HOLD: usize = 2 + MOST_PACKET_BYTES;
@@ -29,10 +28,7 @@ impl Stream {
     /// stands at the front of `hold` with zeros behind it.
     pub fn feed(&mut self, desk: &mut Desk, hold: &mut [u8], chunk: &[u8]) -> Result<(), u8> {
         // "else 6, as also when the state claims more bytes held than the buffer has"
-        if !receiver_fits(desk.state, &desk.orders, &desk.symbols, &desk.shelf)
-            || hold.len() < LEAST_HOLD
-            || self.held > hold.len() as u64
-        {
+        if !desk.fits() || hold.len() < LEAST_HOLD || self.held > hold.len() as u64 {
             return Err(6);
         }
         for byte in chunk {

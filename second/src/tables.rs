@@ -10,8 +10,10 @@ pub const PRICE: usize = 2;
 pub const SIZE: usize = 3;
 pub const RANK: usize = 4;
 
-/// "Capacity 1 to 1,600 rows."
-pub const MOST_ROWS: usize = 1_600;
+/// "Capacity 1 to 1,600 rows." Request 9: "Raise the order table to 16,000 rows in the library".
+pub const MOST_ROWS: usize = 16_000;
+/// Request 9: "the sheet program keeps 1,600."
+pub const SHEET_ROWS: usize = 1_600;
 /// "The symbol table holds 1 to 1,000 entries of 42 bytes".
 pub const MOST_ENTRIES: usize = 1_000;
 pub const ENTRY_BYTES: usize = 42;

@@ -4,10 +4,12 @@
 use crate::morning::*;
 use crate::packet::{LAST_NANOSECOND, MOST_PACKET_BYTES};
 
-/// Symbols in play.
+/// Symbols in play where no other number is wanted.
 const SYMBOLS: u64 = 40;
 /// Price levels on each side of a symbol's middle.
 const LEVELS: u64 = 12;
+/// How many packets line B is behind line A.
+const BEHIND: usize = 3;
 
 struct Order {
     id: u64,
@@ -21,17 +23,23 @@ struct Order {
 pub struct Traffic {
     dice: Dice,
     live: Vec<Order>,
-    /// How many orders are to be live.
+    /// How many orders are to be live, and how many symbols to be known.
     wanted: usize,
+    symbols: u64,
     number: u64,
 }
 
 impl Traffic {
     pub fn new(seed: u64, wanted: usize) -> Traffic {
+        Traffic::of_symbols(seed, wanted, SYMBOLS)
+    }
+
+    pub fn of_symbols(seed: u64, wanted: usize, symbols: u64) -> Traffic {
         Traffic {
             dice: Dice::new(seed),
             live: Vec::new(),
             wanted,
+            symbols,
             number: 0,
         }
     }
@@ -39,9 +47,16 @@ impl Traffic {
     /// The messages that a morning opens with: the second, the symbols, and all wanted orders.
     pub fn opening(&mut self) -> Vec<(u64, Vec<u8>)> {
         let mut records = vec![self.numbered(system_time(34_200))];
-        for symbol in 0..SYMBOLS as u32 {
+        for symbol in 0..self.symbols as u32 {
             records.push(self.numbered(symbol_update(0, symbol, b"BUSY       ", 100)));
         }
+        records.extend(self.refill());
+        records
+    }
+
+    /// Adds until all wanted orders are live.
+    pub fn refill(&mut self) -> Vec<(u64, Vec<u8>)> {
+        let mut records = Vec::new();
         while self.live.len() < self.wanted {
             let body = self.add();
             records.push(self.numbered(body));
@@ -58,6 +73,16 @@ impl Traffic {
             3..=55 => self.modify(),
             56..=70 => self.execute(false),
             71..=80 => self.execute(true),
+            _ => self.delete(),
+        };
+        self.numbered(body)
+    }
+
+    /// An Add, or where all wanted orders are live something that one leaves by: as many come and go as can.
+    pub fn coming_and_going(&mut self) -> (u64, Vec<u8>) {
+        let body = match self.dice.below(10) {
+            _ if self.live.len() < self.wanted => self.add(),
+            0 => self.execute(true),
             _ => self.delete(),
         };
         self.numbered(body)
@@ -92,7 +117,7 @@ impl Traffic {
     }
 
     fn add(&mut self) -> Vec<u8> {
-        let symbol = self.dice.below(SYMBOLS) as u32;
+        let symbol = self.dice.below(self.symbols) as u32;
         let side = self.dice.pick(b"BS");
         let order = Order {
             id: 5_000_000_000 + self.number,
@@ -177,13 +202,26 @@ pub fn in_packets(records: &[(u64, Vec<u8>)], most: usize) -> Vec<Vec<u8>> {
     packets
 }
 
+/// Each packet twice, line B a few packets behind line A.
+pub fn on_two_lines(line_a: &[Vec<u8>]) -> Vec<Vec<u8>> {
+    let mut packets = Vec::new();
+    for (place, packet) in line_a.iter().enumerate() {
+        packets.push(packet.clone());
+        if let Some(late) = place.checked_sub(BEHIND) {
+            packets.push(line_a[late].clone());
+        }
+    }
+    packets.extend_from_slice(&line_a[line_a.len().saturating_sub(BEHIND)..]);
+    packets
+}
+
 #[cfg(test)]
 mod tests {
     use super::*;
     use crate::desk::Desk;
     use crate::edition::Edition;
     use crate::packet::MODIFY_ORDER;
-    use crate::tables::MOST_ROWS;
+    use crate::tables::SHEET_ROWS;
     use crate::views::live_orders;
 
     /// Busy hours have Modifies with every flag byte, since none of their bits is judged (request 2).
@@ -204,7 +242,7 @@ mod tests {
     /// Nothing stops, and about as many orders stay live as wanted, also in full tables.
     #[test]
     fn traffic_keeps_its_orders() {
-        for wanted in [100, MOST_ROWS] {
+        for wanted in [100, SHEET_ROWS] {
             let mut traffic = Traffic::new(1, wanted);
             let mut records = traffic.opening();
             for _ in 0..5_000 {

@@ -1,14 +1,15 @@
-//! The proved library and the second program side by side: each call is made of both, and whatever
-//! one answers or writes, the other must too, byte for byte. What a call has no business with is
+//! The proved library and the second program side by side, each with both engines (request 9): each call is made of
+//! all, and whatever one program answers or writes, the other must too, byte for byte. What a call has no business with is
 //! filled with a mark first, so that a stray write shows.
 
 use crate::desk::{Desk, MARK, MARK_BYTE};
 use crate::edition::{Edition, BYTE_20};
+use crate::index::{HINTS, INDEX_NUMBERS, USED};
 use crate::morning::{differ_in_undefined_bits_alone, set_timestamp, Dice};
 use crate::packet::*;
 use crate::proved::{lent, taken_apart, Proved, SHEET_BYTES};
 use crate::receiver::{filled_slot, slot, slot_number, Answer, State, SLOTS, SLOT_BYTES};
-use crate::seen::{add_each, claimed_body, Faults};
+use crate::seen::{add_each, claimed_body, Faults, Searches};
 use crate::sheet::sheet;
 use crate::stream::Stream;
 use crate::tables::*;
@@ -83,6 +84,8 @@ pub struct Tally {
     pub largest_levels: u64,
     /// Spreads as far below and above 0 as there can be.
     pub widest_spreads: [u64; 2],
+    /// What the engine with the index met (request 9).
+    pub searches: Searches,
 }
 
 impl Tally {
@@ -117,6 +120,7 @@ impl Tally {
         add_each(&mut self.spoiled, &other.spoiled);
         self.largest_levels += other.largest_levels;
         add_each(&mut self.widest_spreads, &other.widest_spreads);
+        self.searches.add(&other.searches);
     }
 
     /// A call, by its name in `EDITION_CALLS`, that was given this edition number.
@@ -196,13 +200,13 @@ impl Tally {
         ] {
             seen.push((what.to_string(), count));
         }
+        seen.extend(self.searches.seen());
         seen
     }
 }
 
-pub struct Twins {
-    /// The edition number that receivers are started with.
-    pub start_number: u64,
+/// One engine of the proved library and the same engine of the second program: each call is made of both.
+pub struct Pair {
     pub proved: Proved,
     pub second: Desk,
     /// The stream of a recording in pieces over the second program's receiver, with its memory.
@@ -210,57 +214,38 @@ pub struct Twins {
     pub hold: Vec<u8>,
     proved_stream: lent::Stream,
     proved_hold: Vec<u8>,
-    pub bad: u64,
-    pub tally: Tally,
+    /// Calls since the index was last compared whole.
+    calls: u64,
 }
 
-impl Twins {
-    /// Two receivers with the smallest tables, not started.
-    pub fn new() -> Twins {
-        let mut twins = Twins {
-            start_number: 0,
+/// An index is compared whole once in so many calls, at each start, before the caller alters it and at each
+/// scenario's end. Its counts, with the number of used slots, are compared after every call.
+const WHOLE_INDEX: u64 = 16;
+
+impl Pair {
+    fn new(second: Desk) -> Pair {
+        let mut pair = Pair {
             proved: Proved {
                 orders: Vec::new(),
                 symbols: Vec::new(),
                 shelf: Vec::new(),
+                index: Vec::new(),
                 state: [0; 4],
             },
-            second: Desk::unstarted(1, 1),
+            second,
             stream: Stream::default(),
             hold: Vec::new(),
             proved_stream: [0; 14],
             proved_hold: Vec::new(),
-            bad: 0,
-            tally: Tally::default(),
+            calls: 0,
         };
-        twins.lend_again();
-        twins
+        pair.lend_again();
+        pair.lend_index();
+        pair
     }
 
-    /// The edition that receivers are started in.
-    pub fn edition(&self) -> Edition {
-        Edition::of_number(self.start_number)
-    }
-
-    /// New tables of these capacities, full of marks, and a start.
-    pub fn restart(&mut self, rows: usize, entries: usize) -> Result<(), Difference> {
-        self.alter(|desk| {
-            let state = desk.state;
-            *desk = Desk::unstarted(rows, entries);
-            desk.state = state;
-        });
-        self.bad = 0;
-        self.start()
-    }
-
-    /// The caller alters tables or state between calls: the same for both.
-    pub fn alter(&mut self, change: impl FnOnce(&mut Desk)) {
-        change(&mut self.second);
-        self.lend_again();
-    }
-
-    /// Gives the proved receiver what the second has. A state lent to it has 64 bits for second and
-    /// stop, of which the low 32 and 8 count, so the second program is left with those.
+    /// Gives the proved receiver what the second has, but for the index. A state lent to it has 64 bits for
+    /// second and stop, of which the low 32 and 8 count, so the second program is left with those.
     fn lend_again(&mut self) {
         let desk = &mut self.second;
         self.proved.orders.clone_from(&desk.orders);
@@ -272,10 +257,8 @@ impl Twins {
         self.proved_hold.clone_from(&self.hold);
     }
 
-    /// The caller alters the stream of a recording or its memory: the same for both.
-    pub fn alter_stream(&mut self, change: impl FnOnce(&mut Stream, &mut Vec<u8>)) {
-        change(&mut self.stream, &mut self.hold);
-        self.lend_again();
+    fn lend_index(&mut self) {
+        self.proved.index.clone_from(&self.second.index);
     }
 
     /// The stream's fourteen numbers in the order of the boundary.
@@ -301,66 +284,45 @@ impl Twins {
         ]
     }
 
-    /// Sets bits of second and stop that do not count: the high 32, and all above the low 8.
-    pub fn set_idle_bits(&mut self, bits: u64) {
-        self.proved.state[1] |= bits << 32;
-        self.proved.state[2] |= bits << 8;
-    }
-
-    /// The same of a stream, and of the number of its last refused packet all bits above the low 8.
-    pub fn set_idle_bits_of_stream(&mut self, bits: u64) {
-        self.proved_stream[1] |= bits << 32;
-        self.proved_stream[2] |= bits << 8;
-        self.proved_stream[12] |= bits << 8;
-    }
-
-    /// The caller puts an edition number, of which all 64 bits count, into state and stream.
-    pub fn set_edition_number(&mut self, number: u64) {
-        self.alter(|desk| desk.state.edition = Edition::of_number(number));
+    fn set_edition_number(&mut self, number: u64) {
         self.proved.state[3] = number;
         self.proved_stream[3] = number;
     }
 
-    pub fn start(&mut self) -> Result<(), Difference> {
+    /// The number that both answered.
+    fn start(&mut self, edition_number: u64) -> Result<u8, Difference> {
         let mut state = self.proved.state;
-        let wanted = told(self.second.start(self.edition()));
+        let wanted = told(self.second.start(Edition::of_number(edition_number)));
         if wanted == 0 {
             state = numbers_of(self.second.state);
         }
         let proved = &mut self.proved;
         let number = lent::start(
-            self.start_number,
+            edition_number,
             &mut proved.orders,
             &mut proved.symbols,
             &mut proved.shelf,
+            &mut proved.index,
             &mut proved.state,
         );
-        self.tally.starts[usize::from(wanted == 6)] += 1;
-        self.tally.note_number("a start", self.start_number);
         same("start: answer", &number, &wanted)?;
         same("start: state", &self.proved.state, &state)?;
-        self.same_tables("start")
+        self.same_tables("start")?;
+        self.same_index("start")?;
+        Ok(wanted)
     }
 
-    /// A recording begins, with memory of this length for an unfinished packet, full of marks.
-    pub fn open(&mut self, hold: usize) -> Result<(), Difference> {
+    fn open(&mut self, hold: usize) -> Result<(), Difference> {
         self.stream = Stream::default();
         self.hold = vec![MARK_BYTE; hold];
-        self.bad = 0;
         self.proved_hold.clone_from(&self.hold);
         self.proved_stream = [MARK; 14];
-        self.tally
-            .note_number("an opened stream", self.proved.state[3]);
         let number = lent::open(&self.proved.state, &mut self.proved_stream);
         same("open: answer", &number, &0)?;
         same("open: stream", &self.proved_stream, &self.stream_numbers())
     }
 
-    /// One piece of a recording to both: the answer, the stream with its totals, the memory for an
-    /// unfinished packet, all tables, and whether a recording that ended here would be cut.
-    pub fn feed(&mut self, chunk: &[u8]) -> Result<(), Difference> {
-        let before = self.stream;
-        self.tally.note_number("a piece", self.proved_stream[3]);
+    fn feed(&mut self, chunk: &[u8]) -> Result<u8, Difference> {
         let wanted = told(self.stream.feed(&mut self.second, &mut self.hold, chunk));
         let wanted_stream = match wanted {
             0 => self.stream_numbers(),
@@ -371,6 +333,7 @@ impl Twins {
             &mut proved.orders,
             &mut proved.symbols,
             &mut proved.shelf,
+            &mut proved.index,
             &mut self.proved_hold,
             &mut self.proved_stream,
             chunk,
@@ -379,16 +342,231 @@ impl Twins {
         same("feed: stream", &self.proved_stream, &wanted_stream)?;
         same_runs("feed", "byte held", &self.proved_hold, &self.hold, 1)?;
         self.same_tables("feed")?;
+        self.same_part_of_index("feed")?;
         let (cut, wanted_cut) = (lent::cut(&self.proved_stream), self.stream.is_cut());
         same("cut", &cut, &wanted_cut)?;
         self.proved.state.copy_from_slice(&self.proved_stream[..4]);
-        self.bad = self.stream.bad;
+        Ok(wanted)
+    }
+
+    fn receive(&mut self, packet: &[u8]) -> Result<Result<Answer, Refusal>, Difference> {
+        let mut account = [MARK; 9];
+        let proved = &mut self.proved;
+        let mut wanted_state = proved.state;
+        let told = lent::receive(
+            &mut proved.orders,
+            &mut proved.symbols,
+            &mut proved.shelf,
+            &mut proved.index,
+            &mut proved.state,
+            packet,
+            &mut account,
+        );
+        let answer = self.second.give(packet);
+        let mut wanted_account = [MARK; 9];
+        if let Ok(answer) = &answer {
+            wanted_state = numbers_of(self.second.state);
+            wanted_account = account_of(answer);
+        }
+        same_refusal("receive: number and offset", told, &answer)?;
+        same("receive: account", &account, &wanted_account)?;
+        same("receive: state", &self.proved.state, &wanted_state)?;
+        self.same_tables("receive")?;
+        self.same_part_of_index("receive")?;
+        Ok(answer)
+    }
+
+    /// Every byte of tables, shelf and state. (The state of a refused call is the caller's to judge.)
+    fn same_tables(&self, call: &str) -> Result<(), Difference> {
+        let (proved, second) = (&self.proved, &self.second);
+        let width = ROW_NUMBERS;
+        same_runs(call, "row", &proved.orders, &second.orders, width)?;
+        let width = ENTRY_BYTES;
+        same_runs(call, "entry", &proved.symbols, &second.symbols, width)?;
+        let width = SLOT_BYTES;
+        same_runs(call, "slot", &proved.shelf, &second.shelf, width)
+    }
+
+    /// Every number of the index.
+    fn same_index(&mut self, call: &str) -> Result<(), Difference> {
+        self.calls = 0;
+        let (proved, second) = (&self.proved.index, &self.second.index);
+        same_runs(call, "number of the index", proved, second, 1)
+    }
+
+    /// How many slots were used and the counts; now and then all of it.
+    fn same_part_of_index(&mut self, call: &str) -> Result<(), Difference> {
+        self.calls += 1;
+        let (proved, second) = (&self.proved.index, &self.second.index);
+        let part = USED..HINTS;
+        if self.calls >= WHOLE_INDEX || second.len() < part.end || proved.len() != second.len() {
+            return self.same_index(call);
+        }
+        let (proved, second) = (&proved[part.clone()], &second[part]);
+        same_runs(call, "used slots and count", proved, second, 1)
+    }
+}
+
+/// Both engines (request 9), each of the proved library beside the same of the second program.
+pub struct Twins {
+    /// The edition number that receivers are started with.
+    pub start_number: u64,
+    /// With no index.
+    pub scanning: Pair,
+    /// With an index.
+    pub indexed: Pair,
+    /// No table, index or state was altered since a start: both engines must then come to the same.
+    left_alone: bool,
+    /// What differed in the index when the caller altered it. The next call tells it.
+    untold: Option<Difference>,
+    pub bad: u64,
+    pub tally: Tally,
+}
+
+impl Twins {
+    /// Receivers with the smallest tables, not started.
+    pub fn new() -> Twins {
+        Twins {
+            start_number: 0,
+            scanning: Pair::new(Desk::unstarted(1, 1)),
+            indexed: Pair::new(Desk::unstarted_with_index(1, 1)),
+            left_alone: false,
+            untold: None,
+            bad: 0,
+            tally: Tally::default(),
+        }
+    }
+
+    /// The second program's receiver that scans. A scenario goes by it.
+    pub fn second(&self) -> &Desk {
+        &self.scanning.second
+    }
+
+    pub fn stream(&self) -> &Stream {
+        &self.scanning.stream
+    }
+
+    /// The edition that receivers are started in.
+    pub fn edition(&self) -> Edition {
+        Edition::of_number(self.start_number)
+    }
+
+    /// New tables of these capacities and a new index, full of marks, and a start.
+    pub fn restart(&mut self, rows: usize, entries: usize) -> Result<(), Difference> {
+        self.alter(|desk| {
+            let state = desk.state;
+            *desk = Desk::unstarted(rows, entries);
+            desk.state = state;
+        });
+        self.alter_index(|index| {
+            index.clear();
+            index.resize(INDEX_NUMBERS, MARK);
+        });
+        self.bad = 0;
+        self.start()
+    }
+
+    /// The caller alters tables or state between calls: the same for all. Where the engines have parted, both go
+    /// on from what the scanning one has, and the index stays as it is.
+    pub fn alter(&mut self, change: impl FnOnce(&mut Desk)) {
+        change(&mut self.scanning.second);
+        let (from, to) = (&self.scanning.second, &mut self.indexed.second);
+        to.orders.clone_from(&from.orders);
+        to.symbols.clone_from(&from.symbols);
+        to.shelf.clone_from(&from.shelf);
+        to.state = from.state;
+        self.left_alone = false;
+        self.scanning.lend_again();
+        self.indexed.lend_again();
+    }
+
+    /// The caller alters the index, also its length.
+    pub fn alter_index(&mut self, change: impl FnOnce(&mut Vec<u64>)) {
+        let differs = self.indexed.same_index("before it is altered").err();
+        self.untold = self.untold.take().or(differs);
+        change(&mut self.indexed.second.index);
+        self.left_alone = false;
+        self.indexed.lend_index();
+    }
+
+    /// The caller alters the stream of a recording or its memory: the same for all.
+    pub fn alter_stream(&mut self, change: impl FnOnce(&mut Stream, &mut Vec<u8>)) {
+        let from = &mut self.scanning;
+        change(&mut from.stream, &mut from.hold);
+        self.indexed.stream = from.stream;
+        self.indexed.hold.clone_from(&from.hold);
+        self.alter(|_| ());
+    }
+
+    /// Sets bits of second and stop that do not count: the high 32, and all above the low 8.
+    pub fn set_idle_bits(&mut self, bits: u64) {
+        for pair in [&mut self.scanning, &mut self.indexed] {
+            pair.proved.state[1] |= bits << 32;
+            pair.proved.state[2] |= bits << 8;
+        }
+    }
+
+    /// The same of a stream, and of the number of its last refused packet all bits above the low 8.
+    pub fn set_idle_bits_of_stream(&mut self, bits: u64) {
+        for pair in [&mut self.scanning, &mut self.indexed] {
+            pair.proved_stream[1] |= bits << 32;
+            pair.proved_stream[2] |= bits << 8;
+            pair.proved_stream[12] |= bits << 8;
+        }
+    }
+
+    /// The caller puts an edition number, of which all 64 bits count, into state and stream.
+    pub fn set_edition_number(&mut self, number: u64) {
+        self.alter(|desk| desk.state.edition = Edition::of_number(number));
+        self.scanning.set_edition_number(number);
+        self.indexed.set_edition_number(number);
+    }
+
+    pub fn start(&mut self) -> Result<(), Difference> {
+        let number = self.scanning.start(self.start_number)?;
+        let with_index = self.indexed.start(self.start_number).map_err(by_index)?;
+        self.tally.starts[usize::from(number == 6)] += 1;
+        self.tally.note_number("a start", self.start_number);
+        let size_alone = number == 0 && with_index == 6;
+        self.tally.searches.note("a start", size_alone);
+        self.left_alone = number == 0 && with_index == 0;
+        self.alike("start")
+    }
+
+    /// A recording begins, with memory of this length for an unfinished packet, full of marks.
+    pub fn open(&mut self, hold: usize) -> Result<(), Difference> {
+        self.bad = 0;
+        let number = self.scanning.proved.state[3];
+        self.tally.note_number("an opened stream", number);
+        self.scanning.open(hold)?;
+        self.indexed.open(hold).map_err(by_index)
+    }
+
+    /// One piece of a recording to all: the answer, the stream with its totals, the memory for an
+    /// unfinished packet, all tables, and whether a recording that ended here would be cut.
+    pub fn feed(&mut self, chunk: &[u8]) -> Result<(), Difference> {
+        let before = self.scanning.stream;
+        let number = self.scanning.proved_stream[3];
+        self.tally.note_number("a piece", number);
+        let wanted = self.scanning.feed(chunk)?;
+        self.bad = self.scanning.stream.bad;
         self.note_feed(wanted, &before);
-        Ok(())
+        let used = self.used();
+        let with_index = self.indexed.feed(chunk).map_err(by_index)?;
+        let size_alone = wanted == 0 && with_index == 6;
+        self.tally.searches.note("a piece", size_alone);
+        self.note_built_anew(used);
+        if self.left_alone {
+            let (scanning, indexed) = (&self.scanning, &self.indexed);
+            let what = "with an index and without: stream";
+            same(what, &indexed.stream, &scanning.stream)?;
+            same_runs("engines", "byte held", &indexed.hold, &scanning.hold, 1)?;
+        }
+        self.alike("feed")
     }
 
     fn note_feed(&mut self, number: u8, before: &Stream) {
-        let (tally, stream) = (&mut self.tally, &self.stream);
+        let (tally, stream) = (&mut self.tally, &self.scanning.stream);
         tally.feeds[usize::from(number == 6)] += 1;
         if number == 0 {
             tally.cut_feeds += u64::from(stream.held > 0);
@@ -405,33 +583,14 @@ impl Twins {
         }
     }
 
-    /// One packet to both: the reader's answers, the receiver's, and all that is left.
+    /// One packet to all: the reader's answers, the receivers', and all that is left. The answer is that of the
+    /// engine that scans.
     pub fn receive(&mut self, packet: &[u8]) -> Result<Result<Answer, Refusal>, Difference> {
         self.tally.packets += 1;
         self.read(packet)?;
-        let mut account = [MARK; 9];
-        let edition = self.second.state.edition;
-        let proved = &mut self.proved;
-        let mut wanted_state = proved.state;
-        let number = proved.state[3];
-        let told = lent::receive(
-            &mut proved.orders,
-            &mut proved.symbols,
-            &mut proved.shelf,
-            &mut proved.state,
-            packet,
-            &mut account,
-        );
-        let answer = self.second.give(packet);
-        let mut wanted_account = [MARK; 9];
-        if let Ok(answer) = &answer {
-            wanted_state = numbers_of(self.second.state);
-            wanted_account = account_of(answer);
-        }
-        same_refusal("receive: number and offset", told, &answer)?;
-        same("receive: account", &account, &wanted_account)?;
-        same("receive: state", &self.proved.state, &wanted_state)?;
-        self.same_tables("receive")?;
+        let edition = self.scanning.second.state.edition;
+        let number = self.scanning.proved.state[3];
+        let answer = self.scanning.receive(packet)?;
         let call = if answer.is_ok() {
             "a packet accepted"
         } else {
@@ -439,7 +598,87 @@ impl Twins {
         };
         self.tally.note_number(call, number);
         self.note(edition, packet, &answer);
+        let with_index = self.receive_through_index(packet)?;
+        let size_alone = answer.is_ok() && with_index == Err(Refusal::alone(6));
+        self.tally.searches.note("a packet", size_alone);
+        if self.left_alone {
+            same("with an index and without: answer", &with_index, &answer)?;
+        } else {
+            self.note_parted(&answer, &with_index);
+        }
+        self.alike("receive")?;
         Ok(answer)
+    }
+
+    fn receive_through_index(
+        &mut self,
+        packet: &[u8],
+    ) -> Result<Result<Answer, Refusal>, Difference> {
+        let used = self.used();
+        if self.indexed.second.fits() {
+            self.tally
+                .searches
+                .note_packet(&self.indexed.second, packet);
+        }
+        let answer = self.indexed.receive(packet).map_err(by_index)?;
+        self.note_built_anew(used);
+        if let Ok(answer) = &answer {
+            let rows = rows_in(&self.indexed.second.orders);
+            self.tally.searches.note_stop(answer.stop, rows);
+        }
+        Ok(answer)
+    }
+
+    /// How many slots the index says were used.
+    fn used(&self) -> u64 {
+        self.indexed.second.index.get(USED).map_or(0, |used| *used)
+    }
+
+    fn note_built_anew(&mut self, used_before: u64) {
+        if self.used() < used_before {
+            let orders = &self.indexed.second.orders;
+            self.tally.searches.note_built_anew(orders);
+        }
+    }
+
+    /// What altered tables or an altered index made of the two engines.
+    fn note_parted(
+        &mut self,
+        scanning: &Result<Answer, Refusal>,
+        indexed: &Result<Answer, Refusal>,
+    ) {
+        let (Ok(scanning), Ok(indexed)) = (scanning, indexed) else {
+            return;
+        };
+        let rows_differ = self.scanning.second.orders != self.indexed.second.orders;
+        self.tally
+            .searches
+            .note_parted(scanning, indexed, rows_differ);
+    }
+
+    /// Request 9: "Both give the same answers and the same tables on every run from a start that leaves tables and
+    /// index to them".
+    fn alike(&mut self, call: &str) -> Result<(), Difference> {
+        if let Some(difference) = self.untold.take() {
+            return Err(by_index(difference));
+        }
+        if !self.left_alone {
+            return Ok(());
+        }
+        let (scanning, indexed) = (&self.scanning.second, &self.indexed.second);
+        let alike = scanning.orders == indexed.orders
+            && scanning.symbols == indexed.symbols
+            && scanning.shelf == indexed.shelf
+            && scanning.state == indexed.state;
+        match alike {
+            true => Ok(()),
+            false => Err(format!("{call}: the engines came to different tables")),
+        }
+    }
+
+    /// A scenario's end: all of the index.
+    pub fn end(&mut self) -> Result<(), Difference> {
+        self.indexed.same_index("end").map_err(by_index)
     }
 
     /// The same of a message over a spoiled row that bears its own IDs.
@@ -467,11 +706,17 @@ impl Twins {
                 let records = read_packet(edition, packet).unwrap_or_default();
                 add_each(&mut tally.updates, &updates(edition, &records));
                 tally.differing_by_undefined_bits +=
-                    differing_by_undefined_bits(&records, answer, &self.second.shelf);
-                tally.stops_by_timestamp +=
-                    u64::from(stopped_by_timestamp(edition, answer, &self.second.shelf));
-                tally.stops_by_byte_20 +=
-                    u64::from(stopped_by_byte_20(edition, answer, &self.second.shelf));
+                    differing_by_undefined_bits(&records, answer, &self.scanning.second.shelf);
+                tally.stops_by_timestamp += u64::from(stopped_by_timestamp(
+                    edition,
+                    answer,
+                    &self.scanning.second.shelf,
+                ));
+                tally.stops_by_byte_20 += u64::from(stopped_by_byte_20(
+                    edition,
+                    answer,
+                    &self.scanning.second.shelf,
+                ));
             }
         }
     }
@@ -480,7 +725,10 @@ impl Twins {
     /// reader also gets all that is left behind the header, where that is more than the header claims. All are
     /// told the edition of the state.
     fn read(&mut self, packet: &[u8]) -> Result<(), Difference> {
-        let (edition, number) = (self.second.state.edition, self.proved.state[3]);
+        let (edition, number) = (
+            self.scanning.second.state.edition,
+            self.scanning.proved.state[3],
+        );
         let mut records = [MARK];
         let told = lent::packet(number, packet, &mut records);
         let wanted = read_packet(edition, packet);
@@ -534,17 +782,6 @@ impl Twins {
         }
     }
 
-    /// Every byte of tables, shelf and state. (The state of a refused call is the caller's to judge.)
-    fn same_tables(&self, call: &str) -> Result<(), Difference> {
-        let (proved, second) = (&self.proved, &self.second);
-        let width = ROW_NUMBERS;
-        same_runs(call, "row", &proved.orders, &second.orders, width)?;
-        let width = ENTRY_BYTES;
-        same_runs(call, "entry", &proved.symbols, &second.symbols, width)?;
-        let width = SLOT_BYTES;
-        same_runs(call, "slot", &proved.shelf, &second.shelf, width)
-    }
-
     /// Counts, and the ladders and the spread of a few symbols, known and unknown.
     pub fn views(&mut self, dice: &mut Dice) -> Result<(), Difference> {
         self.counts()?;
@@ -552,7 +789,7 @@ impl Twins {
             let symbol = self.some_symbol(dice);
             self.spread(symbol)?;
             for side in [Side::Buy, Side::Sell] {
-                let rows = rows_in(&self.second.orders) as u64;
+                let rows = rows_in(&self.scanning.second.orders) as u64;
                 let length = match dice.below(4) {
                     0 => dice.below(7),
                     1 => dice.below(40),
@@ -567,7 +804,7 @@ impl Twins {
 
     /// A symbol of an entry, used or not, of a row, or any.
     fn some_symbol(&self, dice: &mut Dice) -> u32 {
-        let (orders, symbols) = (&self.second.orders, &self.second.symbols);
+        let (orders, symbols) = (&self.scanning.second.orders, &self.scanning.second.symbols);
         let (rows, entries) = (rows_in(orders) as u64, entries_in(symbols) as u64);
         match dice.below(8) {
             0 => dice.bits() as u32,
@@ -586,8 +823,12 @@ impl Twins {
 
     pub fn counts(&mut self) -> Result<(), Difference> {
         let mut counts = [MARK; 2];
-        let number = lent::counts(&self.proved.orders, &self.proved.symbols, &mut counts);
-        let (orders, symbols) = (&self.second.orders, &self.second.symbols);
+        let number = lent::counts(
+            &self.scanning.proved.orders,
+            &self.scanning.proved.symbols,
+            &mut counts,
+        );
+        let (orders, symbols) = (&self.scanning.second.orders, &self.scanning.second.symbols);
         let (wanted, wanted_counts) = match (live_orders(orders), used_entries(symbols)) {
             (Ok(orders), Ok(symbols)) => (0, [orders, symbols]),
             _ => (6, [MARK; 2]),
@@ -599,14 +840,17 @@ impl Twins {
 
     pub fn spread(&mut self, symbol: u32) -> Result<(), Difference> {
         let mut answer = [MARK; 2];
-        let proved = &self.proved;
+        let proved = &self.scanning.proved;
         let number = lent::spread(&proved.orders, &proved.symbols, symbol, &mut answer);
-        let (wanted, wanted_answer) =
-            match spread(&self.second.orders, &self.second.symbols, symbol) {
-                Err(number) => (number, [MARK; 2]),
-                Ok(None) => (0, [0, 0]),
-                Ok(Some(spread)) => (0, [1, spread as u64]),
-            };
+        let (wanted, wanted_answer) = match spread(
+            &self.scanning.second.orders,
+            &self.scanning.second.symbols,
+            symbol,
+        ) {
+            Err(number) => (number, [MARK; 2]),
+            Ok(None) => (0, [0, 0]),
+            Ok(Some(spread)) => (0, [1, spread as u64]),
+        };
         self.note_view(wanted);
         let widest = HIGHEST_PRICE - 1;
         let spreads = [[1, widest.wrapping_neg()], [1, widest]];
@@ -620,10 +864,10 @@ impl Twins {
     pub fn ladder(&mut self, symbol: u32, side: Side, length: usize) -> Result<(), Difference> {
         let (mut run, mut levels) = (vec![MARK; length], [MARK]);
         let sell = side == Side::Sell;
-        let (orders, symbols) = (&self.proved.orders, &self.proved.symbols);
+        let (orders, symbols) = (&self.scanning.proved.orders, &self.scanning.proved.symbols);
         let number = lent::ladder(orders, symbols, symbol, sell, &mut run, &mut levels);
         let mut wanted_run = vec![MARK; length];
-        let (orders, symbols) = (&self.second.orders, &self.second.symbols);
+        let (orders, symbols) = (&self.scanning.second.orders, &self.scanning.second.symbols);
         let (wanted, wanted_levels) = match ladder(orders, symbols, symbol, side, &mut wanted_run) {
             Err(number) => (number, [MARK]),
             Ok(levels) => (0, [levels]),
@@ -643,7 +887,7 @@ impl Twins {
             0 => (dice.bits(), false),
             _ => (self.bad, dice.below(2) == 0),
         };
-        let desk = &self.second;
+        let desk = &self.scanning.second;
         let wanted = sheet(desk.state, &desk.orders, &desk.symbols, bad, whole);
         let length = wanted.as_ref().map_or(100, |text| text.len() as u64);
         // A long sheet must fit in what the header says holds any.
@@ -659,7 +903,8 @@ impl Twins {
     }
 
     fn note_sheet(&mut self, wanted: &Result<Vec<u8>, u8>) {
-        self.tally.note_number("a sheet", self.proved.state[3]);
+        self.tally
+            .note_number("a sheet", self.scanning.proved.state[3]);
         let text = wanted.as_deref().map_or(String::new(), shown);
         let has = |wanted: &str| text.lines().any(|line| line == wanted);
         self.tally.typed_sheets[0] += u64::from(has("type=E") || has("type=F"));
@@ -679,7 +924,7 @@ impl Twins {
             symbols,
             state,
             ..
-        } = &self.proved;
+        } = &self.scanning.proved;
         let number = lent::sheet(
             &mut text,
             orders,
@@ -794,6 +1039,11 @@ fn numbers_of(state: State) -> lent::State {
         edition,
     } = state;
     [next, second, stop.into(), edition.number()]
+}
+
+/// A difference of the engine with the index.
+fn by_index(difference: Difference) -> Difference {
+    format!("with an index, {difference}")
 }
 
 fn shown(text: &[u8]) -> String {

@@ -85,6 +85,7 @@ impl Model {
             orders: self.rows.concat(),
             symbols: self.entries.concat(),
             shelf,
+            index: Vec::new(),
         }
     }
 
@@ -270,7 +271,7 @@ impl Model {
 
 fn sizes_good(desk: &Desk) -> bool {
     desk.orders.len() % 5 == 0
-        && (5..=8_000).contains(&desk.orders.len())
+        && (5..=80_000).contains(&desk.orders.len())
         && desk.symbols.len() % 42 == 0
         && (42..=42_000).contains(&desk.symbols.len())
         && desk.shelf.len() == 4_736

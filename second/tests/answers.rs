@@ -7,7 +7,7 @@ use second::examples::*;
 use second::morning::{drawn_recording, packed, recording};
 use second::packet::{read_packet, Refusal};
 use second::sheet::{packets_of, play};
-use second::tables::{MOST_ENTRIES, MOST_ROWS};
+use second::tables::{MOST_ENTRIES, SHEET_ROWS};
 use std::collections::BTreeMap;
 use std::fmt::Display;
 use std::fs::File;
@@ -193,7 +193,7 @@ fn the_long_recording_line_by_line() {
     let lines = text(&stored);
     let (back, next, stop) = packets_told(V1_3b, &stored, &lines);
     let list = long_list();
-    let mut made = Reference::new(V1_3b, &list, MOST_ROWS, MOST_ENTRIES);
+    let mut made = Reference::new(V1_3b, &list, SHEET_ROWS, MOST_ENTRIES);
     made.go_to(next - 1);
     assert_eq!((made.rule_of_next(), stop), (Some(24), 24));
     assert_eq!(back, tables_told(made.second, &made.orders, &made.symbols));

@@ -143,9 +143,18 @@ impl Editions for Proved {
             orders,
             symbols,
             shelf,
+            index,
             state,
         } = self;
-        let answer = lent::feed(orders, symbols, shelf, &mut fed.hold, &mut stream, piece);
+        let answer = lent::feed(
+            orders,
+            symbols,
+            shelf,
+            index,
+            &mut fed.hold,
+            &mut stream,
+            piece,
+        );
         assert_eq!(answer, 0);
         state.copy_from_slice(&stream[..4]);
         fed.proved = Some(stream);
@@ -635,11 +644,15 @@ mod numbers_at_the_boundary {
                 orders,
                 symbols,
                 shelf,
+                index,
                 state,
             } = &mut receiver;
-            assert_eq!(lent::start(number, &mut [], symbols, shelf, state), 6);
+            assert_eq!(
+                lent::start(number, &mut [], symbols, shelf, index, state),
+                6
+            );
             assert_eq!(*state, [9; 4]);
-            assert_eq!(lent::start(number, orders, symbols, shelf, state), 0);
+            assert_eq!(lent::start(number, orders, symbols, shelf, index, state), 0);
             assert_eq!(*state, [1, 0, 0, written(number)]);
         }
     }
@@ -693,17 +706,26 @@ mod numbers_at_the_boundary {
                 orders,
                 symbols,
                 shelf,
+                index,
                 ..
             } = &mut Proved::started(V1_3b, 2, 2);
             let mut hold = [0; LEAST_HOLD];
             // A refused piece leaves the number, and an empty one writes it.
-            let short = lent::feed(orders, symbols, shelf, &mut [0; 9], &mut stream, &[]);
+            let short = lent::feed(orders, symbols, shelf, index, &mut [0; 9], &mut stream, &[]);
             assert_eq!((short, stream[3]), (6, number));
-            let empty = lent::feed(orders, symbols, shelf, &mut hold, &mut stream, &[]);
+            let empty = lent::feed(orders, symbols, shelf, index, &mut hold, &mut stream, &[]);
             assert_eq!((empty, stream[3]), (0, written(number)));
             stream[3] = number;
             let bytes = recording(&[record(1, &update(b' '))]);
-            let fed = lent::feed(orders, symbols, shelf, &mut hold, &mut stream, &bytes);
+            let fed = lent::feed(
+                orders,
+                symbols,
+                shelf,
+                index,
+                &mut hold,
+                &mut stream,
+                &bytes,
+            );
             assert_eq!((fed, stream[3]), (0, written(number)));
             let bad = u64::from(number == 1);
             assert_eq!((stream[6], stream[7]), (bad, 1 - bad));

@@ -136,9 +136,10 @@ impl Feed for (Proved, lent::Stream, Vec<u8>) {
             orders,
             symbols,
             shelf,
+            index,
             ..
         } = receiver;
-        lent::feed(orders, symbols, shelf, hold, stream, piece) == 0
+        lent::feed(orders, symbols, shelf, index, hold, stream, piece) == 0
     }
 
     fn last(&self) -> (u64, u64) {

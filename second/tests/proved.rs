@@ -5,10 +5,12 @@
 mod common;
 use common::*;
 use second::examples::{example_list, morning_recording, MORNING_SHEET};
+use second::index::{INDEX_NUMBERS, USED};
 use second::morning::*;
 use second::packet::{Refusal, Side, HIGHEST_PRICE};
 use second::proved::{self, lent, taken_apart, Body, Counts, Head, Proved};
 use second::stream::LEAST_HOLD;
+use second::traffic::{in_packets, Traffic};
 
 fn example() -> (Proved, Vec<u8>) {
     let packet = packet(&numbered(&example_list(), 1, 5));
@@ -96,12 +98,13 @@ fn numbers_and_offsets_in_one_answer() {
             orders,
             symbols,
             shelf,
+            index,
             state,
         } = &mut receiver;
-        let received = lent::receive(orders, symbols, shelf, state, bytes, &mut [0; 9]);
+        let received = lent::receive(orders, symbols, shelf, index, state, bytes, &mut [0; 9]);
         assert_eq!(received, answer);
         // 6 comes before all of them.
-        let received = lent::receive(&mut [], symbols, shelf, state, bytes, &mut [0; 9]);
+        let received = lent::receive(&mut [], symbols, shelf, index, state, bytes, &mut [0; 9]);
         assert_eq!(received, 6);
     }
     assert_eq!(lent::record(0, &[], &mut [0; 2]), 2);
@@ -135,7 +138,7 @@ fn spreads_of_either_sign() {
 /// Every row with the most shares at one price, and books as wide as prices allow.
 #[test]
 fn the_largest_sums_and_the_widest_spreads() {
-    let mut receiver = Proved::new(V1_3b, 1_600, 1).expect("sizes in the limits");
+    let mut receiver = Proved::new(V1_3b, 16_000, 1).expect("sizes in the limits");
     let answer = receiver.receive(&record(1, &update(7)));
     assert_eq!(answer.map(|answer| answer.applied), Ok(1));
     let most = u64::from(u32::MAX);
@@ -144,7 +147,7 @@ fn the_largest_sums_and_the_widest_spreads() {
     }
     let mut run = [9; 4];
     assert_eq!(receiver.ladder(7, Side::Buy, &mut run), Ok(1));
-    assert_eq!(run, [HIGHEST_PRICE, 1_600 * most, 1_600, 9]);
+    assert_eq!(run, [HIGHEST_PRICE, 16_000 * most, 16_000, 9]);
     let widest = HIGHEST_PRICE as i64 - 1;
     receiver.orders[..5].copy_from_slice(&[0, 15, 1, most, 1]);
     assert_eq!(receiver.spread(7), Ok(Some(-widest)));
@@ -152,6 +155,75 @@ fn the_largest_sums_and_the_widest_spreads() {
         row[2] = if row[1] == 14 { 1 } else { HIGHEST_PRICE };
     }
     assert_eq!(receiver.spread(7), Ok(Some(widest)));
+}
+
+/// Request 9: with an index the example comes to the same answers, tables and sheet, and to the index that the second
+/// program's model has; in packets and in pieces.
+#[test]
+fn the_example_with_an_index() {
+    let (_, packet) = example();
+    let mut receiver = Proved::with_index(V1_3b, 10, 4).expect("sizes in the limits");
+    let mut desk = Desk::with_index(V1_3b, 10, 4);
+    assert!(receiver.index == desk.index, "a start makes it");
+    assert_eq!(receiver.receive(&packet), desk.give(&packet));
+    assert_eq!(receiver.sheet(0, false), Ok(MORNING_SHEET.into()));
+    assert!(receiver.index == desk.index && receiver.index[USED] == 3);
+    let bytes = morning_recording();
+    for first in 0..=bytes.len() {
+        let mut fed = Proved::with_index(V1_3b, 10, 4).expect("sizes in the limits");
+        let (mut stream, mut hold) = ([9; 14], [9; LEAST_HOLD]);
+        assert_eq!(lent::open(&fed.state, &mut stream), 0);
+        for chunk in [&bytes[..first], &bytes[first..]] {
+            assert_eq!(feed(&mut fed, &mut hold, &mut stream, chunk), 0);
+        }
+        fed.state.copy_from_slice(&stream[..4]);
+        assert!(fed == receiver, "cut at {first}");
+    }
+}
+
+/// None and 49,403 numbers are an index; any other length is 6 at a start, in receiving and in pieces, and nothing
+/// changes.
+#[test]
+fn sizes_of_the_index() {
+    let (_, packet) = example();
+    for length in [0, 1, 2, 32_768, 49_402, 49_403, 49_404, 98_806] {
+        let mut receiver = Proved::with_index(V1_3b, 10, 4).expect("sizes in the limits");
+        receiver.index.resize(length, 0);
+        let good = [0, INDEX_NUMBERS].contains(&length);
+        let before = receiver.clone();
+        let (mut stream, mut hold) = ([1, 0, 0, 0, 0, 0, 0, 0, 0, 0, 0, 0, 0, 0], [9; LEAST_HOLD]);
+        let fed = feed(&mut receiver, &mut hold, &mut stream, &morning_recording());
+        assert_eq!(fed, if good { 0 } else { 6 }, "{length}");
+        if !good {
+            assert_eq!(receiver.receive(&packet), Err(Refusal::alone(6)));
+            assert_eq!(receiver.start(V1_3b), Err(Refusal::alone(6)));
+            assert!(receiver == before && hold == [9; LEAST_HOLD], "{length}");
+        }
+        let refused = receiver.start(V1_3b).is_err();
+        assert_eq!(refused, !good, "{length}");
+    }
+}
+
+/// 16,000 live orders with each engine, and one more: 25.
+#[test]
+fn sixteen_thousand_orders() {
+    let mut traffic = Traffic::new(1, 16_000);
+    let packets = in_packets(&traffic.opening(), 40);
+    let mut scanning = Proved::new(V1_3b, 16_000, 40).expect("sizes in the limits");
+    let mut indexed = Proved::with_index(V1_3b, 16_000, 40).expect("sizes in the limits");
+    for packet in &packets {
+        assert_eq!(scanning.receive(packet), indexed.receive(packet));
+    }
+    assert!(scanning.orders == indexed.orders && scanning.symbols == indexed.symbols);
+    assert_eq!(indexed.counts().map(|counts| counts.orders), Ok(16_000));
+    let one_more = record(indexed.state[0], &buy(7, 1, 10_000_000, 100));
+    for receiver in [&mut scanning, &mut indexed] {
+        let answer = receiver.receive(&one_more).expect("a good packet");
+        assert_eq!((answer.applied, answer.stop), (0, 25));
+    }
+    assert!(scanning.orders == indexed.orders);
+    let wide = Proved::new(V1_3b, 16_001, 40);
+    assert_eq!(wide.map(|_| ()), Err(Refusal::alone(6)));
 }
 
 /// The example's recording cut in every place, through the calls for streams.
@@ -194,9 +266,10 @@ fn feed(receiver: &mut Proved, hold: &mut [u8], stream: &mut lent::Stream, chunk
         orders,
         symbols,
         shelf,
+        index,
         ..
     } = receiver;
-    lent::feed(orders, symbols, shelf, hold, stream, chunk)
+    lent::feed(orders, symbols, shelf, index, hold, stream, chunk)
 }
 
 fn message(body: &[u8]) -> Body {

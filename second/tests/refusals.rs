@@ -2,10 +2,12 @@
 
 mod common;
 use common::*;
+use second::index::INDEX_NUMBERS;
 use second::morning::*;
 use second::packet::*;
-use second::receiver::{receive, start, State, SHELF_BYTES};
-use second::tables::{ENTRY_BYTES, MOST_ENTRIES, MOST_ROWS, ROW_NUMBERS};
+use second::receiver::{State, SHELF_BYTES};
+use second::stream::{Stream, LEAST_HOLD};
+use second::tables::{ENTRY_BYTES, MOST_ENTRIES, MOST_ROWS, ROW_NUMBERS, SHEET_ROWS};
 use second::views::{ladder, live_orders, spread, used_entries};
 
 const FRESH: State = State {
@@ -15,12 +17,12 @@ const FRESH: State = State {
     edition: V1_3b,
 };
 
-/// Lengths of (order table, symbol table, shelf) that are refused with 6, one at a time.
-fn wrong_sizes() -> Vec<(usize, usize, usize)> {
-    let good = (ROW_NUMBERS, ENTRY_BYTES, SHELF_BYTES);
+/// Lengths of [order table, symbol table, shelf, index] that are refused with 6, one at a time.
+fn wrong_sizes() -> Vec<[usize; 4]> {
+    let good = [ROW_NUMBERS, ENTRY_BYTES, SHELF_BYTES, 0];
     let mut wrong = Vec::new();
-    for numbers in [0, 1, 4, 6, 9, 7_999, 8_001, (MOST_ROWS + 1) * ROW_NUMBERS] {
-        wrong.push((numbers, good.1, good.2));
+    for numbers in [0, 1, 4, 6, 9, 7_999, 8_001, 79_999, 80_001, 80_005] {
+        wrong.push([numbers, good[1], good[2], good[3]]);
     }
     for bytes in [
         0,
@@ -32,39 +34,56 @@ fn wrong_sizes() -> Vec<(usize, usize, usize)> {
         42_001,
         (MOST_ENTRIES + 1) * ENTRY_BYTES,
     ] {
-        wrong.push((good.0, bytes, good.2));
+        wrong.push([good[0], bytes, good[2], good[3]]);
     }
     for bytes in [0, 1, 74, 4_735, 4_737, 2 * SHELF_BYTES] {
-        wrong.push((good.0, good.1, bytes));
+        wrong.push([good[0], good[1], bytes, good[3]]);
     }
+    // Request 9: "Refusal 6 covers the index size."
+    for numbers in [1, 2, 32_768, 33_019, 49_402, 49_404, 98_806] {
+        wrong.push([good[0], good[1], good[2], numbers]);
+    }
+    // A good index mends no other size.
+    wrong.push([0, good[1], good[2], INDEX_NUMBERS]);
+    wrong.push([good[0], 0, good[2], INDEX_NUMBERS]);
+    wrong.push([good[0], good[1], 0, INDEX_NUMBERS]);
     wrong
 }
 
 #[test]
 fn six_sizes_at_a_start_and_in_receiving() {
     assert_eq!(SHELF_BYTES, 4_736);
-    for (numbers, entry_bytes, shelf_bytes) in wrong_sizes() {
-        let mut orders = vec![3; numbers];
-        let mut symbols = vec![3; entry_bytes];
-        let mut shelf = vec![3; shelf_bytes];
+    assert_eq!(
+        (MOST_ROWS, SHEET_ROWS, INDEX_NUMBERS),
+        (16_000, 1_600, 49_403)
+    );
+    for [numbers, entry_bytes, shelf_bytes, index_numbers] in wrong_sizes() {
+        let mut desk = Desk {
+            state: FRESH,
+            orders: vec![3; numbers],
+            symbols: vec![3; entry_bytes],
+            shelf: vec![3; shelf_bytes],
+            index: vec![3; index_numbers],
+        };
+        let before = desk.clone();
         for edition in EDITIONS {
-            let answer = start(edition, &mut orders, &mut symbols, &mut shelf);
-            assert_eq!(answer, Err(6));
+            assert_eq!(desk.start(edition), Err(6));
         }
         // 6 comes before 1 and before all else.
         for packet in [vec![], vec![0; 1_501], record(1, &time(1)), vec![0; 9]] {
-            let answer = receive(FRESH, &mut orders, &mut symbols, &mut shelf, &packet);
-            assert_eq!(answer, Err(Refusal::alone(6)));
+            assert_eq!(desk.give(&packet), Err(Refusal::alone(6)));
         }
-        assert!(orders.iter().all(|number| *number == 3));
-        assert!(symbols.iter().all(|byte| *byte == 3));
-        assert!(shelf.iter().all(|byte| *byte == 3));
+        let mut hold = [0; LEAST_HOLD];
+        assert_eq!(Stream::default().feed(&mut desk, &mut hold, &[1]), Err(6));
+        assert_eq!(desk, before);
     }
 }
 
 #[test]
 fn limits_of_sizes_are_good() {
-    for (rows, entries) in [(1, 1), (MOST_ROWS, MOST_ENTRIES), (1, 1_000), (1_600, 1)] {
+    for (rows, entries) in [(1, 1), (MOST_ROWS, MOST_ENTRIES), (1, 1_000), (16_000, 1)] {
+        let mut desk = Desk::with_index(V1_3b, rows, entries);
+        assert_eq!(desk.next(time(5)).next, 2);
         let mut desk = Desk::new(V1_3b, rows, entries);
         assert!(desk.orders.iter().all(|number| *number == 0));
         assert!(desk.symbols.iter().all(|byte| *byte == 0));
@@ -239,9 +258,9 @@ fn thirty_and_six_in_views() {
     assert_eq!(ladder(orders, symbols, 8, Side::Buy, &mut run), Err(30));
     assert_eq!(spread(orders, symbols, 8), Err(30));
     assert_eq!(spread(orders, symbols, 0), Err(30));
-    for (numbers, entry_bytes, shelf_bytes) in wrong_sizes() {
-        if shelf_bytes != SHELF_BYTES {
-            continue; // a view is not lent the shelf
+    for [numbers, entry_bytes, shelf_bytes, index_numbers] in wrong_sizes() {
+        if shelf_bytes != SHELF_BYTES || ![0, INDEX_NUMBERS].contains(&index_numbers) {
+            continue; // a view is lent neither the shelf nor the index
         }
         let (orders, symbols) = (vec![0; numbers], vec![0; entry_bytes]);
         // 6 comes before 30.

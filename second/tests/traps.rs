@@ -5,7 +5,7 @@ use common::*;
 use second::book::broken_rule;
 use second::morning::*;
 use second::packet::*;
-use second::receiver::{filled_slot, slot, slot_number};
+use second::receiver::{filled_slot, slot, slot_number, State};
 use second::tables::row_is_live;
 use std::collections::BTreeSet;
 
@@ -484,12 +484,11 @@ fn a_start_resets_the_stop_and_all_else() {
     let mut desk = Desk::example();
     desk.next(delete(7, 999));
     assert_eq!(desk.state.stop, 22);
-    let state =
-        second::receiver::start(V1_3b, &mut desk.orders, &mut desk.symbols, &mut desk.shelf);
-    assert_eq!(
-        state.map(|state| (state.next, state.second, state.stop)),
-        Ok((1, 0, 0))
-    );
+    assert_eq!(desk.start(V1_3b), Ok(()));
+    let State {
+        next, second, stop, ..
+    } = desk.state;
+    assert_eq!((next, second, stop), (1, 0, 0));
     assert!(desk.orders.iter().all(|number| *number == 0));
     assert!(desk.symbols.iter().all(|byte| *byte == 0));
     assert!(desk.shelf.iter().all(|byte| *byte == 0));

@@ -1,5 +1,5 @@
-//! Times of the proved library beside the second program, in one run and on the same packets, as a
-//! Markdown table: `bench [MEGABYTES]`, the size of the recording for the sheet programs (300).
+//! Times of the proved library beside Rust programs, in one run and on the same packets, as a Markdown
+//! table: `bench [MEGABYTES]`, the size of the recordings for the sheet programs (300).
 //!
 //! docs/BENCHMARKS.md says how it measures.
 #![forbid(unsafe_code)]
@@ -27,12 +27,15 @@ fn main() -> ExitCode {
 mod linked {
     use second::edition::Edition;
     use second::examples::example_list;
-    use second::morning::{bad_packet, system_time};
+    use second::fast;
+    use second::morning::{bad_packet, recording, system_time};
     use second::packet::*;
+    use second::plain::Handler;
     use second::proved::{self, lent, Proved};
     use second::receiver::{receive, State};
-    use second::tables::{MOST_ENTRIES, MOST_ROWS};
-    use second::traffic::{in_packets, Traffic};
+    use second::stream::LEAST_HOLD;
+    use second::tables::{MOST_ENTRIES, MOST_ROWS, SHEET_ROWS};
+    use second::traffic::{in_packets, on_two_lines, Traffic};
     use std::fs::File;
     use std::hint::black_box;
     use std::io::{BufWriter, Write};
@@ -46,6 +49,14 @@ mod linked {
     /// Records in a packet at most.
     const RECORDS: usize = 8;
     const MESSAGES: usize = 20_000;
+    /// With an index, so that it is built anew, at many live orders several times.
+    const INDEXED_MESSAGES: usize = 100_000;
+    /// Symbols in play, and as many as there can be.
+    const SYMBOLS: u64 = 40;
+    /// Bytes of a recording that are read at once, as the programs read them.
+    const BLOCK: usize = 65_536;
+    /// A recording in memory is no longer than this.
+    const MOST_MEGABYTES: usize = 50;
 
     pub fn run() -> Result<(), String> {
         let megabytes = match std::env::args().nth(1) {
@@ -58,15 +69,34 @@ mod linked {
         println!("|---|---|---|---|---|");
         receiving_times()?;
         // The first beside the second shows what the rows cost that no order is in.
-        for (live, rows) in [
-            (100, 100),
-            (100, MOST_ROWS),
-            (1_000, MOST_ROWS),
-            (MOST_ROWS, MOST_ROWS),
+        for (live, rows, messages) in [
+            (100, 100, MESSAGES),
+            (100, SHEET_ROWS, MESSAGES),
+            (1_000, SHEET_ROWS, MESSAGES),
+            (SHEET_ROWS, SHEET_ROWS, MESSAGES),
+            (10_000, MOST_ROWS, MESSAGES / 10),
         ] {
-            receiving_orders(live, rows)?;
+            receiving_orders(live, rows, messages)?;
         }
+        for (live, rows) in [(100, 100), (100, SHEET_ROWS), (1_000, SHEET_ROWS)] {
+            receiving_through_index(live, rows, SYMBOLS)?;
+        }
+        // What a message costs must not grow with the orders, nor with the symbols.
+        for symbols in [SYMBOLS, MOST_ENTRIES as u64] {
+            for live in [100, 1_000, 10_000, MOST_ROWS] {
+                receiving_through_index(live, MOST_ROWS, symbols)?;
+            }
+        }
+        receiving_whole_recording(10_000)?;
         reading()?;
+        let in_memory = megabytes.min(MOST_MEGABYTES);
+        for (live, symbols) in [
+            (100, SYMBOLS),
+            (1_000, SYMBOLS),
+            (1_000, MOST_ENTRIES as u64),
+        ] {
+            feeding(in_memory, live, symbols)?;
+        }
         sheets(megabytes)
     }
 
@@ -105,21 +135,18 @@ mod linked {
 
     fn print_row(what: &str, count: usize, unit: &str, rattle: Duration, rust: Duration) {
         println!(
-            "| {what} | {count} {unit} | {} | {} | {:.2} |",
+            "| {what} | {count} {unit}s | {} | {} | {:.2} |",
             told(rattle, count, unit),
             told(rust, count, unit),
             rust.as_secs_f64() / rattle.as_secs_f64()
         );
     }
 
-    /// The whole time, and how many in a second.
+    /// The whole time, and what each took.
     fn told(time: Duration, count: usize, unit: &str) -> String {
         let seconds = time.as_secs_f64();
-        format!(
-            "{:.1} ms, {:.2} million {unit}/s",
-            seconds * 1e3,
-            count as f64 / seconds / 1e6
-        )
+        let each = seconds * 1e9 / count as f64;
+        format!("{:.1} ms, {each:.1} ns a {unit}", seconds * 1e3)
     }
 
     // -----------------------------------------------------------------------------------------
@@ -131,43 +158,99 @@ mod linked {
         let records: Vec<_> = (1..=MESSAGES as u64)
             .map(|number| (number, system_time(number as u32)))
             .collect();
-        let opened = Proved::new(EDITION, MOST_ROWS, MOST_ENTRIES).map_err(refused)?;
-        receiving("receive, no book: System Time alone", &opened, &records)
+        let opened = Proved::new(EDITION, SHEET_ROWS, MOST_ENTRIES).map_err(refused)?;
+        let what = "receive, no book: System Time alone (second program)";
+        receiving(what, &opened, &records, second_receives)?;
+        let opened = Proved::with_index(EDITION, SHEET_ROWS, MOST_ENTRIES).map_err(refused)?;
+        let what = "receive, index, no book: System Time alone (fast)";
+        receiving(what, &opened, &records, fast_receives).map(|_| ())
     }
 
-    /// A busy hour at so many live orders, in a table of so many rows. The opening is not timed.
-    fn receiving_orders(live: usize, rows: usize) -> Result<(), String> {
-        let mut traffic = Traffic::new(live as u64, live);
-        let mut opened = Proved::new(EDITION, rows, MOST_ENTRIES).map_err(refused)?;
+    /// A busy hour at so many live orders, in a table of so many rows, which both scan.
+    fn receiving_orders(live: usize, rows: usize, messages: usize) -> Result<(), String> {
+        let opened = Proved::new(EDITION, rows, MOST_ENTRIES).map_err(refused)?;
+        let what = format!("receive, {live} live orders in {rows} rows (second program)");
+        receiving_busy_hour(&what, opened, live, SYMBOLS, messages, second_receives)
+    }
+
+    /// The same through an index, beside the program that was written for speed with the same one.
+    fn receiving_through_index(live: usize, rows: usize, symbols: u64) -> Result<(), String> {
+        let opened = Proved::with_index(EDITION, rows, MOST_ENTRIES).map_err(refused)?;
+        let what =
+            format!("receive, index, {live} live orders in {rows} rows, {symbols} symbols (fast)");
+        let messages = INDEXED_MESSAGES;
+        receiving_busy_hour(&what, opened, live, symbols, messages, fast_receives)
+    }
+
+    /// The opening is not timed.
+    fn receiving_busy_hour(
+        what: &str,
+        mut opened: Proved,
+        live: usize,
+        symbols: u64,
+        messages: usize,
+        rust: Receives,
+    ) -> Result<(), String> {
+        let mut traffic = Traffic::of_symbols(live as u64, live, symbols);
         for packet in in_packets(&traffic.opening(), RECORDS) {
             opened.receive(&packet).map_err(refused)?;
         }
-        let records: Vec<_> = (0..MESSAGES).map(|_| traffic.message()).collect();
-        let what = format!("receive, {live} live orders in {rows} rows");
-        receiving(&what, &opened, &records)
+        let records: Vec<_> = (0..messages).map(|_| traffic.message()).collect();
+        let after = receiving(what, &opened, &records, rust)?;
+        keeps_orders(&after, live)
     }
 
-    /// Each turn starts from copies of the opened tables, made and so touched before the clock.
-    fn receiving(what: &str, opened: &Proved, records: &[(u64, Vec<u8>)]) -> Result<(), String> {
+    /// A whole recording from a start on, which clears all buffers before the clock: the opening is timed too.
+    fn receiving_whole_recording(live: usize) -> Result<(), String> {
+        let mut traffic = Traffic::new(live as u64, live);
+        let mut records = traffic.opening();
+        records.extend((0..INDEXED_MESSAGES).map(|_| traffic.message()));
+        let started = Proved::with_index(EDITION, MOST_ROWS, MOST_ENTRIES).map_err(refused)?;
+        let what = format!("receive, index, a recording from a start to {live} live orders (fast)");
+        let after = receiving(&what, &started, &records, fast_receives)?;
+        keeps_orders(&after, live)
+    }
+
+    /// As many orders stay live as the row says, or nearly so.
+    fn keeps_orders(receiver: &Proved, live: usize) -> Result<(), String> {
+        let orders = receiver.counts().map_err(refused)?.orders as usize;
+        if orders <= live && orders >= live * 9 / 10 {
+            return Ok(());
+        }
+        Err(format!("{orders} orders are live, and {live} were wanted"))
+    }
+
+    /// A Rust program that gets all packets, in the proved receiver's memory.
+    type Receives = fn(&mut Proved, &[Vec<u8>]);
+
+    /// Each turn starts from copies of the opened tables, made and so touched before the clock. Answers what
+    /// both came to.
+    fn receiving(
+        what: &str,
+        opened: &Proved,
+        records: &[(u64, Vec<u8>)],
+        rust_receives: Receives,
+    ) -> Result<Proved, String> {
         let packets = in_packets(records, RECORDS);
-        let (mut proved, mut second) = (opened.clone(), opened.clone());
+        let (mut proved, mut other) = (opened.clone(), opened.clone());
         let (rattle, rust) = by_turns(
             1,
             REPETITIONS,
             || {
-                proved = opened.clone();
+                proved.clone_from(opened);
                 time(|| proved_receives(&mut proved, &packets))
             },
             || {
-                second = opened.clone();
-                time(|| second_receives(&mut second, &packets))
+                other.clone_from(opened);
+                time(|| rust_receives(&mut other, &packets))
             },
         );
-        if proved != second || proved.state[2] != 0 {
-            return Err("the two receivers came to different tables, or stopped".to_string());
+        let next = opened.state[0] + records.len() as u64;
+        if proved != other || proved.state[0] != next || proved.state[2] != 0 {
+            return Err(format!("{what}: different tables, or a stop"));
         }
-        print_row(what, records.len(), "messages", rattle, rust);
-        Ok(())
+        print_row(what, records.len(), "message", rattle, rust);
+        Ok(proved)
     }
 
     fn refused(refusal: Refusal) -> String {
@@ -181,6 +264,7 @@ mod linked {
                 black_box(&mut receiver.orders),
                 black_box(&mut receiver.symbols),
                 black_box(&mut receiver.shelf),
+                black_box(&mut receiver.index),
                 &mut receiver.state,
                 black_box(packet),
                 &mut account,
@@ -203,6 +287,7 @@ mod linked {
                 black_box(&mut receiver.orders),
                 black_box(&mut receiver.symbols),
                 black_box(&mut receiver.shelf),
+                black_box(&mut receiver.index),
                 black_box(packet),
             );
             if let Ok((after, answer)) = answer {
@@ -212,6 +297,22 @@ mod linked {
         }
         let (stop, edition) = (state.stop.into(), state.edition.number());
         receiver.state = [state.next, state.second, stop, edition];
+    }
+
+    fn fast_receives(receiver: &mut Proved, packets: &[Vec<u8>]) {
+        let mut account = [0; 9];
+        for packet in packets {
+            let refusal = fast::receive(
+                black_box(&mut receiver.orders),
+                black_box(&mut receiver.symbols),
+                black_box(&mut receiver.shelf),
+                black_box(&mut receiver.index),
+                &mut receiver.state,
+                black_box(packet),
+                &mut account,
+            );
+            black_box((refusal, &account));
+        }
     }
 
     // -----------------------------------------------------------------------------------------
@@ -246,7 +347,7 @@ mod linked {
             ("read packets (a plain Rust loop)", &plain),
         ] {
             let (rattle, rust) = by_turns(1, REPETITIONS, || timed(&proved), || timed(rust));
-            print_row(name, records.len(), "records", rattle, rust);
+            print_row(name, records.len(), "record", rattle, rust);
         }
         Ok(())
     }
@@ -362,48 +463,188 @@ mod linked {
     }
 
     // -----------------------------------------------------------------------------------------
+    // Recordings in blocks
+    // -----------------------------------------------------------------------------------------
+
+    /// A recording of lines A and B in blocks, into a table of the sheet program's rows with an index, beside the
+    /// plain handler, which judges nothing.
+    fn feeding(megabytes: usize, live: usize, symbols: u64) -> Result<(), String> {
+        let mut bytes = Vec::new();
+        let count = two_lines(megabytes * 1_000_000, live, symbols, |block| {
+            bytes.extend_from_slice(block);
+            Ok(())
+        })
+        .map_err(told_error)?;
+        let mut proved = Fed::new()?;
+        let mut handler = Handler::default();
+        let (rattle, rust) = by_turns(
+            1,
+            REPETITIONS,
+            || {
+                proved.begin();
+                time(|| proved.feed(&bytes))
+            },
+            || {
+                handler = Handler::default();
+                time(|| handler_feeds(&mut handler, &bytes))
+            },
+        );
+        proved.agrees(&handler)?;
+        let speed = |time: Duration| bytes.len() as f64 / 1e6 / time.as_secs_f64();
+        let what = format!(
+            "feed, index, {megabytes} MB of lines A and B, {live} live orders, {symbols} symbols: {:.0} and {:.0} MB/s (plain handler)",
+            speed(rattle),
+            speed(rust)
+        );
+        print_row(&what, count, "record", rattle, rust);
+        Ok(())
+    }
+
+    /// A stream over the proved receiver.
+    struct Fed {
+        receiver: Proved,
+        stream: lent::Stream,
+        hold: [u8; LEAST_HOLD],
+        refused: bool,
+    }
+
+    impl Fed {
+        fn new() -> Result<Fed, String> {
+            let receiver = Proved::with_index(EDITION, SHEET_ROWS, MOST_ENTRIES);
+            Ok(Fed {
+                receiver: receiver.map_err(refused)?,
+                stream: [0; 14],
+                hold: [0; LEAST_HOLD],
+                refused: false,
+            })
+        }
+
+        /// A start clears the buffers and so touches them.
+        fn begin(&mut self) {
+            self.refused = self.receiver.start(EDITION).is_err();
+            lent::open(&self.receiver.state, &mut self.stream);
+        }
+
+        fn feed(&mut self, bytes: &[u8]) {
+            let receiver = &mut self.receiver;
+            for block in bytes.chunks(BLOCK) {
+                let number = lent::feed(
+                    black_box(&mut receiver.orders),
+                    black_box(&mut receiver.symbols),
+                    black_box(&mut receiver.shelf),
+                    black_box(&mut receiver.index),
+                    &mut self.hold,
+                    &mut self.stream,
+                    black_box(block),
+                );
+                self.refused |= number != 0;
+            }
+        }
+
+        /// The same symbols and the same ladders, and nothing was bad.
+        fn agrees(&self, handler: &Handler) -> Result<(), String> {
+            let [_, _, stop, _, held, _, bad, ..] = self.stream;
+            if self.refused || [stop, held, bad] != [0; 3] || lent::cut(&self.stream) {
+                return Err("the stream stopped, was cut or had bad packets".to_string());
+            }
+            let known = self.receiver.counts().map_err(refused)?.symbols;
+            let mut alike = known == handler.symbols().len() as u64;
+            for symbol in handler.symbols() {
+                for side in [Side::Buy, Side::Sell] {
+                    let mut run = vec![0; 3 * SHEET_ROWS];
+                    let levels = self.receiver.ladder(*symbol, side, &mut run);
+                    run.truncate(3 * levels.map_err(refused)? as usize);
+                    alike &= run == handler.ladder(*symbol, side == Side::Sell);
+                }
+            }
+            match alike {
+                true => Ok(()),
+                false => Err("the plain handler came to other ladders".to_string()),
+            }
+        }
+    }
+
+    fn handler_feeds(handler: &mut Handler, bytes: &[u8]) {
+        for block in bytes.chunks(BLOCK) {
+            handler.feed(black_box(block));
+        }
+        black_box(handler);
+    }
+
+    /// At least so many bytes of a recording of lines A and B, part by part. Answers how many records there are.
+    fn two_lines(
+        bytes: usize,
+        live: usize,
+        symbols: u64,
+        mut put: impl FnMut(&[u8]) -> std::io::Result<()>,
+    ) -> std::io::Result<usize> {
+        let mut traffic = Traffic::of_symbols(11, live, symbols);
+        let mut records = traffic.opening();
+        let (mut written, mut count) = (0, 0);
+        while written < bytes {
+            let part = recording(&on_two_lines(&in_packets(&records, RECORDS)));
+            count += 2 * records.len();
+            written += part.len();
+            put(&part)?;
+            records = (0..8_000)
+                .map(|_| match live {
+                    0 => traffic.bookless(),
+                    _ => traffic.message(),
+                })
+                .collect();
+        }
+        Ok(count)
+    }
+
+    // -----------------------------------------------------------------------------------------
     // The sheet programs
     // -----------------------------------------------------------------------------------------
 
-    /// Both sheet programs as they are run, over recordings of lines A and B.
+    /// The sheet programs and the plain handler as they are run, over recordings of lines A and B.
     fn sheets(megabytes: usize) -> Result<(), String> {
         let sheet = Path::new("target/bin/sheet");
         if !sheet.is_file() || std::env::consts::ARCH != "x86_64" {
             println!("\nThe sheet programs were left out: no target/bin/sheet that starts here.");
             return Ok(());
         }
-        let sheet2 = std::env::current_exe()
-            .map_err(told_error)?
-            .with_file_name("sheet2");
-        // The first beside the second shows what the search for orders costs.
-        for (what, live) in [
-            ("no message that looks for an order", 0),
-            ("1,000 live orders", 1_000),
+        // The first beside the others shows what the search for orders costs.
+        for (what, live, others) in [
+            ("no message that looks for an order", 0, &["sheet2"][..]),
+            ("100 live orders", 100, &["handler"]),
+            ("1,000 live orders", 1_000, &["handler", "sheet2"]),
         ] {
-            sheets_of(sheet, &sheet2, megabytes, what, live)?;
+            let file = Temporary::new();
+            let records = write_recording(&file.0, megabytes * 1_000_000, live);
+            let records = records.map_err(told_error)?;
+            let bytes = std::fs::metadata(&file.0).map_err(told_error)?.len();
+            for other in others {
+                let program = std::env::current_exe().map_err(told_error)?;
+                let program = program.with_file_name(other);
+                let (rattle, rust) = sheets_of(sheet, &program, &file.0)?;
+                let speed = |time: Duration| bytes as f64 / 1e6 / time.as_secs_f64();
+                let what = format!(
+                    "sheet program, {megabytes} MB, {what}: {:.0} and {:.0} MB/s ({other})",
+                    speed(rattle),
+                    speed(rust)
+                );
+                print_row(&what, records, "record", rattle, rust);
+            }
         }
         Ok(())
     }
 
-    fn sheets_of(
-        sheet: &Path,
-        sheet2: &Path,
-        megabytes: usize,
-        what: &str,
-        live: usize,
-    ) -> Result<(), String> {
-        let file = Temporary::new();
-        let records = write_recording(&file.0, megabytes * 1_000_000, live).map_err(told_error)?;
-        if output(sheet, &file.0)? != output(sheet2, &file.0)? {
-            return Err("the two sheets differ".to_string());
+    fn sheets_of(sheet: &Path, other: &Path, file: &Path) -> Result<(Duration, Duration), String> {
+        if output(sheet, file)? != output(other, file)? {
+            return Err(format!("the sheets of {} differ", other.display()));
         }
         // Both have read the file once by now.
-        let timed = |program: &Path| time(|| drop(black_box(output(program, &file.0))));
-        let (rattle, rust) = by_turns(0, PROGRAM_REPETITIONS, || timed(sheet), || timed(sheet2));
-        let speed = megabytes as f64 / rattle.as_secs_f64();
-        let what = format!("sheet program, {megabytes} MB, {what}: {speed:.0} MB/s");
-        print_row(&what, records, "records", rattle, rust);
-        Ok(())
+        let timed = |program: &Path| time(|| drop(black_box(output(program, file))));
+        Ok(by_turns(
+            0,
+            PROGRAM_REPETITIONS,
+            || timed(sheet),
+            || timed(other),
+        ))
     }
 
     fn told_error(error: std::io::Error) -> String {
@@ -426,39 +667,11 @@ mod linked {
         }
     }
 
-    /// Each packet twice, line B a few packets behind line A. Answers how many records there are.
     fn write_recording(path: &Path, bytes: usize, live: usize) -> std::io::Result<usize> {
         let mut file = BufWriter::new(File::create(path)?);
-        let mut traffic = Traffic::new(11, live);
-        let mut records = traffic.opening();
-        let (mut written, mut count) = (0, 0);
-        while written < bytes {
-            count += 2 * records.len();
-            let line_a = in_packets(&records, RECORDS);
-            for (place, packet) in line_a.iter().enumerate() {
-                written += put(&mut file, packet)?;
-                if let Some(late) = place.checked_sub(3) {
-                    written += put(&mut file, &line_a[late])?;
-                }
-            }
-            for packet in &line_a[line_a.len().saturating_sub(3)..] {
-                written += put(&mut file, packet)?;
-            }
-            records = (0..8_000)
-                .map(|_| match live {
-                    0 => traffic.bookless(),
-                    _ => traffic.message(),
-                })
-                .collect();
-        }
+        let count = two_lines(bytes, live, SYMBOLS, |part| file.write_all(part))?;
         file.flush()?;
         Ok(count)
-    }
-
-    fn put(file: &mut impl Write, packet: &[u8]) -> std::io::Result<usize> {
-        file.write_all(&(packet.len() as u16).to_le_bytes())?;
-        file.write_all(packet)?;
-        Ok(2 + packet.len())
     }
 
     /// What a program prints for a recording on its standard input.

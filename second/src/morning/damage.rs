@@ -6,6 +6,7 @@ use super::{
 };
 use crate::desk::Desk;
 use crate::edition::{Edition, BYTE_20, EDITIONS};
+use crate::index::*;
 use crate::packet::*;
 use crate::receiver::*;
 use crate::tables::*;
@@ -240,6 +241,76 @@ pub fn case(seed: u64, damage: u64) -> Case {
         _ => packet_near(edition, dice.bits(), &list, &desk.shelf, desk.state.next),
     };
     Case { desk, packet }
+}
+
+/// One thing in an index altered: a slot, a run of slots, a count, the number of used slots, a hint, or all. The
+/// orders and the symbols are those that packets will speak of.
+pub fn damage_index(
+    seed: u64,
+    index: &mut [u64],
+    rows: usize,
+    order_ids: &[u64],
+    symbol_ids: &[u32],
+) {
+    let mut dice = Dice::new(seed);
+    if index.len() != INDEX_NUMBERS {
+        return;
+    }
+    let order = dice.pick(order_ids);
+    let near = (first_slot(order) + dice.below(3) as usize) % ORDER_SLOTS;
+    let row = match dice.below(8) {
+        0 => dice.pick(&[15_999, 16_000, 65_535]),
+        1 => rows,
+        _ => dice.below(rows as u64) as usize,
+    };
+    let block = match dice.below(4) {
+        0 => dice.below(BLOCKS as u64) as usize,
+        _ => row / BLOCK_ROWS % BLOCKS,
+    };
+    match dice.below(20) {
+        // A slot of the order, or of another that has its tag, with any row.
+        0..=3 => index[near] = slot_of(order, row),
+        4 => index[near] = slot_of(dice.pick(order_ids), row),
+        // Emptied, which ends searches early; or a number at random.
+        5 => index[near] = 0,
+        6 => index[near] = dice.bits(),
+        // Slots copied to other places.
+        7 => {
+            let from = first_slot(dice.pick(order_ids));
+            index[near] = index[from];
+        }
+        8 => {
+            let (length, to) = (dice.between(1, 9) as usize, ORDER_SLOTS - 9);
+            let from = first_slot(order).min(to);
+            index.copy_within(from..from + length, near.min(to));
+        }
+        9 | 10 => index[COUNTS + block] = dice.pick(&[0, 0, 1, 2, 63, 64, 65, u64::MAX]),
+        11 => index[COUNTS..HINTS].fill(dice.pick(&[0, 1, 64, u64::MAX])),
+        12 => index[COUNTS..COUNTS + block].fill(0),
+        13 | 14 => index[USED] = altered_use(&mut dice),
+        15 | 16 => {
+            let symbol = dice.pick(symbol_ids);
+            index[hint_of(symbol)] = match dice.below(3) {
+                0 => dice.below(4),
+                1 => dice.pick(&[999, 1_000, 65_536, u64::MAX]),
+                _ => dice.bits(),
+            };
+        }
+        17 => {
+            let number = dice.pick(&[1, 65_535, u64::MAX, slot_of(order, row)]);
+            index[..ORDER_SLOTS].fill(number);
+        }
+        18 => index.fill(dice.pick(&[0, 1, u64::MAX])),
+        _ => index.fill_with(|| dice.bits() >> dice.below(64)),
+    }
+}
+
+/// Numbers of used slots around those that decide something, and any.
+fn altered_use(dice: &mut Dice) -> u64 {
+    match dice.below(8) {
+        0 => dice.bits(),
+        _ => dice.pick(&[0, 24_575, 24_575, 24_576, 24_576, 32_767, 32_768, u64::MAX]),
+    }
 }
 
 /// A packet of numbers near next, good in an edition: what the list or the shelf has for them, or anything.

@@ -5,7 +5,7 @@ use super::faults::bad_packet;
 use super::{list, messages::*, Dice, ListSettings};
 use crate::edition::{Edition, BYTE_20};
 use crate::packet::*;
-use crate::tables::{MOST_ENTRIES, MOST_ROWS};
+use crate::tables::{MOST_ENTRIES, SHEET_ROWS};
 
 #[derive(Clone, Copy, Debug)]
 pub struct DeliverySettings {
@@ -217,7 +217,7 @@ pub fn drawn_recording(edition: Edition, seed: u64) -> Vec<u8> {
     let mut settings = ListSettings {
         edition,
         messages: dice.between(1, 600) as usize,
-        rows: MOST_ROWS,
+        rows: SHEET_ROWS,
         entries: MOST_ENTRIES,
         symbols: dice.between(1, 12) as usize,
         orders: dice.between(5, 300) as usize,

@@ -79,7 +79,7 @@ impl ListSettings {
     pub fn filling(ending: u8) -> ListSettings {
         ListSettings {
             messages: 2_650,
-            rows: MOST_ROWS,
+            rows: SHEET_ROWS,
             entries: MOST_ENTRIES,
             symbols: 1_005,
             orders: 10_000,

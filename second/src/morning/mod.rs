@@ -5,6 +5,7 @@
 //! lists of well-formed messages, `delivery` their packets, `faults` bad packets, and `damage` alters
 //! tables, shelves and states.
 
+mod collisions;
 mod damage;
 mod delivery;
 mod dice;
@@ -12,6 +13,7 @@ mod faults;
 mod lists;
 mod messages;
 
+pub use collisions::*;
 pub use damage::*;
 pub use delivery::*;
 pub use dice::Dice;

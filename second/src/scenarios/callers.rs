@@ -3,6 +3,7 @@
 use super::{edition_number, give, Outcome};
 use crate::desk::Desk;
 use crate::edition::BYTE_20;
+use crate::index::{INDEX_NUMBERS, MOST_USED, USED};
 use crate::morning::*;
 use crate::packet::*;
 use crate::receiver::*;
@@ -28,7 +29,7 @@ pub(super) fn altered(dice: &mut Dice, twins: &mut Twins) -> Outcome {
         let packet = match dice.below(10) {
             0 => bad_packet(edition, dice.bits(), &list, dice.between(1, 5) as u8),
             1..=4 => {
-                let (shelf, next) = (&twins.second.shelf, twins.second.state.next);
+                let (shelf, next) = (&twins.second().shelf, twins.second().state.next);
                 packet_near(edition, dice.bits(), &list, shelf, next)
             }
             _ => match packets.next() {
@@ -41,11 +42,15 @@ pub(super) fn altered(dice: &mut Dice, twins: &mut Twins) -> Outcome {
     Ok(())
 }
 
-/// Something altered: a table, the shelf, the state, its edition's number, or bytes and numbers at random.
+/// Something altered: a table, the shelf, the state, its edition's number, or bytes and numbers at random. Or the
+/// number of used slots, so that the next Add has the index built anew over what was altered.
 pub(super) fn damage(dice: &mut Dice, twins: &mut Twins) {
-    let (choice, seed) = (dice.below(9), dice.bits());
+    let (choice, seed) = (dice.below(10), dice.bits());
     if choice == 8 {
         return twins.set_edition_number(edition_number(dice));
+    }
+    if choice == 9 {
+        return build_at_the_next_add(twins);
     }
     twins.alter(|desk| match choice {
         0 | 1 => damage_orders(seed, &mut desk.orders),
@@ -59,6 +64,14 @@ pub(super) fn damage(dice: &mut Dice, twins: &mut Twins) {
             desk.state.next,
         ),
         _ => damage_shelf(desk.state.edition, seed, &mut desk.shelf, desk.state.next),
+    });
+}
+
+pub(super) fn build_at_the_next_add(twins: &mut Twins) {
+    twins.alter_index(|index| {
+        if let Some(used) = index.get_mut(USED) {
+            *used = MOST_USED;
+        }
     });
 }
 
@@ -92,7 +105,7 @@ pub(super) fn edges(dice: &mut Dice, twins: &mut Twins) -> Outcome {
         if dice.chance(400) {
             to_an_edge(dice, twins);
         }
-        let next = twins.second.state.next;
+        let next = twins.second().state.next;
         for _ in 0..dice.below(4) {
             let number = next.wrapping_add(dice.below(5)).wrapping_sub(1);
             let body = good_body(edition, dice);
@@ -100,7 +113,7 @@ pub(super) fn edges(dice: &mut Dice, twins: &mut Twins) -> Outcome {
                 slot_mut(&mut desk.shelf, number).copy_from_slice(&filled_slot(number, &body))
             });
         }
-        let packet = packet_near(edition, dice.bits(), &list, &twins.second.shelf, next);
+        let packet = packet_near(edition, dice.bits(), &list, &twins.second().shelf, next);
         if dice.chance(200) {
             // Behind a next number that the first packet drove too far, the second one is bad.
             twins.open(LEAST_HOLD)?;
@@ -153,7 +166,7 @@ pub(super) fn sizes(dice: &mut Dice, twins: &mut Twins) -> Outcome {
     for _ in 0..dice.between(5, 25) {
         let orders = match dice.below(3) {
             0 => dice.below(12),
-            1 => dice.pick(&[7_995, 7_999, 8_000, 8_001, 8_004, 8_005, 16_000]),
+            1 => dice.pick(&[7_999, 8_005, 79_995, 79_999, 80_000, 80_001, 80_004, 80_005]),
             _ => 15,
         };
         let symbols = match dice.below(3) {
@@ -172,9 +185,30 @@ pub(super) fn sizes(dice: &mut Dice, twins: &mut Twins) -> Outcome {
             symbols as usize,
             shelf as usize,
         );
+        if dice.chance(400) {
+            resize_index(dice, twins);
+        }
         calls_of_any_size(dice, twins, &list)?;
     }
     Ok(())
+}
+
+/// Lengths of the index (request 9): none and 49,403 are good, and any other is 6.
+fn resize_index(dice: &mut Dice, twins: &mut Twins) {
+    let any = dice.below(60_000) as usize;
+    let length = dice.pick(&[
+        0,
+        1,
+        32_768,
+        33_019,
+        INDEX_NUMBERS - 1,
+        INDEX_NUMBERS,
+        INDEX_NUMBERS,
+        INDEX_NUMBERS + 1,
+        2 * INDEX_NUMBERS,
+        any,
+    ]);
+    twins.alter_index(|index| index.resize(length, any as u64));
 }
 
 /// Tables cut off or grown, what is new with a few numbers in it.
@@ -197,14 +231,21 @@ fn calls_of_any_size(dice: &mut Dice, twins: &mut Twins, list: &[Vec<u8>]) -> Ou
         let packet = match dice.below(3) {
             0 => bad_packet(twins.edition(), dice.bits(), list, dice.between(1, 5) as u8),
             _ => {
-                let next = twins.second.state.next.min(list.len() as u64).max(1);
+                let next = twins.second().state.next.min(list.len() as u64).max(1);
                 packet(&numbered(list, next as usize, dice.between(1, 5) as usize))
             }
         };
         let _ = twins.receive(&packet)?;
     }
+    if dice.chance(300) {
+        twins.open(LEAST_HOLD)?;
+        twins.feed(&recording(&[record(
+            twins.second().state.next,
+            &system_time(1),
+        )]))?;
+    }
     twins.views(dice)?;
-    if twins.second.symbols.len() < 1_000 || dice.chance(20) {
+    if twins.second().symbols.len() < 1_000 || dice.chance(20) {
         twins.sheet(dice)?;
     }
     if dice.chance(500) {
@@ -229,7 +270,7 @@ pub(super) fn spoiled(dice: &mut Dice, twins: &mut Twins) -> Outcome {
         let seed = dice.bits();
         twins.alter(|desk| spoil_tables(seed, desk, told));
         let body = body_telling(twins.edition(), dice, kind, told);
-        twins.receive_over_spoiled(kind, &record(twins.second.state.next, &body))?;
+        twins.receive_over_spoiled(kind, &record(twins.second().state.next, &body))?;
         twins.views(dice)?;
     }
     Ok(())
@@ -308,7 +349,7 @@ pub(super) fn largest(dice: &mut Dice, twins: &mut Twins) -> Outcome {
             1 => order_execution(0, symbol, order, 1, price, u32::MAX, 0),
             _ => order_execution(0, symbol, order, 1, price, u32::MAX - 1, 0),
         };
-        let packet = record(twins.second.state.next, &body);
+        let packet = record(twins.second().state.next, &body);
         give(dice, twins, &packet)?;
         whole_view(dice, twins, symbol)?;
     }

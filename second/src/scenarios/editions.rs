@@ -75,7 +75,7 @@ fn every_byte_20(dice: &mut Dice, twins: &mut Twins) -> Outcome {
     for _ in 0..16 {
         let (byte, others) = (some_byte_20(dice), dice.below(8));
         let (body, told) = beside_others(dice, number, byte, others);
-        let next = twins.second.state.next;
+        let next = twins.second().state.next;
         let wanted = match told {
             None => Ok((next + 1, 0)),
             Some(refusal) => Err(refusal.behind(10)),
@@ -119,7 +119,7 @@ fn changed_between_packets(dice: &mut Dice, twins: &mut Twins) -> Outcome {
         // One time in four with a bad test indicator, which every edition refuses.
         let (byte, others) = (some_byte_20(dice), dice.pick(&[0, 0, 0, 2]));
         let (body, told) = beside_others(dice, number, byte, others);
-        let next = twins.second.state.next;
+        let next = twins.second().state.next;
         // Behind a System Time, whose record has 15 bytes, or before it.
         let mut records = vec![(next, body), (next + 1, system_time(9))];
         let mut start = 0;
@@ -132,7 +132,7 @@ fn changed_between_packets(dice: &mut Dice, twins: &mut Twins) -> Outcome {
             Some(refusal) => (Err(refusal.behind(start + 10)), number),
         };
         comes_to(twins, &packet(&records), wanted)?;
-        keeps(twins.proved.state[3], kept)?;
+        keeps(twins.scanning.proved.state[3], kept)?;
     }
     Ok(())
 }
@@ -228,9 +228,9 @@ fn some_updates(
             true => told.1 += 1,
             false => (told.0, told.2) = (told.0 + 1, (4, 30)),
         }
-        let stream = twins.stream;
+        let stream = *twins.stream();
         let last = (stream.last_number, stream.last_offset);
-        if (stream.bad, twins.second.state.next, last) != *told {
+        if (stream.bad, twins.second().state.next, last) != *told {
             return Err(format!("both: {stream:?}, and {told:?} is told"));
         }
     }
@@ -240,11 +240,11 @@ fn some_updates(
 /// The caller puts this number into a stream whose next number is bad: a piece is refused by 6 and leaves both, the
 /// next number until the caller puts it right.
 fn refused_piece(twins: &mut Twins, number: u64) -> Outcome {
-    let next = twins.second.state.next;
+    let next = twins.second().state.next;
     twins.alter(|desk| desk.state.next = 0);
     twins.set_edition_number(number);
     twins.feed(&[1])?;
-    keeps(twins.proved.state[3], number)?;
+    keeps(twins.scanning.proved.state[3], number)?;
     twins.alter(|desk| desk.state.next = next);
     twins.set_edition_number(number);
     Ok(())
@@ -267,11 +267,11 @@ fn on_sheets(dice: &mut Dice, twins: &mut Twins) -> Outcome {
     for number in [1, 0, other_number(dice)] {
         twins.set_edition_number(number);
         twins.sheet(dice)?;
-        texts.push(sheet_lines(&twins.second)?);
+        texts.push(sheet_lines(twins.second())?);
     }
     let mut types = Vec::new();
     for entry in twins
-        .second
+        .second()
         .symbols
         .chunks(42)
         .filter(|entry| entry[0] == 1)
@@ -335,7 +335,7 @@ fn anothers_recording(dice: &mut Dice, twins: &mut Twins) -> Outcome {
             return Err(format!("both: {answer:?}, and {wanted:?} is told"));
         }
     }
-    let came = &twins.second;
+    let came = twins.second();
     let same =
         (&came.orders, &came.symbols, &came.shelf) == (&own.orders, &own.symbols, &own.shelf);
     if !refused && !same {

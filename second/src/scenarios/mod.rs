@@ -3,6 +3,7 @@
 
 mod callers;
 mod editions;
+mod indexes;
 mod mornings;
 mod offsets;
 mod packets;
@@ -31,7 +32,7 @@ const fn scenario(
     Scenario { name, weight, run }
 }
 
-pub const SCENARIOS: [Scenario; 20] = [
+pub const SCENARIOS: [Scenario; 25] = [
     scenario("morning", 60, mornings::morning),
     scenario("rules", 60, mornings::rules),
     scenario("small-tables", 50, mornings::small_tables),
@@ -52,6 +53,11 @@ pub const SCENARIOS: [Scenario; 20] = [
     scenario("editions", 30, editions::editions),
     scenario("pieces", 40, pieces::pieces),
     scenario("long-pieces", 1, pieces::long_pieces),
+    scenario("altered-index", 80, indexes::altered_index),
+    scenario("colliding-ids", 40, indexes::colliding_ids),
+    scenario("sharing-hints", 20, indexes::sharing_hints),
+    scenario("built-anew", 1, indexes::built_anew),
+    scenario("16,000-orders", 1, indexes::sixteen_thousand),
 ];
 
 /// What came of a seed.
@@ -70,6 +76,7 @@ pub fn run(seed: u64) -> Ran {
     let difference = (scenario.run)(&mut dice, &mut twins)
         .and_then(|()| twins.views(&mut dice))
         .and_then(|()| twins.sheet(&mut dice))
+        .and_then(|()| twins.end())
         .err();
     Ran {
         name: scenario.name,
@@ -116,7 +123,7 @@ fn other_number(dice: &mut Dice) -> u64 {
 fn give(dice: &mut Dice, twins: &mut Twins, packet: &[u8]) -> Outcome {
     let _ = twins.receive(packet)?;
     // Large tables make long sheets: fewer of them.
-    let small = twins.second.orders.len() <= 500;
+    let small = twins.second().orders.len() <= 500;
     if dice.chance(if small { 250 } else { 30 }) {
         twins.views(dice)?;
     }

@@ -47,7 +47,7 @@ pub(super) fn rules(dice: &mut Dice, twins: &mut Twins) -> Outcome {
         }
         give_all(dice, twins, &packed(&records))?;
         for _ in 0..4 {
-            let held = slot_number(slot(&twins.second.shelf, twins.second.state.next));
+            let held = slot_number(slot(&twins.second().shelf, twins.second().state.next));
             if held == 0 {
                 break;
             }
@@ -107,7 +107,7 @@ pub(super) fn full_tables(dice: &mut Dice, twins: &mut Twins) -> Outcome {
     let edition = twins.edition();
     let settings = ListSettings {
         edition,
-        rows: MOST_ROWS,
+        rows: SHEET_ROWS,
         entries: MOST_ENTRIES,
         symbols: 20,
         orders: 3_000,
@@ -221,7 +221,7 @@ pub(super) fn returning_ids(dice: &mut Dice, twins: &mut Twins) -> Outcome {
 }
 
 /// An Add of an ID that is not live, else something that most often makes it leave.
-fn come_or_go(dice: &mut Dice, maker: &ListMaker, order: u64) -> Vec<u8> {
+pub(super) fn come_or_go(dice: &mut Dice, maker: &ListMaker, order: u64) -> Vec<u8> {
     let nanoseconds = maker.list.len() as u32;
     let price = 10_000_000 + dice.below(3) * 10_000;
     let Some(place) = live_row(&maker.orders, order) else {
@@ -253,8 +253,8 @@ pub(super) fn window(dice: &mut Dice, twins: &mut Twins) -> Outcome {
     twins.restart(settings.rows, settings.entries)?;
     for _ in 0..dice.between(5, 40) {
         let packet = match dice.below(6) {
-            0 => times(dice, twins.second.state.next),
-            _ => at_the_ends(edition, dice, &list, twins.second.state.next),
+            0 => times(dice, twins.second().state.next),
+            _ => at_the_ends(edition, dice, &list, twins.second().state.next),
         };
         give(dice, twins, &packet)?;
     }

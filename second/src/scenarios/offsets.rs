@@ -193,7 +193,7 @@ fn six_inside_a_piece(twins: &mut Twins) -> Outcome {
 }
 
 fn tells(twins: &Twins, told: (u8, u64)) -> Outcome {
-    let last = (twins.stream.last_number, twins.stream.last_offset);
+    let last = (twins.stream().last_number, twins.stream().last_offset);
     if last == told {
         return Ok(());
     }

@@ -66,7 +66,7 @@ pub(super) fn garbage(dice: &mut Dice, twins: &mut Twins) -> Outcome {
             0 => packet.resize_with(length as usize, || dice.bits() as u8),
             1 => packet.resize(length as usize, dice.bits() as u8),
             _ => {
-                let next = twins.second.state.next;
+                let next = twins.second().state.next;
                 while (packet.len() as u64) < length {
                     packet.extend(garbled_record(dice, next));
                 }

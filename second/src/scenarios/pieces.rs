@@ -4,7 +4,7 @@ use super::{edition_number, give, Outcome};
 use crate::morning::*;
 use crate::packet::LAST_NUMBER;
 use crate::stream::LEAST_HOLD;
-use crate::tables::{MOST_ENTRIES, MOST_ROWS};
+use crate::tables::{MOST_ENTRIES, SHEET_ROWS};
 use crate::traffic::{in_packets, Traffic};
 use crate::twins::Twins;
 
@@ -45,7 +45,7 @@ pub(super) fn pieces(dice: &mut Dice, twins: &mut Twins) -> Outcome {
 
 /// A busy hour of thousands of messages, each packet twice, at full capacities.
 pub(super) fn long_pieces(dice: &mut Dice, twins: &mut Twins) -> Outcome {
-    let mut traffic = Traffic::new(dice.bits(), dice.pick(&[20, 200, MOST_ROWS]));
+    let mut traffic = Traffic::new(dice.bits(), dice.pick(&[20, 200, SHEET_ROWS]));
     let mut records = traffic.opening();
     for _ in 0..dice.between(5_000, 15_000) {
         records.push(traffic.message());
@@ -57,7 +57,7 @@ pub(super) fn long_pieces(dice: &mut Dice, twins: &mut Twins) -> Outcome {
     for packet in in_packets(&records, 12) {
         bytes.extend(recording(&[packet.clone(), packet]));
     }
-    twins.restart(MOST_ROWS, MOST_ENTRIES)?;
+    twins.restart(SHEET_ROWS, MOST_ENTRIES)?;
     twins.open(LEAST_HOLD)?;
     for chunk in cut(dice, &bytes) {
         twins.feed(chunk)?;
@@ -81,21 +81,28 @@ pub(super) fn cut<'a>(dice: &mut Dice, bytes: &'a [u8]) -> Vec<&'a [u8]> {
 
 /// A piece refused by 6 for one thing that the caller altered, and then puts right again.
 fn refused_piece(dice: &mut Dice, twins: &mut Twins, chunk: &[u8]) -> Outcome {
-    let (desk, stream, hold) = (twins.second.clone(), twins.stream, twins.hold.clone());
-    let (choice, less) = (dice.below(6), 1 + dice.below(9) as usize);
+    let (desk, stream, hold) = (
+        twins.second().clone(),
+        *twins.stream(),
+        twins.scanning.hold.clone(),
+    );
+    let index = twins.indexed.second.index.clone();
+    let (choice, less) = (dice.below(7), 1 + dice.below(9) as usize);
     let next = dice.pick(&[0, LAST_NUMBER + 2, u64::MAX]);
     match choice {
         0 => twins.alter_stream(|_, hold| hold.truncate(LEAST_HOLD - less)),
         1 => twins.alter_stream(|stream, hold| stream.held = (hold.len() + less) as u64),
+        2 => twins.alter_index(|index| index.truncate(index.len() - less)),
         _ => twins.alter(|desk| match choice {
-            2 => desk.orders.clear(),
-            3 => desk.symbols.truncate(desk.symbols.len() - less),
-            4 => desk.shelf.truncate(desk.shelf.len() - less),
+            3 => desk.orders.clear(),
+            4 => desk.symbols.truncate(desk.symbols.len() - less),
+            5 => desk.shelf.truncate(desk.shelf.len() - less),
             _ => desk.state.next = next,
         }),
     }
     twins.feed(chunk)?;
     twins.alter(|altered| *altered = desk);
+    twins.alter_index(|altered| *altered = index);
     twins.alter_stream(|altered, memory| {
         *altered = stream;
         *memory = hold;
@@ -111,7 +118,7 @@ fn alter_stream(dice: &mut Dice, twins: &mut Twins) {
     }
     let (choice, few) = (dice.below(5), dice.below(4));
     let (byte, to_pass) = (dice.bits() as u8, dice.below(3_000));
-    let held = dice.below(twins.hold.len() as u64 + 1);
+    let held = dice.below(twins.scanning.hold.len() as u64 + 1);
     let offset = dice.bits() >> dice.below(64);
     twins.alter_stream(|stream, hold| match choice {
         0 => stream.held = held,

@@ -41,6 +41,48 @@ impl Receiver for Desk {
     }
 }
 
+/// The same receiver with an index (request 9: "Both give the same answers and the same tables on every run from a
+/// start that leaves tables and index to them").
+#[derive(Clone, Debug, PartialEq)]
+pub struct Indexed<R>(pub R);
+
+impl Receiver for Indexed<Desk> {
+    fn started(edition: Edition, rows: usize, entries: usize) -> Self {
+        Indexed(Desk::with_index(edition, rows, entries))
+    }
+
+    fn hear(&mut self, packet: &[u8]) -> Result<Answer, Refusal> {
+        self.0.hear(packet)
+    }
+
+    fn state(&self) -> State {
+        self.0.state()
+    }
+
+    fn three(&self) -> Three {
+        self.0.three()
+    }
+}
+
+#[cfg(linked)]
+impl Receiver for Indexed<Proved> {
+    fn started(edition: Edition, rows: usize, entries: usize) -> Self {
+        Indexed(Proved::with_index(edition, rows, entries).expect("capacities in the limits"))
+    }
+
+    fn hear(&mut self, packet: &[u8]) -> Result<Answer, Refusal> {
+        self.0.hear(packet)
+    }
+
+    fn state(&self) -> State {
+        self.0.state()
+    }
+
+    fn three(&self) -> Three {
+        self.0.three()
+    }
+}
+
 #[cfg(linked)]
 impl Receiver for Proved {
     fn started(edition: Edition, rows: usize, entries: usize) -> Proved {
