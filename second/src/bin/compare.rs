@@ -42,6 +42,9 @@ mod linked {
     /// A run of so many packets must have tried everything: each scenario as often as its weight says
     /// for each hundred thousand packets, and all else so often for each of them.
     const LONG_RUN: u64 = 100_000;
+    /// A scenario of weight 1 comes up about three times in a long run, and in one of twenty not at all: it is asked
+    /// for over so many of them.
+    const ROUND: u64 = 5;
     const LEAST_SEEN: u64 = 10;
 
     const USAGE: &str = "compare SEED COUNT | compare one SEED | compare forever [SECONDS]";
@@ -161,9 +164,10 @@ mod linked {
         /// What a long run tried too seldom: what, how often, and the least.
         fn seldom(&self) -> Vec<(String, u64, u64)> {
             let long = self.tally.packets / LONG_RUN;
+            let rounds = self.tally.packets / (ROUND * LONG_RUN) * ROUND;
             let mut tried = Vec::new();
             for (scenario, count) in SCENARIOS.iter().zip(self.scenarios) {
-                tried.push((scenario.name.to_string(), count, scenario.weight * long));
+                tried.push((scenario.name.to_string(), count, scenario.weight * rounds));
             }
             for (what, count) in self.tally.seen() {
                 tried.push((what, count, LEAST_SEEN * long));
