@@ -17,6 +17,8 @@ pub type Three = (Vec<u64>, Vec<u8>, u64);
 pub trait Receiver: Clone + Debug + PartialEq {
     /// Started in an edition, with these capacities.
     fn started(edition: Edition, rows: usize, entries: usize) -> Self;
+    /// The same with an index.
+    fn with_an_index(edition: Edition, rows: usize, entries: usize) -> Self;
     /// A packet's answer, or its refusal.
     fn hear(&mut self, packet: &[u8]) -> Result<Answer, Refusal>;
     fn state(&self) -> State;
@@ -26,6 +28,10 @@ pub trait Receiver: Clone + Debug + PartialEq {
 impl Receiver for Desk {
     fn started(edition: Edition, rows: usize, entries: usize) -> Desk {
         Desk::new(edition, rows, entries)
+    }
+
+    fn with_an_index(edition: Edition, rows: usize, entries: usize) -> Desk {
+        Desk::with_index(edition, rows, entries)
     }
 
     fn hear(&mut self, packet: &[u8]) -> Result<Answer, Refusal> {
@@ -46,28 +52,13 @@ impl Receiver for Desk {
 #[derive(Clone, Debug, PartialEq)]
 pub struct Indexed<R>(pub R);
 
-impl Receiver for Indexed<Desk> {
+impl<R: Receiver> Receiver for Indexed<R> {
     fn started(edition: Edition, rows: usize, entries: usize) -> Self {
-        Indexed(Desk::with_index(edition, rows, entries))
+        Indexed(R::with_an_index(edition, rows, entries))
     }
 
-    fn hear(&mut self, packet: &[u8]) -> Result<Answer, Refusal> {
-        self.0.hear(packet)
-    }
-
-    fn state(&self) -> State {
-        self.0.state()
-    }
-
-    fn three(&self) -> Three {
-        self.0.three()
-    }
-}
-
-#[cfg(linked)]
-impl Receiver for Indexed<Proved> {
-    fn started(edition: Edition, rows: usize, entries: usize) -> Self {
-        Indexed(Proved::with_index(edition, rows, entries).expect("capacities in the limits"))
+    fn with_an_index(edition: Edition, rows: usize, entries: usize) -> Self {
+        Self::started(edition, rows, entries)
     }
 
     fn hear(&mut self, packet: &[u8]) -> Result<Answer, Refusal> {
@@ -87,6 +78,10 @@ impl Receiver for Indexed<Proved> {
 impl Receiver for Proved {
     fn started(edition: Edition, rows: usize, entries: usize) -> Proved {
         Proved::new(edition, rows, entries).expect("capacities in the limits")
+    }
+
+    fn with_an_index(edition: Edition, rows: usize, entries: usize) -> Proved {
+        Proved::with_index(edition, rows, entries).expect("capacities in the limits")
     }
 
     fn hear(&mut self, packet: &[u8]) -> Result<Answer, Refusal> {
