@@ -258,9 +258,29 @@ mod linked {
     }
 
     fn proved_receives(receiver: &mut Proved, packets: &[Vec<u8>]) {
+        each_lent(receiver, packets, lent::receive);
+    }
+
+    fn fast_receives(receiver: &mut Proved, packets: &[Vec<u8>]) {
+        each_lent(receiver, packets, fast::receive);
+    }
+
+    /// Each packet by one call of the boundary's form.
+    fn each_lent<F>(receiver: &mut Proved, packets: &[Vec<u8>], receive: F)
+    where
+        F: Fn(
+            &mut [u64],
+            &mut [u8],
+            &mut [u8],
+            &mut [u64],
+            &mut [u64; 4],
+            &[u8],
+            &mut [u64; 9],
+        ) -> u32,
+    {
         let mut account = [0; 9];
         for packet in packets {
-            let refusal = lent::receive(
+            let refusal = receive(
                 black_box(&mut receiver.orders),
                 black_box(&mut receiver.symbols),
                 black_box(&mut receiver.shelf),
@@ -297,22 +317,6 @@ mod linked {
         }
         let (stop, edition) = (state.stop.into(), state.edition.number());
         receiver.state = [state.next, state.second, stop, edition];
-    }
-
-    fn fast_receives(receiver: &mut Proved, packets: &[Vec<u8>]) {
-        let mut account = [0; 9];
-        for packet in packets {
-            let refusal = fast::receive(
-                black_box(&mut receiver.orders),
-                black_box(&mut receiver.symbols),
-                black_box(&mut receiver.shelf),
-                black_box(&mut receiver.index),
-                &mut receiver.state,
-                black_box(packet),
-                &mut account,
-            );
-            black_box((refusal, &account));
-        }
     }
 
     // -----------------------------------------------------------------------------------------
