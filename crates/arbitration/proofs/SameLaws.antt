@@ -23,11 +23,11 @@ pub data TryAlike {A B : Type 0} (R : A → B → Type 0) : Try A → Try B → 
   both-stuck : (q : ℕ) → TryAlike R (stuck q) (stuck q)
   both-go : {a : A} {b : B} → R a b → TryAlike R (goes a) (goes b)
 
-alike-try : {A B : Type 0} {R : A → B → Type 0} {x : Applied A} {y : Applied B} → Alike R x y → TryAlike R (ofApplied x) (ofApplied y)
+pub alike-try : {A B : Type 0} {R : A → B → Type 0} {x : Applied A} {y : Applied B} → Alike R x y → TryAlike R (ofApplied x) (ofApplied y)
 alike-try (both-ok h) = both-go h
 alike-try (both-broke q) = both-stuck q
 
-pick-alike : {A B : Type 0} {R : A → B → Type 0} (t : Bool) {x x′ : Try A} {y y′ : Try B} → (t ≡ true → TryAlike R x y) → (t ≡ false → TryAlike R x′ y′) → TryAlike R (pick t x x′) (pick t y y′)
+pub pick-alike : {A B : Type 0} {R : A → B → Type 0} (t : Bool) {x x′ : Try A} {y y′ : Try B} → (t ≡ true → TryAlike R x y) → (t ≡ false → TryAlike R x′ y′) → TryAlike R (pick t x x′) (pick t y y′)
 unfolding pick
 pick-alike true h g = h refl
 pick-alike false h g = g refl

@@ -14,7 +14,7 @@ use Rattle.arbitration.specs.Loops.{counted, total, Working, working, wo
 use Rattle.arbitration.specs.declared.Counts.{Counts}
 use Rattle.arbitration.proofs.Answers.{after-of}
 
-abbrev plus : Counts → Counts → Counts
+abbrev pub plus : Counts → Counts → Counts
 plus a b = record { taken = a .taken + b .taken; old = a .old + b .old; far = a .far + b .far; repeated = a .repeated + b .repeated; differing = a .differing + b .differing }
 
 counts-eq : (a b : Counts) → a .taken ≡ b .taken → a .old ≡ b .old → a .far ≡ b .far → a .repeated ≡ b .repeated → a .differing ≡ b .differing → a ≡ b
@@ -39,6 +39,10 @@ total-more differing n l = omega arith
 
 none-plus : (t : Counts) → plus noCounts t ≡ t
 none-plus t = counts-eq _ _ (omega arith) (omega arith) (omega arith) (omega arith) (omega arith)
+
+-- one record more adds one to the count of its answer
+pub counts-added : (a : Answer) (n : ℕ) (l : List Said) → plus (counted a noCounts) (countsOf l) ≡ countsOf (record { number = n; answer = a } ∷ l)
+counts-added a n l = counts-more a n noCounts l ∙ none-plus (countsOf (record { number = n; answer = a } ∷ l))
 
 plus-none : (t : Counts) → t ≡ plus t (countsOf [])
 unfolding countsOf count countBy sumBy

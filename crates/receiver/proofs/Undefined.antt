@@ -26,14 +26,14 @@ use Rattle.arbitration.specs.Slots.{slotFor}
 use Rattle.arbitration.specs.Receive.{taken, old, differing, accepted, slotOf, judged, after, run, stop}
 use Rattle.arbitration.specs.Receive as theory
 use Rattle.arbitration.specs.Lists.{Every, Numbered, Bounded}
-use Rattle.arbitration.specs.Meaning.{Means, Faithful}
+use Rattle.arbitration.specs.Meaning.{Means, SameBook, Faithful}
 use Rattle.arbitration.proofs.Answers.{shows, after-next, run-next}
 use Rattle.arbitration.proofs.Range.{bounded-fits}
 use Rattle.arbitration.proofs.Settled.{Fitting}
 use Rattle.arbitration.proofs.Halves.{Made, Named, Ready, agree, start-ready}
 use Rattle.arbitration.proofs.Packets.{every-map, every-accepted}
 use Rattle.arbitration.proofs.OnShelf.{AsItCame, copy-old, copy-differs, taken-as-it-came, stays-as-it-came}
-use Rattle.arbitration.proofs.MeaningLaws.{faithful-first, faithful-second}
+use Rattle.arbitration.proofs.MeaningLaws.{means-same, faithful-first, faithful-second}
 use Rattle.shelf.specs.Store.{shelfStore}
 use Rattle.receiver.specs.Demand3.{MadeBy, Names, AnsweredTo}
 use Rattle.receiver.specs.Receiver.{Keeps, receivesAll}
@@ -48,13 +48,11 @@ abbrev PlainRx : Type 0
 PlainRx = theory.Rx (List ℕ) Book
 
 -- ---- "They are ignored from now on"
-pub bits-mean : (ed : Edition) (b c : List ℕ) → ButForBits ed b c → Means (bookEngine ed) b c
-bits-mean ed b c (inl e) = record { as-good = ap (goodBody ed) (sym e); as-applied = λ n k. ap (λ (x : List ℕ). bookEngine ed .apply n x k) (sym e) }
+pub bits-mean : (ed : Edition) (b c : List ℕ) → ButForBits ed b c → Means (bookEngine ed) (bookEngine ed) (SameBook (bookEngine ed)) b c
+bits-mean ed b c (inl e) = means-same (bookEngine ed) b c (ap (goodBody ed) (sym e)) (λ n k. ap (λ (x : List ℕ). bookEngine ed .apply n x k) (sym e))
 bits-mean ed b c (inr o) =
-    record {
-      as-good = let g = bits-good ed b c o in g .1 ∙ sym (g .0);
-      as-applied = λ n k. ap (λ (x : Effect). pick (eqb (x .rule) 0) (ok (x .after)) (broke (x .rule))) (bits-applied ed n b c k o);
-    }
+    let g = bits-good ed b c o in
+    means-same (bookEngine ed) b c (g .1 ∙ sym (g .0)) (λ n k. ap (λ (x : Effect). pick (eqb (x .rule) 0) (ok (x .after)) (broke (x .rule))) (bits-applied ed n b c k o))
 
 all-faithful : (ed : Edition) (ms : List (List ℕ)) (cs : List Rec) → Every (BitCopy ed ms) cs → Every (Faithful (bookEngine ed) ms) cs
 all-faithful ed ms cs h = every-map (BitCopy ed ms) (Faithful (bookEngine ed) ms) (λ c x. record { in-list = x .in-list; means = bits-mean ed _ _ (x .same) }) cs h
