@@ -7,6 +7,7 @@ pub mod Fits
 pub mod Demand
 pub mod Editions
 pub mod Real
+pub mod Calls
 pub mod Along
 pub mod Engines
 pub mod Runs

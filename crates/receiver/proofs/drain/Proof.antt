@@ -40,19 +40,19 @@ turn-requires c κs = search needs
 
 -- src/lib.rt:156:13
 same-length : tie.Need-same-length Inv-loop μ-loop
-same-length c = search needs
+same-length c = c .before .before .before .before .before .before .before .before .before .before .before .turn .kept .1 .0 ∙ c .before .before .before .before .before .before .before .before .before .before .before .before .before .before .before .before .before .loop .inv .0
 
 -- src/lib.rt:156:13
 same-length-2 : tie.Need-same-length-2 Inv-loop μ-loop
-same-length-2 c = search needs
+same-length-2 c = c .before .before .before .before .before .before .before .before .before .before .before .turn .kept .1 .1 .0 ∙ c .before .before .before .before .before .before .before .before .before .before .before .before .before .before .before .before .before .loop .inv .1
 
 -- src/lib.rt:156:13
 same-length-3 : tie.Need-same-length-3 Inv-loop μ-loop
-same-length-3 c = search needs
+same-length-3 c = c .before .before .before .before .before .before .before .before .before .before .before .turn .kept .1 .1 .1 .0 ∙ c .before .before .before .before .before .before .before .before .before .before .before .before .before .before .before .before .before .loop .inv .2
 
 -- src/lib.rt:156:13
 same-length-4 : tie.Need-same-length-4 Inv-loop μ-loop
-same-length-4 c = search needs
+same-length-4 c = c .before .before .before .before .before .before .before .before .before .before .before .turn .kept .1 .1 .1 .1 .0 ∙ c .before .before .before .before .before .before .before .before .before .before .before .before .before .before .before .before .before .loop .inv .3
 
 -- src/lib.rt:156:13
 returns : tie.Need-returns Inv-loop μ-loop
@@ -71,10 +71,10 @@ loop-again : tie.Need-loop-again Inv-loop μ-loop
 loop-again c =
     let r : Rx = (rx (c .before .before .before .before .before .before .before .before .before .before .before .before .before .before .before .before .before .loop .at .next) (c .before .before .before .before .before .before .before .before .before .before .before .before .before .before .before .before .before .loop .at .clock) (c .before .before .before .before .before .before .before .before .before .before .before .before .before .before .before .before .before .loop .orders) (c .before .before .before .before .before .before .before .before .before .before .before .before .before .before .before .before .before .loop .symbols) (c .before .before .before .before .before .before .before .before .before .before .before .before .before .before .before .before .before .loop .shelf) (c .before .before .before .before .before .before .before .before .before .before .before .before .before .before .before .before .before .loop .index)) in
     let next : c .before .before .before .before .before .before .before .before .before .before .before .turn .result .at .next ≤ c .before .before .before .before .before .before .before .before .before .before .before .before .before .before .before .before .before .loop .at .next + 1 = omega (arith, ap (λ (x : Rx). x .next) (c .before .before .before .before .before .before .before .before .before .before .before .turn .ensures .0), turn-next shelfStore (ledgerEngine (c .before .before .before .before .before .before .before .before .before .before .before .before .before .before .before .before .before .before .before .before .before .before .args .e)) r .1) in (
-      search needs,
-      search needs,
-      search needs,
-      search needs,
+      c .before .before .before .before .before .before .before .before .before .before .before .turn .kept .1 .0 ∙ c .before .before .before .before .before .before .before .before .before .before .before .before .before .before .before .before .before .loop .inv .0,
+      c .before .before .before .before .before .before .before .before .before .before .before .turn .kept .1 .1 .0 ∙ c .before .before .before .before .before .before .before .before .before .before .before .before .before .before .before .before .before .loop .inv .1,
+      c .before .before .before .before .before .before .before .before .before .before .before .turn .kept .1 .1 .1 .0 ∙ c .before .before .before .before .before .before .before .before .before .before .before .before .before .before .before .before .before .loop .inv .2,
+      c .before .before .before .before .before .before .before .before .before .before .before .turn .kept .1 .1 .1 .1 .0 ∙ c .before .before .before .before .before .before .before .before .before .before .before .before .before .before .before .before .before .loop .inv .3,
       omega arith,
       omega arith,
       loop-step shelfStore (ledgerEngine (c .before .before .before .before .before .before .before .before .before .before .before .before .before .before .before .before .before .before .before .before .before .before .args .e)) (c .before .before .before .before .before .before .before .before .before .before .before .before .before .before .before .before .before .before .before .before .before .before .args .turns) (c .before .before .before .before .before .before .before .before .before .before .before .before .before .before .before .before .before .loop .i) r _ _ (c .before .before .before .before .before .before .before .before .before .before .before .before .before .before .before .before .loop-test .taken) (c .before .before .before .before .before .before .before .before .before .before .before .before .before .before .before .before .before .loop .inv .6) (c .before .before .before .before .before .before .before .before .before .before .before .turn .ensures .0) (sym (c .before .before .before .before .before .before .before .before .before .before .before .turn .ensures .1) ∙ not-false (c .before .before .before .before .before .before .before .before .before .before .before .turn .result .on) (c .if1 .left)),
@@ -82,19 +82,19 @@ loop-again c =
 
 -- src/lib.rt:138:1
 same-length-5 : tie.Need-same-length-5 Inv-loop μ-loop
-same-length-5 c = search needs
+same-length-5 c = c .before .loop .inv .0
 
 -- src/lib.rt:138:1
 same-length-6 : tie.Need-same-length-6 Inv-loop μ-loop
-same-length-6 c = search needs
+same-length-6 c = c .before .loop .inv .1
 
 -- src/lib.rt:138:1
 same-length-7 : tie.Need-same-length-7 Inv-loop μ-loop
-same-length-7 c = search needs
+same-length-7 c = c .before .loop .inv .2
 
 -- src/lib.rt:138:1
 same-length-8 : tie.Need-same-length-8 Inv-loop μ-loop
-same-length-8 c = search needs
+same-length-8 c = c .before .loop .inv .3
 
 -- src/lib.rt:138:1
 returns-2 : tie.Need-returns-2 Inv-loop μ-loop

@@ -1,3 +1,5 @@
+-- By the answer: one law for each.
+-- Assumes nothing.
 use mathlib.Core.Path.{refl}
 use Rattle.shelf.specs.Store.{shelfStore}
 use Rattle.wire.specs.Records.{rec}
@@ -46,19 +48,19 @@ enum-told-5 c = search needs
 
 -- src/lib.rt:271:1
 same-length : tie.Need-same-length
-same-length c = search needs
+same-length c = c .before .before .before .before .before .before .before .before .take .kept .1 .0
 
 -- src/lib.rt:271:1
 same-length-2 : tie.Need-same-length-2
-same-length-2 c = search needs
+same-length-2 c = c .before .before .before .before .before .before .before .before .take .kept .1 .1 .0
 
 -- src/lib.rt:271:1
 same-length-3 : tie.Need-same-length-3
-same-length-3 c = search needs
+same-length-3 c = c .before .before .before .before .before .before .before .before .take .kept .1 .1 .1 .0
 
 -- src/lib.rt:271:1
 same-length-4 : tie.Need-same-length-4
-same-length-4 c = search needs
+same-length-4 c = c .before .before .before .before .before .before .before .before .take .kept .1 .1 .1 .1 .0
 
 -- src/lib.rt:271:1
 returns : tie.Need-returns
@@ -66,7 +68,7 @@ returns c = offered shelfStore (ledgerEngine (c .before .before .before .before 
 
 -- src/lib.rt:271:1
 same-length-5 : tie.Need-same-length-5
-same-length-5 c = search needs
+same-length-5 c = refl
 
 -- src/lib.rt:271:1
 returns-2 : tie.Need-returns-2
@@ -74,7 +76,7 @@ returns-2 c = offered shelfStore (ledgerEngine (c .before .before .before .befor
 
 -- src/lib.rt:271:1
 same-length-6 : tie.Need-same-length-6
-same-length-6 c = search needs
+same-length-6 c = refl
 
 -- src/lib.rt:271:1
 returns-3 : tie.Need-returns-3
@@ -82,7 +84,7 @@ returns-3 c = offered shelfStore (ledgerEngine (c .before .before .before .befor
 
 -- src/lib.rt:271:1
 same-length-7 : tie.Need-same-length-7
-same-length-7 c = search needs
+same-length-7 c = refl
 
 -- src/lib.rt:271:1
 returns-4 : tie.Need-returns-4
@@ -90,7 +92,7 @@ returns-4 c = offered shelfStore (ledgerEngine (c .before .before .before .befor
 
 -- src/lib.rt:271:1
 same-length-8 : tie.Need-same-length-8
-same-length-8 c = search needs
+same-length-8 c = refl
 
 -- src/lib.rt:271:1
 returns-5 : tie.Need-returns-5

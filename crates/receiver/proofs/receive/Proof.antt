@@ -20,7 +20,7 @@ use Rattle.receiver.proofs.sizes_ok.Reads as sizes-ok-reads
 
 -- src/lib.rt:446:9
 sizes-ok-requires : tie.Need-sizes-ok-requires
-sizes-ok-requires c κs = search needs
+sizes-ok-requires c κs = tt
 
 -- src/lib.rt:447:9
 returns : tie.Need-returns
@@ -28,7 +28,7 @@ returns c = refused-sizes (real (c .before .before .before .before .before .befo
 
 -- src/lib.rt:452:9
 next-ok-requires : tie.Need-next-ok-requires
-next-ok-requires c κs = search needs
+next-ok-requires c κs = tt
 
 -- src/lib.rt:453:9
 returns-2 : tie.Need-returns-2
@@ -36,7 +36,7 @@ returns-2 c = refused-next (real (c .before .before .before .before .before .bef
 
 -- src/lib.rt:459:11
 read-packet-requires : tie.Need-read-packet-requires
-read-packet-requires c κs = search needs
+read-packet-requires c κs = tt
 
 -- src/lib.rt:460:25
 enum-known-r : tie.Need-enum-known-r
@@ -67,19 +67,19 @@ returns-4 c = refused-packet (real (c .before .before .before .before .before .b
 
 -- src/lib.rt:436:1
 same-length : tie.Need-same-length
-same-length c = search needs
+same-length c = c .before .before .before .before .before .before .before .before .accept .kept .0
 
 -- src/lib.rt:436:1
 same-length-2 : tie.Need-same-length-2
-same-length-2 c = search needs
+same-length-2 c = c .before .before .before .before .before .before .before .before .accept .kept .1 .0
 
 -- src/lib.rt:436:1
 same-length-3 : tie.Need-same-length-3
-same-length-3 c = search needs
+same-length-3 c = c .before .before .before .before .before .before .before .before .accept .kept .1 .1 .0
 
 -- src/lib.rt:436:1
 same-length-4 : tie.Need-same-length-4
-same-length-4 c = search needs
+same-length-4 c = c .before .before .before .before .before .before .before .before .accept .kept .1 .1 .1 .0
 
 -- src/lib.rt:436:1
 returns-5 : tie.Need-returns-5

@@ -1,14 +1,13 @@
-use mathlib.Core.Path.{refl, sym, ap, _∙_}
-use Rattle.book.proofs.Laws.{tried-told}
+-- By the slot for next: one law for each exit; nothing is changed.
+-- Assumes nothing.
+use mathlib.Core.Path.{refl, sym, _∙_}
 use native.Mathlib.Omega.{arith}
-use Prim.Native.Nat.{ℕ}
-use mathlib.Core.List.{List}
 use Rattle.book.specs.Book.{book}
-use Rattle.book.specs.Ledger.{Posting, ledger, posted}
+use Rattle.book.specs.Ledger.{ledger}
 use Rattle.receiver.specs.Lent.{real}
-use Rattle.receiver.proofs.Exits.{stops-empty, stops-other, stops-long, stops-rule}
+use Rattle.receiver.proofs.Exits.{stops-empty, stops-other, stops-long}
 use Rattle.receiver.proofs.Real.{realLaws}
-use borrow.Author.Needs.{needs}
+use Rattle.receiver.proofs.Calls.{slot-stops}
 use Rattle.receiver.proofs.stop_at.Statement.{statement}
 use Rattle.receiver.proofs.stop_at.Tie as tie
 use Rattle.receiver.proofs.stop_at.Reads as reads
@@ -20,7 +19,7 @@ use Rattle.shelf.proofs.slot_number.Reads as slot-number-reads
 
 -- src/lib.rt:356:9
 slot-number-requires : tie.Need-slot-number-requires
-slot-number-requires c κs = search needs
+slot-number-requires c κs = tt
 
 -- src/lib.rt:358:9
 returns : tie.Need-returns
@@ -32,7 +31,7 @@ returns-2 c = (stops-other (real (c .before .before .before .before .before .bef
 
 -- src/lib.rt:363:13
 slot-len-requires : tie.Need-slot-len-requires
-slot-len-requires c κs = search needs
+slot-len-requires c κs = tt
 
 -- src/lib.rt:364:9
 returns-3 : tie.Need-returns-3
@@ -40,29 +39,29 @@ returns-3 c = (stops-long (real (c .before .before .before .before .before .befo
 
 -- src/lib.rt:374:9
 slot-body-requires : tie.Need-slot-body-requires
-slot-body-requires c κs = search needs
+slot-body-requires c κs = tt
 
 -- src/lib.rt:367:9
 attempt-requires : tie.Need-attempt-requires
-attempt-requires c κs = search needs
+attempt-requires c κs = tt
 
 -- src/lib.rt:344:1
 same-length : tie.Need-same-length
-same-length c = search needs
+same-length c = c .before .before .before .before .before .before .attempt .kept .1 .0
 
 -- src/lib.rt:344:1
 same-length-2 : tie.Need-same-length-2
-same-length-2 c = search needs
+same-length-2 c = c .before .before .before .before .before .before .attempt .kept .1 .1 .0
 
 -- src/lib.rt:344:1
 same-length-3 : tie.Need-same-length-3
-same-length-3 c = search needs
+same-length-3 c = c .before .before .before .before .before .before .attempt .kept .1 .1 .1 .0
 
 -- src/lib.rt:344:1
 returns-4 : tie.Need-returns-4
 returns-4 c =
-    let told = c .before .before .before .before .before .before .attempt .ensures ∙ tried-told (c .before .before .before .before .before .before .before .before .before .before .before .before .before .before .before .before .before .before .before .before .before .args .e) (c .before .before .before .before .before .before .before .before .before .before .before .before .before .before .before .before .before .before .before .before .before .args .at .next) _ (ledger (book (c .before .before .before .before .before .before .before .before .before .before .before .before .before .before .before .before .before .before .before .before .before .args .orders .now) (c .before .before .before .before .before .before .before .before .before .before .before .before .before .before .before .before .before .before .before .before .before .args .symbols .now) (c .before .before .before .before .before .before .before .before .before .before .before .before .before .before .before .before .before .before .before .before .before .args .at .clock)) (c .before .before .before .before .before .before .before .before .before .before .before .before .before .before .before .before .before .before .before .before .before .args .index .now)) in
-    (ap (λ (x : Posting). x .rule) told ∙ ap (λ (b : List ℕ). posted (c .before .before .before .before .before .before .before .before .before .before .before .before .before .before .before .before .before .before .before .before .before .args .e) (c .before .before .before .before .before .before .before .before .before .before .before .before .before .before .before .before .before .before .before .before .before .args .at .next) b (ledger (book (c .before .before .before .before .before .before .before .before .before .before .before .before .before .before .before .before .before .before .before .before .before .args .orders .now) (c .before .before .before .before .before .before .before .before .before .before .before .before .before .before .before .before .before .before .before .before .before .args .symbols .now) (c .before .before .before .before .before .before .before .before .before .before .before .before .before .before .before .before .before .before .before .before .before .args .at .clock)) (c .before .before .before .before .before .before .before .before .before .before .before .before .before .before .before .before .before .before .before .before .before .args .index .now)) .rule) (c .before .before .before .before .before .before .before .slot-body .ensures) ∙ stops-rule (real (c .before .before .before .before .before .before .before .before .before .before .before .before .before .before .before .before .before .before .before .before .before .args .e)) (realLaws (c .before .before .before .before .before .before .before .before .before .before .before .before .before .before .before .before .before .before .before .before .before .args .e)) (c .before .before .before .before .before .before .before .before .before .before .before .before .before .before .before .before .before .before .before .before .before .args .at .next) (ledger (book (c .before .before .before .before .before .before .before .before .before .before .before .before .before .before .before .before .before .before .before .before .before .args .orders .now) (c .before .before .before .before .before .before .before .before .before .before .before .before .before .before .before .before .before .before .before .before .before .args .symbols .now) (c .before .before .before .before .before .before .before .before .before .before .before .before .before .before .before .before .before .before .before .before .before .args .at .clock)) (c .before .before .before .before .before .before .before .before .before .before .before .before .before .before .before .before .before .before .before .before .before .args .index .now)) (c .before .before .before .before .before .before .before .before .before .before .before .before .before .before .before .before .before .before .before .before .before .args .shelf .now) (λ z. c .before .before .before .before .before .before .before .before .before .before .before .before .before .before .before .if1 .left (c .before .before .before .before .before .before .before .before .before .before .before .before .before .before .before .before .slot-number .ensures ∙ z)) (sym (c .before .before .before .before .before .before .before .before .before .before .before .before .before .before .before .before .slot-number .ensures) ∙ c .before .before .before .before .before .before .before .before .before .before .before .before .before .before .if2 .left) (omega (arith, c .before .before .before .before .before .before .before .before .before .before .before .before .before .slot-len .ensures)), ap (λ (x : Posting). x .after .plain .orders) told, ap (λ (x : Posting). x .after .plain .symbols) told, ap (λ (x : Posting). x .after .index) told)
+    let a = c .before .before .before .before .before .before .before .before .before .before .before .before .before .before .before .before .before .before .before .before .before .args in
+    slot-stops (a .e) (a .at .next) (ledger (book (a .orders .now) (a .symbols .now) (a .at .clock)) (a .index .now)) (a .shelf .now) (c .before .before .before .before .before .before .before .before .before .before .before .before .before .before .before .before .slot-number .result) (c .before .before .before .before .before .before .before .before .before .before .before .before .before .slot-len .result) (c .before .before .before .before .before .before .before .slot-body .result .now) (c .before .before .before .before .before .before .before .before .before .before .before .before .before .before .before .before .slot-number .ensures) (c .before .before .before .before .before .before .before .before .before .before .before .before .before .before .before .if1 .left) (c .before .before .before .before .before .before .before .before .before .before .before .before .before .before .if2 .left) (c .before .before .before .before .before .before .before .before .before .before .before .before .before .slot-len .ensures) (c .before .before .before .before .before .before .before .before .before .before .before .before .if3 .left) (c .before .before .before .before .before .before .before .slot-body .ensures) (c .before .before .before .before .before .before .attempt .result .rule) (ledger (book (c .before .before .before .before .before .before .attempt .last .1 .0) (c .before .before .before .before .before .before .attempt .last .1 .1 .0) (c .before .before .before .before .before .before .attempt .result .clock)) (c .before .before .before .before .before .before .attempt .last .1 .1 .1 .0)) (c .before .before .before .before .before .before .attempt .ensures)
 
 pub stop-at-spec : {M : Type 1} → statement M
 stop-at-spec =

@@ -1,17 +1,8 @@
-use mathlib.Core.Path.{ap, _∙_}
-use Rattle.kinds.specs.Table.{kindOf}
-use Rattle.book.proofs.Laws.{devised-good, tried-applied}
-use Prim.Native.Nat.{_%_}
+-- A good record that is next, tried as it came: one law for each exit.
+-- Assumes nothing.
 use Rattle.book.specs.Book.{book}
-use Rattle.book.specs.Ledger.{Posting, ledger}
-use Rattle.arbitration.specs.Slots.{emptySlot, slotFor}
-use Rattle.arbitration.proofs.SlotLaws.{empty-fits}
-use Rattle.arbitration.proofs.Range.{bounded-fits}
-use Rattle.shelf.proofs.StoreLaws.{put-again}
-use Rattle.wire.specs.Records.{rec}
-use Rattle.receiver.specs.Lent.{real}
-use Rattle.receiver.proofs.Direct.{next-broken, next-goes}
-use Rattle.receiver.proofs.Real.{realLaws}
+use Rattle.book.specs.Ledger.{ledger}
+use Rattle.receiver.proofs.Calls.{came-broken, came-goes}
 use borrow.Author.Needs.{needs}
 use Rattle.receiver.proofs.take_next.Statement.{statement}
 use Rattle.receiver.proofs.take_next.Tie as tie
@@ -25,45 +16,46 @@ use Rattle.wire.proofs.u8_at.Reads as u8-at-reads
 
 -- src/lib.rt:220:28
 u8-at-requires : tie.Need-u8-at-requires
-u8-at-requires c κs = search needs
+u8-at-requires c κs = tt
 
 -- src/lib.rt:220:9
 kind-of-requires : tie.Need-kind-of-requires
-kind-of-requires c κs = search needs
+kind-of-requires c κs = tt
 
 -- src/lib.rt:221:9
 try-kind-requires : tie.Need-try-kind-requires
-try-kind-requires c κs = search needs
+try-kind-requires c κs = tt
 
 -- src/lib.rt:224:9
 put-requires : tie.Need-put-requires
-put-requires c κs = search needs
+put-requires c κs = tt
 
 -- src/lib.rt:225:9
 same-length : tie.Need-same-length
-same-length c = search needs
+same-length c = c .before .before .before .before .before .before .before .before .before .before .before .before .before .try-kind .kept .1 .0
 
 -- src/lib.rt:225:9
 same-length-2 : tie.Need-same-length-2
-same-length-2 c = search needs
+same-length-2 c = c .before .before .before .before .before .before .before .before .before .before .before .before .before .try-kind .kept .1 .1 .0
 
 -- src/lib.rt:225:9
 same-length-3 : tie.Need-same-length-3
-same-length-3 c = search needs
+same-length-3 c = c .before .before .put .kept .0
 
 -- src/lib.rt:225:9
 same-length-4 : tie.Need-same-length-4
-same-length-4 c = search needs
+same-length-4 c = c .before .before .before .before .before .before .before .before .before .before .before .before .before .try-kind .kept .1 .1 .1 .0
 
 -- src/lib.rt:225:9
 returns : tie.Need-returns
 returns c =
-    let told = c .before .before .before .before .before .before .before .before .before .before .before .before .before .try-kind .ensures ∙ tried-applied (c .before .before .before .before .before .before .before .before .before .before .before .before .before .before .before .before .before .before .before .before .before .before .before .before .before .args .e) (c .before .before .before .before .before .before .before .before .before .before .before .before .before .before .before .before .before .before .before .before .before .before .before .before .before .args .at .next) (c .before .before .before .before .before .before .before .before .before .before .before .before .before .before .before .before .before .before .before .before .before .before .before .before .before .args .body .now) (ledger (book (c .before .before .before .before .before .before .before .before .before .before .before .before .before .before .before .before .before .before .before .before .before .before .before .before .before .args .orders .now) (c .before .before .before .before .before .before .before .before .before .before .before .before .before .before .before .before .before .before .before .before .before .before .before .before .before .args .symbols .now) (c .before .before .before .before .before .before .before .before .before .before .before .before .before .before .before .before .before .before .before .before .before .before .before .before .before .args .at .clock)) (c .before .before .before .before .before .before .before .before .before .before .before .before .before .before .before .before .before .before .before .before .before .before .before .before .before .args .index .now)) _ (devised-good (c .before .before .before .before .before .before .before .before .before .before .before .before .before .before .before .before .before .before .before .before .before .before .before .before .before .args .e) (c .before .before .before .before .before .before .before .before .before .before .before .before .before .before .before .before .before .before .before .before .before .before .before .before .before .args .at .next) (c .before .before .before .before .before .before .before .before .before .before .before .before .before .before .before .before .before .before .before .before .before .before .before .before .before .args .body .now) (ledger (book (c .before .before .before .before .before .before .before .before .before .before .before .before .before .before .before .before .before .before .before .before .before .before .before .before .before .args .orders .now) (c .before .before .before .before .before .before .before .before .before .before .before .before .before .before .before .before .before .before .before .before .before .before .before .before .before .args .symbols .now) (c .before .before .before .before .before .before .before .before .before .before .before .before .before .before .before .before .before .before .before .before .before .before .before .before .before .args .at .clock)) (c .before .before .before .before .before .before .before .before .before .before .before .before .before .before .before .before .before .before .before .before .before .before .before .before .before .args .index .now)) (c .before .before .before .before .before .before .before .before .before .before .before .before .before .before .before .before .before .kind-of .result) (c .before .before .before .before .before .before .before .before .before .before .before .before .before .before .before .before .before .before .before .before .before .before .before .before .before .pre .3) (c .before .before .before .before .before .before .before .before .before .before .before .before .before .before .before .before .before .kind-of .ensures ∙ ap kindOf (c .before .before .before .before .before .before .before .before .before .before .before .before .before .before .before .before .before .before .u8-at .ensures))) in
-    next-broken (real (c .before .before .before .before .before .before .before .before .before .before .before .before .before .before .before .before .before .before .before .before .before .before .before .before .before .args .e)) (realLaws (c .before .before .before .before .before .before .before .before .before .before .before .before .before .before .before .before .before .before .before .before .before .before .before .before .before .args .e)) (c .before .before .before .before .before .before .before .before .before .before .before .before .before .before .before .before .before .before .before .before .before .before .before .before .before .args .at .next) (ledger (book (c .before .before .before .before .before .before .before .before .before .before .before .before .before .before .before .before .before .before .before .before .before .before .before .before .before .args .orders .now) (c .before .before .before .before .before .before .before .before .before .before .before .before .before .before .before .before .before .before .before .before .before .before .before .before .before .args .symbols .now) (c .before .before .before .before .before .before .before .before .before .before .before .before .before .before .before .before .before .before .before .before .before .before .before .before .before .args .at .clock)) (c .before .before .before .before .before .before .before .before .before .before .before .before .before .before .before .before .before .before .before .before .before .before .before .before .before .args .index .now)) (c .before .before .before .before .before .before .before .before .before .before .before .before .before .before .before .before .before .before .before .before .before .before .before .before .before .args .shelf .now) (c .before .before .before .before .before .before .before .before .before .before .before .before .before .before .before .before .before .before .before .before .before .before .before .before .before .args .body .now) (c .before .before .before .before .before .before .before .before .before .before .before .before .before .before .before .before .before .before .before .before .before .before .before .before .before .pre .0) (c .before .before .before .before .before .before .before .before .before .before .before .before .before .before .before .before .before .before .before .before .before .before .before .before .before .pre .1) (c .before .before .before .before .before .before .before .before .before .before .before .before .before .before .before .before .before .before .before .before .before .before .before .before .before .pre .2) (c .before .before .before .before .before .before .before .before .before .before .before .before .before .try-kind .result .rule) _ (ap (λ (x : Posting). x .rule) told) (ap (λ (x : Posting). x .after) told) (c .before .before .before .before .if1 .taken) _ (c .before .before .put .ensures)
+    let a = c .before .before .before .before .before .before .before .before .before .before .before .before .before .before .before .before .before .before .before .before .before .before .before .before .before .args in
+    let pre = c .before .before .before .before .before .before .before .before .before .before .before .before .before .before .before .before .before .before .before .before .before .before .before .before .before .pre in
+    came-broken (a .e) (a .at .next) (ledger (book (a .orders .now) (a .symbols .now) (a .at .clock)) (a .index .now)) (a .shelf .now) (a .body .now) (pre .0) (pre .1) (pre .2) (pre .3) (c .before .before .before .before .before .before .before .before .before .before .before .before .before .before .before .before .before .before .u8-at .result) (c .before .before .before .before .before .before .before .before .before .before .before .before .before .before .before .before .before .kind-of .result) (c .before .before .before .before .before .before .before .before .before .before .before .before .before .before .before .before .before .before .u8-at .ensures) (c .before .before .before .before .before .before .before .before .before .before .before .before .before .before .before .before .before .kind-of .ensures) (c .before .before .before .before .before .before .before .before .before .before .before .before .before .try-kind .result .rule) (ledger (book (c .before .before .before .before .before .before .before .before .before .before .before .before .before .try-kind .last .1 .0) (c .before .before .before .before .before .before .before .before .before .before .before .before .before .try-kind .last .1 .1 .0) (c .before .before .before .before .before .before .before .before .before .before .before .before .before .try-kind .result .clock)) (c .before .before .before .before .before .before .before .before .before .before .before .before .before .try-kind .last .1 .1 .1 .0)) (c .before .before .before .before .before .before .before .before .before .before .before .before .before .try-kind .ensures) (c .before .before .before .before .if1 .taken) (c .before .before .put .last .0) (c .before .before .put .ensures)
 
 -- src/lib.rt:230:5
 empty-requires : tie.Need-empty-requires
-empty-requires c κs = search needs
+empty-requires c κs = tt
 
 -- src/lib.rt:234:19
 add-t14 : tie.Need-add-t14
@@ -71,26 +63,26 @@ add-t14 c = search needs
 
 -- src/lib.rt:205:1
 same-length-5 : tie.Need-same-length-5
-same-length-5 c = search needs
+same-length-5 c = c .before .before .before .before .before .before .before .before .before .before .before .before .before .try-kind .kept .1 .0
 
 -- src/lib.rt:205:1
 same-length-6 : tie.Need-same-length-6
-same-length-6 c = search needs
+same-length-6 c = c .before .before .before .before .before .before .before .before .before .before .before .before .before .try-kind .kept .1 .1 .0
 
 -- src/lib.rt:205:1
 same-length-7 : tie.Need-same-length-7
-same-length-7 c = search needs
+same-length-7 c = c .before .before .empty .kept .0
 
 -- src/lib.rt:205:1
 same-length-8 : tie.Need-same-length-8
-same-length-8 c = search needs
+same-length-8 c = c .before .before .before .before .before .before .before .before .before .before .before .before .before .try-kind .kept .1 .1 .1 .0
 
 -- src/lib.rt:205:1
 returns-2 : tie.Need-returns-2
 returns-2 c =
-    let again = put-again (c .before .before .before .before .before .before .before .before .before .before .before .before .before .before .before .before .before .before .before .before .before .before .before .before .before .args .shelf .now) (c .before .before .before .before .before .before .before .before .before .before .before .before .before .before .before .before .before .before .before .before .before .before .before .before .before .args .at .next % 64) (slotFor (c .before .before .before .before .before .before .before .before .before .before .before .before .before .before .before .before .before .before .before .before .before .before .before .before .before .args .at .next) (c .before .before .before .before .before .before .before .before .before .before .before .before .before .before .before .before .before .before .before .before .before .before .before .before .before .args .body .now)) emptySlot (bounded-fits (rec (c .before .before .before .before .before .before .before .before .before .before .before .before .before .before .before .before .before .before .before .before .before .before .before .before .before .args .at .next) (c .before .before .before .before .before .before .before .before .before .before .before .before .before .before .before .before .before .before .before .before .before .before .before .before .before .args .body .now)) (c .before .before .before .before .before .before .before .before .before .before .before .before .before .before .before .before .before .before .before .before .before .before .before .before .before .pre .2)) empty-fits in
-    let told = c .before .before .before .before .before .before .before .before .before .before .before .before .before .try-kind .ensures ∙ tried-applied (c .before .before .before .before .before .before .before .before .before .before .before .before .before .before .before .before .before .before .before .before .before .before .before .before .before .args .e) (c .before .before .before .before .before .before .before .before .before .before .before .before .before .before .before .before .before .before .before .before .before .before .before .before .before .args .at .next) (c .before .before .before .before .before .before .before .before .before .before .before .before .before .before .before .before .before .before .before .before .before .before .before .before .before .args .body .now) (ledger (book (c .before .before .before .before .before .before .before .before .before .before .before .before .before .before .before .before .before .before .before .before .before .before .before .before .before .args .orders .now) (c .before .before .before .before .before .before .before .before .before .before .before .before .before .before .before .before .before .before .before .before .before .before .before .before .before .args .symbols .now) (c .before .before .before .before .before .before .before .before .before .before .before .before .before .before .before .before .before .before .before .before .before .before .before .before .before .args .at .clock)) (c .before .before .before .before .before .before .before .before .before .before .before .before .before .before .before .before .before .before .before .before .before .before .before .before .before .args .index .now)) _ (devised-good (c .before .before .before .before .before .before .before .before .before .before .before .before .before .before .before .before .before .before .before .before .before .before .before .before .before .args .e) (c .before .before .before .before .before .before .before .before .before .before .before .before .before .before .before .before .before .before .before .before .before .before .before .before .before .args .at .next) (c .before .before .before .before .before .before .before .before .before .before .before .before .before .before .before .before .before .before .before .before .before .before .before .before .before .args .body .now) (ledger (book (c .before .before .before .before .before .before .before .before .before .before .before .before .before .before .before .before .before .before .before .before .before .before .before .before .before .args .orders .now) (c .before .before .before .before .before .before .before .before .before .before .before .before .before .before .before .before .before .before .before .before .before .before .before .before .before .args .symbols .now) (c .before .before .before .before .before .before .before .before .before .before .before .before .before .before .before .before .before .before .before .before .before .before .before .before .before .args .at .clock)) (c .before .before .before .before .before .before .before .before .before .before .before .before .before .before .before .before .before .before .before .before .before .before .before .before .before .args .index .now)) (c .before .before .before .before .before .before .before .before .before .before .before .before .before .before .before .before .before .kind-of .result) (c .before .before .before .before .before .before .before .before .before .before .before .before .before .before .before .before .before .before .before .before .before .before .before .before .before .pre .3) (c .before .before .before .before .before .before .before .before .before .before .before .before .before .before .before .before .before .kind-of .ensures ∙ ap kindOf (c .before .before .before .before .before .before .before .before .before .before .before .before .before .before .before .before .before .before .u8-at .ensures))) in
-    next-goes (real (c .before .before .before .before .before .before .before .before .before .before .before .before .before .before .before .before .before .before .before .before .before .before .before .before .before .args .e)) (realLaws (c .before .before .before .before .before .before .before .before .before .before .before .before .before .before .before .before .before .before .before .before .before .before .before .before .before .args .e)) (c .before .before .before .before .before .before .before .before .before .before .before .before .before .before .before .before .before .before .before .before .before .before .before .before .before .args .at .next) (ledger (book (c .before .before .before .before .before .before .before .before .before .before .before .before .before .before .before .before .before .before .before .before .before .before .before .before .before .args .orders .now) (c .before .before .before .before .before .before .before .before .before .before .before .before .before .before .before .before .before .before .before .before .before .before .before .before .before .args .symbols .now) (c .before .before .before .before .before .before .before .before .before .before .before .before .before .before .before .before .before .before .before .before .before .before .before .before .before .args .at .clock)) (c .before .before .before .before .before .before .before .before .before .before .before .before .before .before .before .before .before .before .before .before .before .before .before .before .before .args .index .now)) (c .before .before .before .before .before .before .before .before .before .before .before .before .before .before .before .before .before .before .before .before .before .before .before .before .before .args .shelf .now) (c .before .before .before .before .before .before .before .before .before .before .before .before .before .before .before .before .before .before .before .before .before .before .before .before .before .args .body .now) (c .before .before .before .before .before .before .before .before .before .before .before .before .before .before .before .before .before .before .before .before .before .before .before .before .before .pre .0) (c .before .before .before .before .before .before .before .before .before .before .before .before .before .before .before .before .before .before .before .before .before .before .before .before .before .pre .1) (c .before .before .before .before .before .before .before .before .before .before .before .before .before .before .before .before .before .before .before .before .before .before .before .before .before .pre .2) (c .before .before .before .before .before .before .before .before .before .before .before .before .before .try-kind .result .rule) _ (ap (λ (x : Posting). x .rule) told) (ap (λ (x : Posting). x .after) told) (c .before .before .before .before .if1 .left) _ (c .before .before .empty .ensures) again
+    let a = c .before .before .before .before .before .before .before .before .before .before .before .before .before .before .before .before .before .before .before .before .before .before .before .before .before .args in
+    let pre = c .before .before .before .before .before .before .before .before .before .before .before .before .before .before .before .before .before .before .before .before .before .before .before .before .before .pre in
+    came-goes (a .e) (a .at .next) (ledger (book (a .orders .now) (a .symbols .now) (a .at .clock)) (a .index .now)) (a .shelf .now) (a .body .now) (pre .0) (pre .1) (pre .2) (pre .3) (c .before .before .before .before .before .before .before .before .before .before .before .before .before .before .before .before .before .before .u8-at .result) (c .before .before .before .before .before .before .before .before .before .before .before .before .before .before .before .before .before .kind-of .result) (c .before .before .before .before .before .before .before .before .before .before .before .before .before .before .before .before .before .before .u8-at .ensures) (c .before .before .before .before .before .before .before .before .before .before .before .before .before .before .before .before .before .kind-of .ensures) (c .before .before .before .before .before .before .before .before .before .before .before .before .before .try-kind .result .rule) (ledger (book (c .before .before .before .before .before .before .before .before .before .before .before .before .before .try-kind .last .1 .0) (c .before .before .before .before .before .before .before .before .before .before .before .before .before .try-kind .last .1 .1 .0) (c .before .before .before .before .before .before .before .before .before .before .before .before .before .try-kind .result .clock)) (c .before .before .before .before .before .before .before .before .before .before .before .before .before .try-kind .last .1 .1 .1 .0)) (c .before .before .before .before .before .before .before .before .before .before .before .before .before .try-kind .ensures) (c .before .before .before .before .if1 .left) (c .before .before .empty .last .0) (c .before .before .empty .ensures)
 
 pub take-next-spec : {M : Type 1} → statement M
 take-next-spec =

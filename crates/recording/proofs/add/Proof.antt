@@ -1,24 +1,23 @@
 -- Five sums, one for each answer.
 -- Assumes nothing.
 use Rattle.recording.specs.Stream.{added}
-use borrow.Author.Needs.{needs}
 use Rattle.recording.proofs.add.Statement.{statement}
 use Rattle.recording.proofs.add.Tie as tie
 
 more-requires : tie.Need-more-requires
-more-requires c κs = search needs
+more-requires c κs = tt
 
 more-requires-2 : tie.Need-more-requires-2
-more-requires-2 c κs = search needs
+more-requires-2 c κs = tt
 
 more-requires-3 : tie.Need-more-requires-3
-more-requires-3 c κs = search needs
+more-requires-3 c κs = tt
 
 more-requires-4 : tie.Need-more-requires-4
-more-requires-4 c κs = search needs
+more-requires-4 c κs = tt
 
 more-requires-5 : tie.Need-more-requires-5
-more-requires-5 c κs = search needs
+more-requires-5 c κs = tt
 
 returns : tie.Need-returns
 unfolding added

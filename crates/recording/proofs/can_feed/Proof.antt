@@ -3,7 +3,6 @@
 use borrow.Author.Tests.{not-true, not-false, le-leb, lt-leb}
 use Rattle.facts.specs.Pick.{both}
 use Rattle.recording.specs.Stream.{feedable}
-use borrow.Author.Needs.{needs}
 use Rattle.recording.proofs.can_feed.Statement.{statement}
 use Rattle.recording.proofs.can_feed.Tie as tie
 use Rattle.recording.proofs.can_feed.Reads as reads
@@ -13,7 +12,7 @@ use Rattle.receiver.proofs.sizes_ok.Reads as sizes-ok-reads
 
 -- src/lib.rt:284:9
 sizes-ok-requires : tie.Need-sizes-ok-requires
-sizes-ok-requires c κs = search needs
+sizes-ok-requires c κs = tt
 
 -- src/lib.rt:285:9
 returns : tie.Need-returns
@@ -22,7 +21,7 @@ returns c = simp (← c .before .sizes-ok .ensures, not-true (c .before .sizes-o
 
 -- src/lib.rt:288:9
 next-ok-requires : tie.Need-next-ok-requires
-next-ok-requires c κs = search needs
+next-ok-requires c κs = tt
 
 -- src/lib.rt:289:9
 returns-2 : tie.Need-returns-2

@@ -15,7 +15,7 @@ part-wipe-end : tie.Need-part-wipe-end
 part-wipe-end c = search needs
 
 wipe-requires : tie.Need-wipe-requires
-wipe-requires c κs = search needs
+wipe-requires c κs = tt
 
 same-length : tie.Need-same-length
 same-length c = search needs

@@ -16,7 +16,7 @@ use Rattle.recording.proofs.missed.Reads as missed-reads
 
 -- src/lib.rt:85:9
 receive-requires : tie.Need-receive-requires
-receive-requires c κs = search needs
+receive-requires c κs = tt
 
 -- src/lib.rt:90:28
 enum-known-answer : tie.Need-enum-known-answer
@@ -24,7 +24,7 @@ enum-known-answer c = search needs
 
 -- src/lib.rt:93:17
 add-requires : tie.Need-add-requires
-add-requires c κs = search needs
+add-requires c κs = tt
 
 -- src/lib.rt:103:27
 enum-known-answer-2 : tie.Need-enum-known-answer-2
@@ -32,7 +32,7 @@ enum-known-answer-2 c = search needs
 
 -- src/lib.rt:108:13
 missed-requires : tie.Need-missed-requires
-missed-requires c κs = search needs
+missed-requires c κs = tt
 
 -- src/lib.rt:110:23
 enum-known-answer-3 : tie.Need-enum-known-answer-3
@@ -40,23 +40,23 @@ enum-known-answer-3 c = search needs
 
 -- src/lib.rt:110:29
 missed-requires-2 : tie.Need-missed-requires-2
-missed-requires-2 c κs = search needs
+missed-requires-2 c κs = tt
 
 -- src/lib.rt:74:1
 same-length : tie.Need-same-length
-same-length c = search needs
+same-length c = c .before .before .before .before .before .before .before .before .before .before .before .before .before .before .before .before .receive .kept .0
 
 -- src/lib.rt:74:1
 same-length-2 : tie.Need-same-length-2
-same-length-2 c = search needs
+same-length-2 c = c .before .before .before .before .before .before .before .before .before .before .before .before .before .before .before .before .receive .kept .1 .0
 
 -- src/lib.rt:74:1
 same-length-3 : tie.Need-same-length-3
-same-length-3 c = search needs
+same-length-3 c = c .before .before .before .before .before .before .before .before .before .before .before .before .before .before .before .before .receive .kept .1 .1 .0
 
 -- src/lib.rt:74:1
 same-length-4 : tie.Need-same-length-4
-same-length-4 c = search needs
+same-length-4 c = c .before .before .before .before .before .before .before .before .before .before .before .before .before .before .before .before .receive .kept .1 .1 .1 .0
 
 -- src/lib.rt:74:1
 returns : tie.Need-returns
@@ -64,19 +64,19 @@ returns c = (heard-accepted (standingOf (c .before .before .before .before .befo
 
 -- src/lib.rt:74:1
 same-length-5 : tie.Need-same-length-5
-same-length-5 c = search needs
+same-length-5 c = c .before .before .before .before .before .before .before .before .before .before .before .before .before .before .receive .kept .0
 
 -- src/lib.rt:74:1
 same-length-6 : tie.Need-same-length-6
-same-length-6 c = search needs
+same-length-6 c = c .before .before .before .before .before .before .before .before .before .before .before .before .before .before .receive .kept .1 .0
 
 -- src/lib.rt:74:1
 same-length-7 : tie.Need-same-length-7
-same-length-7 c = search needs
+same-length-7 c = c .before .before .before .before .before .before .before .before .before .before .before .before .before .before .receive .kept .1 .1 .0
 
 -- src/lib.rt:74:1
 same-length-8 : tie.Need-same-length-8
-same-length-8 c = search needs
+same-length-8 c = c .before .before .before .before .before .before .before .before .before .before .before .before .before .before .receive .kept .1 .1 .1 .0
 
 -- src/lib.rt:74:1
 returns-2 : tie.Need-returns-2
@@ -84,19 +84,19 @@ returns-2 c = (missed-as (c .before .before .before .before .before .before .bef
 
 -- src/lib.rt:74:1
 same-length-9 : tie.Need-same-length-9
-same-length-9 c = search needs
+same-length-9 c = c .before .before .before .before .before .before .before .before .before .before .before .before .before .before .receive .kept .0
 
 -- src/lib.rt:74:1
 same-length-10 : tie.Need-same-length-10
-same-length-10 c = search needs
+same-length-10 c = c .before .before .before .before .before .before .before .before .before .before .before .before .before .before .receive .kept .1 .0
 
 -- src/lib.rt:74:1
 same-length-11 : tie.Need-same-length-11
-same-length-11 c = search needs
+same-length-11 c = c .before .before .before .before .before .before .before .before .before .before .before .before .before .before .receive .kept .1 .1 .0
 
 -- src/lib.rt:74:1
 same-length-12 : tie.Need-same-length-12
-same-length-12 c = search needs
+same-length-12 c = c .before .before .before .before .before .before .before .before .before .before .before .before .before .before .receive .kept .1 .1 .1 .0
 
 -- src/lib.rt:74:1
 returns-3 : tie.Need-returns-3

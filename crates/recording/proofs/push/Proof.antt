@@ -12,11 +12,11 @@ use Rattle.wire.proofs.u16_at.Reads as u16-at-reads
 
 -- src/lib.rt:160:5
 store-requires : tie.Need-store-requires
-store-requires c κs = search needs
+store-requires c κs = tt
 
 -- src/lib.rt:164:9
 same-length : tie.Need-same-length
-same-length c = search needs
+same-length c = c .before .before .before .store .kept .0
 
 -- src/lib.rt:164:9
 returns : tie.Need-returns
@@ -24,7 +24,7 @@ returns c = push-first (c .before .before .before .before .before .before .befor
 
 -- src/lib.rt:166:13
 u16-at-requires : tie.Need-u16-at-requires
-u16-at-requires c κs = search needs
+u16-at-requires c κs = tt
 
 -- src/lib.rt:166:13
 cast-n : tie.Need-cast-n
@@ -32,7 +32,7 @@ cast-n c = search needs
 
 -- src/lib.rt:170:9
 same-length-2 : tie.Need-same-length-2
-same-length-2 c = search needs
+same-length-2 c = c .before .before .before .before .before .before .store .kept .0
 
 -- src/lib.rt:170:9
 returns-2 : tie.Need-returns-2
@@ -44,7 +44,7 @@ add-r c = search needs
 
 -- src/lib.rt:174:9
 same-length-3 : tie.Need-same-length-3
-same-length-3 c = search needs
+same-length-3 c = c .before .before .before .before .before .before .before .store .kept .0
 
 -- src/lib.rt:174:9
 returns-3 : tie.Need-returns-3
@@ -72,23 +72,23 @@ hear-requires c κs = search needs
 
 -- src/lib.rt:147:1
 same-length-4 : tie.Need-same-length-4
-same-length-4 c = search needs
+same-length-4 c = c .before .before .before .before .before .before .before .before .hear .kept .0
 
 -- src/lib.rt:147:1
 same-length-5 : tie.Need-same-length-5
-same-length-5 c = search needs
+same-length-5 c = c .before .before .before .before .before .before .before .before .hear .kept .1 .0
 
 -- src/lib.rt:147:1
 same-length-6 : tie.Need-same-length-6
-same-length-6 c = search needs
+same-length-6 c = c .before .before .before .before .before .before .before .before .hear .kept .1 .1 .0
 
 -- src/lib.rt:147:1
 same-length-7 : tie.Need-same-length-7
-same-length-7 c = search needs
+same-length-7 c = c .before .before .before .before .before .before .before .before .hear .kept .1 .1 .1 .0
 
 -- src/lib.rt:147:1
 same-length-8 : tie.Need-same-length-8
-same-length-8 c = search needs
+same-length-8 c = c .before .before .before .before .before .before .before .before .before .before .before .before .before .before .before .before .before .before .before .before .before .before .store .kept .0
 
 -- src/lib.rt:147:1
 returns-4 : tie.Need-returns-4

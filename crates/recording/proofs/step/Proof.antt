@@ -27,7 +27,7 @@ returns c = step-passes (c .before .before .before .before .before .before .befo
 
 -- src/lib.rt:232:13
 whole-requires : tie.Need-whole-requires
-whole-requires c κs = search needs
+whole-requires c κs = c .before .before .before .before .before .before .before .before .before .pre .0
 
 -- src/lib.rt:234:22
 add-to : tie.Need-add-to
@@ -39,19 +39,19 @@ give-requires c κs = c .before .before .before .before .before .whole .ensures 
 
 -- src/lib.rt:236:13
 same-length : tie.Need-same-length
-same-length c = search needs
+same-length c = c .before .before .before .before .before .before .before .before .give .kept .0
 
 -- src/lib.rt:236:13
 same-length-2 : tie.Need-same-length-2
-same-length-2 c = search needs
+same-length-2 c = c .before .before .before .before .before .before .before .before .give .kept .1 .0
 
 -- src/lib.rt:236:13
 same-length-3 : tie.Need-same-length-3
-same-length-3 c = search needs
+same-length-3 c = c .before .before .before .before .before .before .before .before .give .kept .1 .1 .0
 
 -- src/lib.rt:236:13
 same-length-4 : tie.Need-same-length-4
-same-length-4 c = search needs
+same-length-4 c = c .before .before .before .before .before .before .before .before .give .kept .1 .1 .1 .0
 
 -- src/lib.rt:236:13
 returns-2 : tie.Need-returns-2
@@ -59,31 +59,31 @@ returns-2 c = step-gives (c .before .before .before .before .before .before .bef
 
 -- src/lib.rt:239:63
 shared-slice-read-push : tie.Need-shared-slice-read-push
-shared-slice-read-push c = search needs
+shared-slice-read-push c = c .before .before .before .before .before .before .before .before .before .before .before .before .before .before .before .pre .0
 
 -- src/lib.rt:239:9
 push-requires : tie.Need-push-requires
-push-requires c κs = search needs
+push-requires c κs = (c .before .before .before .before .before .before .before .if1 .left, c .before .before .before .before .before .before .before .before .before .before .before .before .before .before .before .pre .1, c .before .before .before .before .before .before .before .before .before .before .before .before .before .before .before .pre .2)
 
 -- src/lib.rt:213:1
 same-length-5 : tie.Need-same-length-5
-same-length-5 c = search needs
+same-length-5 c = c .before .before .before .before .before .before .before .before .before .before .push .kept .0
 
 -- src/lib.rt:213:1
 same-length-6 : tie.Need-same-length-6
-same-length-6 c = search needs
+same-length-6 c = c .before .before .before .before .before .before .before .before .before .before .push .kept .1 .0
 
 -- src/lib.rt:213:1
 same-length-7 : tie.Need-same-length-7
-same-length-7 c = search needs
+same-length-7 c = c .before .before .before .before .before .before .before .before .before .before .push .kept .1 .1 .0
 
 -- src/lib.rt:213:1
 same-length-8 : tie.Need-same-length-8
-same-length-8 c = search needs
+same-length-8 c = c .before .before .before .before .before .before .before .before .before .before .push .kept .1 .1 .1 .0
 
 -- src/lib.rt:213:1
 same-length-9 : tie.Need-same-length-9
-same-length-9 c = search needs
+same-length-9 c = c .before .before .before .before .before .before .before .before .before .before .push .kept .1 .1 .1 .1 .0
 
 -- src/lib.rt:213:1
 returns-3 : tie.Need-returns-3
