@@ -1,0 +1,2 @@
+pub mod ExceptionLaws
+pub mod Laws
