@@ -1,0 +1,3 @@
+pub mod Packet
+pub mod Piece
+pub mod Kept
