@@ -1,0 +1,9 @@
+pub mod Entries
+pub mod Books
+pub mod Alongside
+pub mod Runs
+pub mod Sheets
+pub mod Recordings
+pub mod Copies
+pub mod Seconds
+pub mod SecondCalls

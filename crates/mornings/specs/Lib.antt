@@ -1,0 +1,4 @@
+pub mod Tables
+pub mod Alongside
+pub mod Mornings
+pub mod Seconds
