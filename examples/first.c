@@ -130,7 +130,8 @@ static void print_tables(void) {
 
 static bool one_packet(void) {
     const uint64_t edition = RIMEHEATH_EDITION_1_3_B; /* today's; a packet does not tell its own */
-    uint64_t state[RIMEHEATH_STATE_SIZE], account[RIMEHEATH_ACCOUNT_SIZE], spread[2];
+    uint64_t state[RIMEHEATH_STATE_SIZE], account[RIMEHEATH_ACCOUNT_SIZE], spread[2], updates[1];
+    uint8_t other[RIMEHEATH_PACKET_MOST], none[1]; /* no exceptions, but a pointer all the same */
 
     make_packet();
     if (refused("start", rimeheath_start(edition, orders, ORDERS, symbols, SYMBOLS, shelf, sizeof shelf, finder, INDEX, state)))
@@ -145,6 +146,12 @@ static bool one_packet(void) {
     print_tables();
     if (refused("spread", rimeheath_spread(orders, ORDERS, symbols, SYMBOLS, 7, spread))) return false;
     if (spread[0] == 1) printf("spread %" PRId64 " millionths\n", (int64_t)spread[1]);
+
+    /* The same packet for a class that reads version 1.3, where symbol 7 gets a Security Type: byte 20 of its Symbol Update, and no other. */
+    memcpy(other, packet, used);
+    if (refused_at("convert", rimeheath_convert(RIMEHEATH_EDITION_1_3_B, RIMEHEATH_EDITION_1_3, 'E', none, 0, other, used, updates)))
+        return false;
+    printf("converted to 1.3, with %" PRIu64 " Symbol Update\n", updates[0]);
 
     /* Nine bytes are no packet. A refusal changes nothing, so the receiver could go on. */
     refused_at("a front of the packet",

@@ -21,6 +21,7 @@
  *
  * THE WAY THROUGH. rimeheath_start; then rimeheath_receive for each packet, or rimeheath_open and rimeheath_feed for a recording in chunks
  * of any size; then views (rimeheath_ladder, rimeheath_spread, rimeheath_counts) and rimeheath_sheet, whenever they are wanted.
+ * rimeheath_convert and rimeheath_convert_piece need no receiver.
  *
  * THE INDEX. Orders and symbols are found row by row, or through an index: further memory of RIMEHEATH_INDEX_SIZE numbers that is lent
  * beside the tables. Lend it to the start, which makes it, and then to every packet or chunk of that receiver. With a length of 0 there is
@@ -35,10 +36,11 @@
  * ANSWERS. Every call but rimeheath_cut answers RIMEHEATH_DONE or a refusal, by its number. A refusal changes no byte of what is lent. Any
  * bytes, numbers and lengths may be given: no call asks that anything was checked before.
  *
- * WHICH BYTE. The four calls that read a packet, a record or a body (rimeheath_receive, rimeheath_packet, rimeheath_record, rimeheath_body)
- * answer 32 bits: the number in the low 8, and above it the offset of the first byte at fault in what they were given, packet, record or
+ * WHICH BYTE. The five calls that read a packet, a record or a body (rimeheath_receive, rimeheath_packet, rimeheath_record, rimeheath_body,
+ * rimeheath_convert) answer 32 bits: the number in the low 8, and above it the offset of the first byte at fault in what they were given, packet, record or
  * body. RIMEHEATH_NUMBER and RIMEHEATH_OFFSET take them apart: compare RIMEHEATH_NUMBER(answer) with the refusals below, and not the
- * answer itself. Refusals 2 to 5 have an offset; it is 0 for RIMEHEATH_DONE, 1 and 6.
+ * answer itself. Refusals 2 to 5 have an offset; it is 0 for RIMEHEATH_DONE, 1 and 6, and for the 4 by which
+ * rimeheath_convert refuses a type.
  *
  * POINTERS. What the types of C cannot say, the caller must see to:
  *   - a pointer points to as many elements as its length says, and an array has the size that is written here;
@@ -72,7 +74,9 @@ enum {
     RIMEHEATH_HOLD_LEAST = 1502,   /* bytes of the buffer for an unfinished packet: this many or more */
     RIMEHEATH_PACKET_MOST = 1500,  /* bytes in the longest packet */
     RIMEHEATH_LEVEL_SIZE = 3,      /* numbers in a level of a ladder */
-    RIMEHEATH_SHEET_MOST = 1500000 /* a buffer of this many bytes holds any sheet whole */
+    RIMEHEATH_SHEET_MOST = 1500000, /* a buffer of this many bytes holds any sheet whole */
+    RIMEHEATH_EXCEPTION_SIZE = 13, /* bytes in an exception of a conversion */
+    RIMEHEATH_PIECE_LEAST = 65537  /* a piece of this many bytes of a recording has a whole packet, with its length, in front */
 };
 
 /* ---- editions of the feed's specification; any other number means 1.3.a and 1.3.b too, and is written back as 0 ---- */
@@ -95,7 +99,7 @@ enum {
 };
 /* Where several apply, the first of this order is told: 6; 1; then record by record from the front 2, 5, 3, 4. Of a view: 6, then 30. */
 
-/* ---- number and offset of an answer of the four calls that read ----
+/* ---- number and offset of an answer of the five calls that read ----
  * The offset is, for 2 and 5, where the record starts (with its number); for 3, where the body starts, which is the end of what was given
  * where the body is empty and nothing follows it; for 4, the first byte of the earliest field of the body that is out of range. A bad body
  * has one offset in the body, 10 more in its record, and in its packet as many more as lie before the record. */
@@ -278,6 +282,27 @@ uint32_t rimeheath_record(uint64_t edition, const uint8_t *rest, size_t rest_len
  *    11 Trade Cancel             nanoseconds, symbol, trade, correction, price, size
  */
 uint32_t rimeheath_body(uint64_t edition, const uint8_t *body, size_t body_len, uint64_t fields[8]);
+
+/* ---- converting ---- */
+
+/* Makes a packet of the edition from one of the edition to, in place (docs/CONVERT.md): byte 20 of each Symbol Update becomes its Security
+ * Type where to is RIMEHEATH_EDITION_1_3, and 0 where that byte is reserved. Nothing else changes, and no length. type is the type of every
+ * symbol that no exception names; others is exceptions of RIMEHEATH_EXCEPTION_SIZE bytes each: 0 for a symbol ID or 1 for a ticker, the
+ * name in 11 bytes (of an ID in the first four of them; of a ticker with its trailing spaces), the type. The first that names a symbol
+ * counts; none is a length of 0 (the pointer must still be one). updates[0] becomes the number of Symbol Updates. Refused by 6 where others
+ * is not whole exceptions, by 4 where to is 1.3 and a type is neither 'E' nor 'F', both without an offset; then as rimeheath_packet of the
+ * edition from refuses the packet: by 1, 2, 5, 3, 4, and for the last four with the offset in the packet. */
+uint32_t rimeheath_convert(uint64_t from, uint64_t to, uint8_t type, const uint8_t *others, size_t others_len, uint8_t *packet,
+                           size_t packet_len, uint64_t updates[1]);
+
+/* The same of a recording, a piece at a time: the whole packets at the front of piece, each behind its length in 2 bytes, are made packets of
+ * the edition to, in place; what follows them stays as it is. counts[0] becomes the bytes of those packets with their lengths: hand on as
+ * many, and put the rest in front of the next piece; RIMEHEATH_PIECE_LEAST bytes always have a whole packet. counts[1] becomes the Symbol
+ * Updates that were rewritten, counts[2] the packets that both editions refuse, which are passed on as they are, and counts[3] those that
+ * only the edition from refuses, in which the byte behind the one at fault is made 0, so that the edition to refuses them too. A recording
+ * that was converted comes to the same sheet in the edition to, but for its lines type=. Refused by 6 and 4 alone, as above. */
+uint8_t rimeheath_convert_piece(uint64_t from, uint64_t to, uint8_t type, const uint8_t *others, size_t others_len, uint8_t *piece,
+                                size_t piece_len, uint64_t counts[4]);
 
 #ifdef __cplusplus
 }

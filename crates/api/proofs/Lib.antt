@@ -4,3 +4,4 @@ pub mod Types
 pub mod Chain
 pub mod Streams
 pub mod Codes
+pub mod Converting

@@ -12,6 +12,10 @@ ghost use Rattle.body.specs.Read.{judgeBody, readBody};
 ghost use Rattle.answer_sheet.specs.Sheet.{sheetView};
 ghost use Rattle.recording.specs.Stream.{opened, fed, cut as isCut};
 ghost use Rattle.body.specs.Read.{withOffset};
+ghost use Rattle.retype.specs.Retyped.{asked};
+ghost use Rattle.conversion.specs.Packet.{converted};
+ghost use Rattle.conversion.specs.Piece.{turnedTo};
+ghost use Rattle.api.specs.Conversions.{convertCall, convertAnswer, pieceAnswer};
 ghost use Rattle.api.specs.Calls.{stateIn, accountNumbers, sideAsked, startCall, startAnswer, receiveCall, receiveAnswer, fillCall, ladderAnswer, call, bitsOf, spreadAnswer, countsAnswer, packetAnswer, recordAnswer, wordOf, sheetAnswer};
 ghost use Rattle.api.specs.Streams.{streamNumbers, streamFrom, openAnswer, feedCall, feedAnswer};
 ghost use Rattle.api.specs.Messages.{typeNumber, symbolFields, stateFields, statusFields, clearFields, addFields, modifyFields, deleteFields, executionFields, tradeFields, cancelFields, typed, bodyAnswer};
@@ -21,6 +25,8 @@ use arbitration::Counts;
 use body::Judged;
 use body::Security;
 use book::Clock;
+use conversion::Converted;
+use conversion::Pieced;
 use editions::Edition;
 use fields::AddOrder;
 use fields::Body;
@@ -560,6 +566,53 @@ pub extern "C" fn rimeheath_sheet(
         SheetAnswer::Refused(r) => r.number,
         SheetAnswer::Length(n) => {
             *length = [n as u64];
+            0
+        }
+    }
+}
+
+// Makes a packet of one edition one of another, in place: how many Symbol Updates it has.
+#[no_mangle]
+pub extern "C" fn rimeheath_convert(
+    from: u64,
+    to: u64,
+    kind: u8,
+    others: &[u8],
+    p: &mut [u8],
+    updates: &mut [u64; 1],
+) -> u32
+    ensures { λ r. ⌜ convertCall r (now (p .exit)) (now (updates .exit)) ≡ convertAnswer (converted (editionOf from) (asked (editionOf to) kind (now (others .entry))) (now (p .entry))) (now (updates .entry)) ⌝ }
+{
+    let f = editions::edition_of(from);
+    let t = editions::edition_of(to);
+    match conversion::convert(f, t, kind, others, p) {
+        Converted::Refused(r) => r.number as u32,
+        Converted::Bad(f) => with_offset(f),
+        Converted::Updates(n) => {
+            *updates = [n as u64];
+            0
+        }
+    }
+}
+
+// The same of the whole packets at the front of a piece of a recording: their bytes, and what was counted of them.
+#[no_mangle]
+pub extern "C" fn rimeheath_convert_piece(
+    from: u64,
+    to: u64,
+    kind: u8,
+    others: &[u8],
+    b: &mut [u8],
+    counts: &mut [u64; 4],
+) -> u8
+    ensures { λ r. ⌜ convertCall r (now (b .exit)) (now (counts .exit)) ≡ pieceAnswer (turnedTo (editionOf from) (asked (editionOf to) kind (now (others .entry))) (now (b .entry))) (now (counts .entry)) ⌝ }
+{
+    let f = editions::edition_of(from);
+    let t = editions::edition_of(to);
+    match conversion::convert_piece(f, t, kind, others, b) {
+        Pieced::Refused(r) => r.number,
+        Pieced::Done(n, c) => {
+            *counts = [n as u64, c.updates as u64, c.unread as u64, c.barred as u64];
             0
         }
     }
