@@ -17,6 +17,8 @@ ROOT = os.path.dirname(os.path.dirname(os.path.realpath(__file__)))
 # The program `sheet` says the same of itself; tools/try-command holds them to each other.
 VERSION = "rimeheath 1.0, for DoM 1.3, 1.3.a and 1.3.b\n"
 EDITIONS = ("1.3", "1.3.a", "1.3.b")
+MOST_ID = 4294967295
+MOST_NAMES = 1000
 BLOCK = 65536
 IN_MEMORY = 1 << 26  # longer outputs wait on disk
 
@@ -24,11 +26,14 @@ USAGE = """\
 usage: ./rimeheath sheet   [--edition 1.3|1.3.a|1.3.b] [--progress] [RECORDING]
        ./rimeheath answers [--edition 1.3|1.3.a|1.3.b] [--progress] [RECORDING]
        ./rimeheath read    [--edition 1.3|1.3.a|1.3.b] [--progress] [RECORDING]
+       ./rimeheath convert --to 1.3|1.3.a|1.3.b [--type E|F|NAME=E|NAME=F ..]
+                           [--edition 1.3|1.3.a|1.3.b] [--progress] [RECORDING]
        ./rimeheath --help | --version
 
 sheet    prints the order book that a recording leaves, as an answer sheet
 answers  prints the receiver's answer to each packet, then the tables and views
 read     prints what each packet holds, record by record
+convert  makes of a recording of one edition a recording of the other
 """
 
 COMMON = """
@@ -38,7 +43,8 @@ before it has been read to its end.
 
   --edition   names the edition of the recording: 1.3, where byte 20 of a Symbol
               Update is the security type, 'E' or 'F'; or 1.3.a or 1.3.b, where
-              that byte is reserved, as where no edition is named
+              that byte is reserved, as where no edition is named; but convert
+              takes a recording to be of the other one than --to then
   --progress  tells on standard error how many MB have been read, and how many
               percent where the size is known; a terminal is told unasked, where
               the reading takes longer than a second
@@ -82,11 +88,41 @@ then which record that is, from 1, and what is wrong there. A packet that the
 recording cuts off is left out.
 """
 
-# What each command runs and says of itself, and whether its program prints something of every recording.
+CONVERT = """\
+usage: ./rimeheath convert --to 1.3 --type E|F [--type NAME=E|F ..]
+                           [--edition 1.3|1.3.a|1.3.b] [--progress] [RECORDING]
+       ./rimeheath convert --to 1.3.a|1.3.b
+                           [--edition 1.3|1.3.a|1.3.b] [--progress] [RECORDING]
+
+Prints a recording of one edition as one of the other: byte 20 of each Symbol
+Update becomes its security type, or 0 where it is reserved. Packets that neither
+the recording's edition nor the one wanted takes are passed on unread. From 1.3
+to 1.3.b a packet that only 1.3 refuses is barred: a test indicator becomes 0, so
+that 1.3.b refuses it too. All else stays as it is: each length, and what is cut
+off at the end. Standard error tells how many
+Symbol Updates were rewritten, and how many packets passed on unread or barred.
+
+  --to        names the edition that is wanted
+  --type      is for 1.3: with E or F the type of all symbols, which is wanted
+              once; with a name, = and E or F, that of one symbol, at most 1,000
+              times. A name has 1 to 11 bytes from 33 to 126: one of digits alone
+              is a symbol ID, up to 4294967295, and any other a ticker
+
+A recording is not written over itself, and a shell's > empties a file before
+anything is read: let the output be another file. Where it cannot be written
+whole, or the command is ended by a signal but SIGKILL and SIGQUIT, the file is
+cut back to where the writing began.
+"""
+
+# How much a program prints: something of every recording, perhaps nothing, or as many bytes as the recording has.
+SOMETHING, ANYTHING, AS_MUCH = range(3)
+
+# What each command runs and says of itself, and how much its program prints.
 COMMANDS = {
-    "sheet": ("sheet", SHEET, True),
-    "answers": ("receiving", ANSWERS, True),
-    "read": ("reading", READ, False),
+    "sheet": ("sheet", SHEET, SOMETHING),
+    "answers": ("receiving", ANSWERS, SOMETHING),
+    "read": ("reading", READ, ANYTHING),
+    "convert": ("converting", CONVERT, AS_MUCH),
 }
 
 
@@ -112,14 +148,40 @@ def write_all(fd, data):
         view = view[os.write(fd, view):]
 
 
-# A reader such as head may leave before the end, and then this ends without a word, as other commands do.
+# Where a regular file stands, and where it ends once what is written now is cut off; nothing of a pipe or a terminal.
+def place_of(fd):
+    found = os.fstat(fd)
+    if not stat.S_ISREG(found.st_mode):
+        return None
+    at = os.lseek(fd, 0, os.SEEK_CUR)
+    return at, found.st_size if fcntl.fcntl(fd, fcntl.F_GETFL) & os.O_APPEND else at
+
+
+# Half of what was to be written could be taken for all of it. A signal more must not leave it there.
+def cut_back(fd, place):
+    for number in (signal.SIGINT, signal.SIGTERM, signal.SIGHUP):
+        signal.signal(number, signal.SIG_IGN)
+    if place is None or os.lseek(fd, 0, os.SEEK_CUR) == place[0]:
+        return
+    try:
+        os.ftruncate(fd, place[1])
+        os.lseek(fd, place[0], os.SEEK_SET)
+    except OSError as e:
+        tell(f"rimeheath: standard output has a part, which cannot be cut off: {e.strerror}\n")
+
+
+# A reader such as head may leave before the end, and then this ends without a word, as other commands do. A file gets all or nothing.
 def put(blocks):
     signal.signal(signal.SIGPIPE, signal.SIG_DFL)
+    place = place_of(1)
     try:
         for block in blocks:
             write_all(1, block)
-    except OSError as e:
-        fail(f"standard output: {e.strerror}")
+    except BaseException as e:
+        cut_back(1, place)
+        if isinstance(e, OSError):
+            fail(f"standard output: {e.strerror}")
+        raise
 
 
 # ---- the program behind a command
@@ -291,6 +353,12 @@ def open_recording(path, closed):
     return fd, name, size
 
 
+# Whether standard output is the recording itself: what is written there would be read again, or is gone.
+def is_output(fd):
+    found = os.fstat(fd)
+    return stat.S_ISREG(found.st_mode) and os.path.samestat(found, os.fstat(1))
+
+
 # Passes the recording on to its end; what went wrong, or nothing.
 def feed(fd, name, pipe, progress):
     while True:
@@ -343,6 +411,79 @@ def run(program, words, fd, name, progress, held):
         fail(f"the program was ended by signal {-status}" if status < 0 else f"the program ended with status {status}")
 
 
+# ---- the words
+
+
+# The edition behind a word that may stand once.
+def take_edition(word, command, left, named):
+    if word in named:
+        wrong(f"a second edition: {command} reads one recording" if word == "--edition" else f"a second {word}: {command} makes one recording")
+    edition = next(left, None)
+    if edition is None:
+        wrong(f"no edition is named; try ./rimeheath {command} --help")
+    if edition not in EDITIONS:
+        wrong(f"unknown edition '{edition}': there are {', '.join(EDITIONS)}")
+    named[word] = edition
+    return edition
+
+
+# The type behind --type, of all symbols or of one: `typed` has the names that were given one, and None for all symbols.
+def take_type(left, typed):
+    asked = next(left, None)
+    if asked is None:
+        wrong("no type is named; try ./rimeheath convert --help")
+    name, equals, letter = os.fsencode(asked).rpartition(b"=")
+    if letter not in (b"E", b"F"):
+        wrong(f"unknown type '{asked}': there are E and F, and NAME=E and NAME=F")
+    if not equals:
+        key = None
+    elif not re.fullmatch(rb"[!-~]{1,11}", name) or (name.isdigit() and int(name) > MOST_ID):
+        wrong(f"unknown name in '{asked}': a symbol ID is digits, at most {MOST_ID}, and a ticker 1 to 11 bytes from 33 to 126")
+    else:
+        key = int(name) if name.isdigit() else name
+    if key in typed:
+        wrong("a second type for all symbols" if key is None else f"a second type for one symbol: '{asked}'")
+    typed.add(key)
+    if len(typed - {None}) > MOST_NAMES:
+        wrong(f"more than {MOST_NAMES:,} symbols with a type of their own")
+    return asked
+
+
+# What convert has to be told, once all of its words are there.
+def judge_conversion(to, typed):
+    if to is None:
+        wrong("no --to: which edition is wanted? try ./rimeheath convert --help")
+    if to != "1.3" and typed:
+        wrong(f"a type, and {to} has none: types are for --to 1.3")
+    if to == "1.3" and None not in typed:
+        wrong("no type for all symbols: --to 1.3 takes one, --type E or --type F")
+
+
+# The recording, whether progress is asked for, and the words that the program gets.
+def take_words(command, words, answers):
+    path, asked, passed, named, typed = None, False, [], {}, set()
+    left = iter(words)
+    for word in left:
+        if word in answers:
+            if len(words) > 1:
+                wrong(f"{word} stands alone")
+        elif word == "--progress":
+            asked = True
+        elif word == "--edition" or (word == "--to" and command == "convert"):
+            passed += [word, take_edition(word, command, left, named)]
+        elif word == "--type" and command == "convert":
+            passed += [word, take_type(left, typed)]
+        elif word.startswith("-") or word == "":
+            wrong(f"unknown word '{word}'; try ./rimeheath {command} --help")
+        elif path is not None:
+            wrong(f"a second file, '{word}': {command} reads one recording")
+        else:
+            path = word
+    if command == "convert" and not (words and words[0] in answers):
+        judge_conversion(named.get("--to"), typed)
+    return path, asked, passed
+
+
 def main(words):
     # A standard descriptor that is closed is made a safe one, before something else gets its number.
     closed = set()
@@ -365,28 +506,7 @@ def main(words):
     else:
         wrong(f"unknown word '{first}'; try ./rimeheath --help")
 
-    path, asked, edition = None, False, None
-    left = iter(rest)
-    for word in left:
-        if word in answers:
-            if len(rest) > 1:
-                wrong(f"{word} stands alone")
-        elif word == "--progress":
-            asked = True
-        elif word == "--edition":
-            if edition is not None:
-                wrong(f"a second edition: {first} reads one recording")
-            edition = next(left, None)
-            if edition is None:
-                wrong(f"no edition is named; try ./rimeheath {first} --help")
-            if edition not in EDITIONS:
-                wrong(f"unknown edition '{edition}': there are {', '.join(EDITIONS)}")
-        elif word.startswith("-") or word == "":
-            wrong(f"unknown word '{word}'; try ./rimeheath {first} --help")
-        elif path is not None:
-            wrong(f"a second file, '{word}': {first} reads one recording")
-        else:
-            path = word
+    path, asked, passed = take_words(first, rest, answers)
     if 1 in closed:
         fail("standard output is closed")
     if rest and rest[0] in answers:
@@ -394,11 +514,16 @@ def main(words):
         return
 
     fd, name, size = open_recording(path, closed)
+    if prints == AS_MUCH and is_output(fd):
+        fail("the output is the recording itself")
     make_ready(program)
+    progress = Progress(asked, size)
     with tempfile.SpooledTemporaryFile(IN_MEMORY) as held:
-        run(program, ["--edition", edition] if edition else [], fd, name, Progress(asked, size), held)
-        if prints and held.tell() == 0:
+        run(program, passed, fd, name, progress, held)
+        if prints == SOMETHING and held.tell() == 0:
             sys.exit(1)  # the program has said why
+        if prints == AS_MUCH and held.tell() != progress.read:
+            fail(f"of {progress.read} bytes the program gave {held.tell()}")
         held.seek(0)
         put(iter(lambda: held.read(BLOCK), b""))
 
