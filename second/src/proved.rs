@@ -1,8 +1,9 @@
 //! The proved library, called through its C boundary (`include/rimeheath.h`).
 //!
-//! `lent` has its twelve calls as they are, over memory that the caller lends; `Proved` is a receiver
+//! `lent` has its fourteen calls as they are, over memory that the caller lends; `Proved` is a receiver
 //! with tables of its own, and answers in Rust's forms. All unsafe code of this crate is in `lent`.
 
+use crate::convert::{self, Asked};
 use crate::edition::Edition;
 use crate::index::INDEX_NUMBERS;
 use crate::packet::{Refusal, Side};
@@ -12,9 +13,9 @@ use crate::tables::{ENTRY_BYTES, ROW_NUMBERS};
 /// Enough for any sheet ("1,500,000 bytes always hold it whole").
 pub const SHEET_BYTES: usize = 1_500_000;
 
-/// The twelve calls. Each answers 0 or the number of a refusal, but for `cut`, which answers whether it
-/// is so, and takes any lengths and any bytes. The four that read packets, records and bodies answer 32 bits:
-/// the offset of a refusal stands above its number (`taken_apart`).
+/// The fourteen calls. Each answers 0 or the number of a refusal, but for `cut`, which answers whether it
+/// is so, and takes any lengths and any bytes. The four that read packets, records and bodies, and the one that
+/// converts a packet, answer 32 bits: the offset of a refusal stands above its number (`taken_apart`).
 ///
 /// What the header asks of its callers beyond the types of C holds for all of them by Rust's types:
 /// a slice's pointer is never null and points to as many elements as its length says, an array
@@ -128,6 +129,26 @@ pub mod lent {
             chunk_len: usize,
         ) -> u8;
         fn rimeheath_cut(stream: *const Stream) -> bool;
+        fn rimeheath_convert(
+            from: u64,
+            to: u64,
+            kind: c_uchar,
+            others: *const c_uchar,
+            others_len: usize,
+            packet: *mut c_uchar,
+            packet_len: usize,
+            updates: *mut [u64; 1],
+        ) -> u32;
+        fn rimeheath_convert_piece(
+            from: u64,
+            to: u64,
+            kind: c_uchar,
+            others: *const c_uchar,
+            others_len: usize,
+            piece: *mut c_uchar,
+            piece_len: usize,
+            counts: *mut [u64; 4],
+        ) -> u8;
     }
 
     pub fn start(
@@ -318,6 +339,54 @@ pub mod lent {
     pub fn cut(stream: &Stream) -> bool {
         // SAFETY: the stream is only read.
         unsafe { rimeheath_cut(stream) }
+    }
+
+    pub fn convert(
+        from: u64,
+        to: u64,
+        kind: u8,
+        others: &[u8],
+        packet: &mut [u8],
+        updates: &mut [u64; 1],
+    ) -> u32 {
+        // SAFETY: each pointer comes with its own slice's length; the exceptions are only read, and
+        // the two `&mut` are apart from them and from each other.
+        unsafe {
+            rimeheath_convert(
+                from,
+                to,
+                kind,
+                others.as_ptr(),
+                others.len(),
+                packet.as_mut_ptr(),
+                packet.len(),
+                updates,
+            )
+        }
+    }
+
+    pub fn convert_piece(
+        from: u64,
+        to: u64,
+        kind: u8,
+        others: &[u8],
+        piece: &mut [u8],
+        counts: &mut [u64; 4],
+    ) -> u8 {
+        // SAFETY: each pointer comes with its own slice's length; the exceptions are only read, and
+        // the two `&mut` are apart from them and from each other.
+        unsafe {
+            rimeheath_convert_piece(
+                from,
+                to,
+                kind,
+                others.as_ptr(),
+                others.len(),
+                piece.as_mut_ptr(),
+                piece.len(),
+                counts,
+            )
+        }
     }
 }
 
@@ -534,6 +603,35 @@ pub fn body(edition: Edition, body: &[u8]) -> Result<Fields, Refusal> {
     let mut fields = [0; 8];
     refused(lent::body(edition.number(), body, &mut fields))?;
     Ok(Fields(fields))
+}
+
+/// A packet of one edition made one of another, in place: how many Symbol Updates it has. A field of a packet lies behind
+/// a header and a type byte, so that 4 with the offset 0 is of the types that are asked for, and stands alone.
+pub fn convert(asked: &Asked, packet: &mut [u8]) -> Result<u64, Refusal> {
+    let (from, to) = (asked.from.number(), asked.to.number());
+    let mut updates = [0];
+    let answer = lent::convert(from, to, asked.kind, &asked.others, packet, &mut updates);
+    match refused(answer) {
+        Ok(()) => Ok(updates[0]),
+        Err(refusal) if refusal == Refusal::at(4, 0) => Err(Refusal::alone(4)),
+        Err(refusal) => Err(refusal),
+    }
+}
+
+/// A piece of a recording, in place, or 6 or 4.
+pub fn convert_piece(asked: &Asked, piece: &mut [u8]) -> Result<convert::Counts, u8> {
+    let (from, to) = (asked.from.number(), asked.to.number());
+    let mut counts = [0; 4];
+    let answer = lent::convert_piece(from, to, asked.kind, &asked.others, piece, &mut counts);
+    match (answer, counts) {
+        (0, [bytes, updates, unread, barred]) => Ok(convert::Counts {
+            bytes,
+            updates,
+            unread,
+            barred,
+        }),
+        (number, _) => Err(number),
+    }
 }
 
 /// A receiver of the proved library with its tables, which may be altered at will between calls:

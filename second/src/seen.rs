@@ -1,11 +1,12 @@
-//! Which faults the refused packets of a run had, and where, and what searches through an index met, so that a run
-//! can say that it tried them all.
+//! Which faults the refused packets of a run had, and where, what searches through an index met, and what became of
+//! what was converted, so that a run can say that it tried them all.
 
 use crate::book::Search;
+use crate::convert::{Asked, Counts, BY_ID, BY_TICKER, EXCEPTION_BYTES};
 use crate::desk::Desk;
 use crate::edition::Edition;
 use crate::index::*;
-use crate::morning::mend_field;
+use crate::morning::{mend_field, updates_in};
 use crate::packet::*;
 use crate::reading::{first_fault, message_name, Fault, JUDGED_FIELDS};
 use crate::receiver::Answer;
@@ -316,6 +317,157 @@ impl Searches {
             seen.push((what, count));
         }
         seen
+    }
+}
+
+/// What conversions were asked for, and what came of them (docs/CONVERT.md).
+const CONVERSIONS: [&str; 29] = [
+    // What is asked for of a packet, refused before anything else.
+    "a packet, 6",
+    "a packet, 6 before 4",
+    "a packet, 6 before its own refusal",
+    "a packet, 4 for the type of all",
+    "a packet, 4 for an exception alone",
+    "a packet, 4 before its own refusal",
+    // Packets.
+    "a packet refused with 1",
+    "a packet refused with 2",
+    "a packet refused with 3",
+    "a packet refused with 4",
+    "a packet refused with 5",
+    "a packet with no Symbol Update",
+    "a packet with one Symbol Update",
+    "a packet with several Symbol Updates",
+    // Pieces of recordings.
+    "a piece, 6",
+    "a piece, 4",
+    "a piece without a whole packet",
+    "a piece with Symbol Updates",
+    "a piece with packets passed on unread",
+    "a piece with barred packets",
+    // What gave a Symbol Update its type.
+    "an exception by ID",
+    "an exception by ticker",
+    "an exception before a later one",
+    "a mark by which a name names none",
+    "a name but for its last byte",
+    "no exception among several",
+    // Edition numbers other than 0 and 1, and what a receiver answered otherwise afterwards.
+    "from another number",
+    "to another number",
+    "a differing copy that is a repeat then",
+];
+
+#[derive(Clone, Debug, Default, PartialEq, Eq)]
+pub struct Conversions([u64; CONVERSIONS.len()]);
+
+impl Conversions {
+    /// Something of `CONVERSIONS`, by its name, so many times.
+    pub fn note(&mut self, what: &str, times: u64) {
+        let place = CONVERSIONS.iter().position(|known| *known == what);
+        self.0[place.expect("one of CONVERSIONS")] += times;
+    }
+
+    /// The edition numbers that a conversion was asked for with.
+    pub fn note_numbers(&mut self, from: u64, to: u64) {
+        self.note("from another number", u64::from(from > 1));
+        self.note("to another number", u64::from(to > 1));
+    }
+
+    /// A packet as it was, and what was answered.
+    pub fn note_packet(&mut self, asked: &Asked, packet: &[u8], answer: &Result<u64, Refusal>) {
+        match answer {
+            Err(refusal) if asked.judged() == Err(refusal.number) => {
+                self.note_wrongly_asked(asked, packet, refusal.number);
+            }
+            Err(refusal) => self.note(&format!("a packet refused with {}", refusal.number), 1),
+            Ok(updates) => {
+                let what = match updates {
+                    0 => "a packet with no Symbol Update",
+                    1 => "a packet with one Symbol Update",
+                    _ => "a packet with several Symbol Updates",
+                };
+                self.note(what, 1);
+                self.note_types(asked, packet);
+            }
+        }
+    }
+
+    fn note_wrongly_asked(&mut self, asked: &Asked, packet: &[u8], number: u8) {
+        let bad = read_packet(asked.from, packet).is_err();
+        let good_kind = b"EF".contains(&asked.kind);
+        if number == 6 {
+            let bad_kind = asked.to.has_security_type() && !good_kind;
+            self.note("a packet, 6", 1);
+            self.note("a packet, 6 before 4", bad_kind.into());
+            self.note("a packet, 6 before its own refusal", bad.into());
+        } else {
+            self.note("a packet, 4 for the type of all", (!good_kind).into());
+            self.note("a packet, 4 for an exception alone", good_kind.into());
+            self.note("a packet, 4 before its own refusal", bad.into());
+        }
+    }
+
+    /// What gave the Symbol Updates of a packet that is rewritten their types.
+    fn note_types(&mut self, asked: &Asked, packet: &[u8]) {
+        if !asked.to.has_security_type() {
+            return;
+        }
+        for place in updates_in(packet) {
+            let update = &packet[place..];
+            let exception = asked.exception_of(update);
+            match exception.map(|exception| exception[0]) {
+                Some(BY_ID) => self.note("an exception by ID", 1),
+                Some(BY_TICKER) => self.note("an exception by ticker", 1),
+                _ => {
+                    let several = asked.others.len() > EXCEPTION_BYTES;
+                    self.note("no exception among several", several.into());
+                }
+            }
+            let (id, ticker) = (&update[5..9], &update[9..20]);
+            let mut named = 0;
+            for other in asked.others.chunks(EXCEPTION_BYTES) {
+                let (by_id, by_ticker) = (other[1..5] == *id, other[1..12] == *ticker);
+                let (one, nearly) = match other[0] {
+                    BY_ID => (by_id, !by_id && other[1..4] == id[..3]),
+                    BY_TICKER => (by_ticker, !by_ticker && other[1..11] == ticker[..10]),
+                    _ => (false, false),
+                };
+                named += u64::from(one);
+                let last = "a name but for its last byte";
+                self.note(last, nearly.into());
+                let none = other[0] > BY_TICKER && (by_id || by_ticker);
+                self.note("a mark by which a name names none", none.into());
+            }
+            let before = u64::from(named > 1);
+            self.note("an exception before a later one", before);
+        }
+    }
+
+    /// A piece and what was answered.
+    pub fn note_piece(&mut self, answer: &Result<Counts, u8>) {
+        match answer {
+            Err(number) => self.note(&format!("a piece, {number}"), 1),
+            Ok(counts) => {
+                let none = u64::from(counts.bytes == 0);
+                self.note("a piece without a whole packet", none);
+                let some = |count: u64| u64::from(count > 0);
+                self.note("a piece with Symbol Updates", some(counts.updates));
+                self.note("a piece with packets passed on unread", some(counts.unread));
+                self.note("a piece with barred packets", some(counts.barred));
+            }
+        }
+    }
+
+    pub fn add(&mut self, other: &Conversions) {
+        add_each(&mut self.0, &other.0);
+    }
+
+    /// All that a long run must have seen, and how often this one has.
+    pub fn seen(&self) -> Vec<(String, u64)> {
+        let seen = CONVERSIONS.iter().zip(self.0);
+        seen.map(|(what, count)| (format!("converted, {what}"), count))
+            .collect()
     }
 }
 

@@ -2,6 +2,7 @@
 //! all, and whatever one program answers or writes, the other must too, byte for byte. What a call has no business with is
 //! filled with a mark first, so that a stray write shows.
 
+use crate::convert::{self, Asked, Counts};
 use crate::desk::{Desk, MARK, MARK_BYTE};
 use crate::edition::{Edition, BYTE_20};
 use crate::index::{HINTS, INDEX_NUMBERS, USED};
@@ -9,7 +10,7 @@ use crate::morning::{differ_in_undefined_bits_alone, set_timestamp, Dice};
 use crate::packet::*;
 use crate::proved::{lent, taken_apart, Proved, SHEET_BYTES};
 use crate::receiver::{filled_slot, slot, slot_number, Answer, State, SLOTS, SLOT_BYTES};
-use crate::seen::{add_each, claimed_body, Faults, Searches};
+use crate::seen::{add_each, claimed_body, Conversions, Faults, Searches};
 use crate::sheet::sheet;
 use crate::stream::Stream;
 use crate::tables::*;
@@ -86,6 +87,8 @@ pub struct Tally {
     pub widest_spreads: [u64; 2],
     /// What the engine with the index met (request 9).
     pub searches: Searches,
+    /// What was made the other edition's.
+    pub conversions: Conversions,
 }
 
 impl Tally {
@@ -121,6 +124,7 @@ impl Tally {
         self.largest_levels += other.largest_levels;
         add_each(&mut self.widest_spreads, &other.widest_spreads);
         self.searches.add(&other.searches);
+        self.conversions.add(&other.conversions);
     }
 
     /// A call, by its name in `EDITION_CALLS`, that was given this edition number.
@@ -201,7 +205,50 @@ impl Tally {
             seen.push((what.to_string(), count));
         }
         seen.extend(self.searches.seen());
+        seen.extend(self.conversions.seen());
         seen
+    }
+}
+
+/// What is asked for of a conversion, in the boundary's numbers.
+#[derive(Clone, Debug)]
+pub struct Wanted {
+    pub from: u64,
+    pub to: u64,
+    pub kind: u8,
+    pub others: Vec<u8>,
+}
+
+impl Wanted {
+    pub fn asked(&self) -> Asked {
+        Asked {
+            from: Edition::of_number(self.from),
+            to: Edition::of_number(self.to),
+            kind: self.kind,
+            others: self.others.clone(),
+        }
+    }
+}
+
+/// Bytes between marks, which no call is to write.
+struct Framed(Vec<u8>);
+
+impl Framed {
+    const MARKS: usize = 32;
+
+    fn new(bytes: &[u8]) -> Framed {
+        let marks = [MARK_BYTE; Framed::MARKS];
+        Framed([&marks, bytes, &marks].concat())
+    }
+
+    fn bytes(&mut self) -> &mut [u8] {
+        let end = self.0.len() - Framed::MARKS;
+        &mut self.0[Framed::MARKS..end]
+    }
+
+    /// Whether these stand between the marks, and the marks as they were.
+    fn has(&self, call: &str, what: &str, bytes: &[u8]) -> Result<(), Difference> {
+        same_runs(call, what, &self.0, &Framed::new(bytes).0, 1)
     }
 }
 
@@ -782,6 +829,59 @@ impl Twins {
         }
     }
 
+    /// A packet made one of another edition by both: the answer, every byte of it, and nothing beside it. The converted
+    /// packet, or the refused one as it was, stands beside the answer.
+    pub fn convert(
+        &mut self,
+        wanted: &Wanted,
+        packet: &[u8],
+    ) -> Result<(Result<u64, Refusal>, Vec<u8>), Difference> {
+        let (from, to, kind) = (wanted.from, wanted.to, wanted.kind);
+        let (mut others, mut framed) = (Framed::new(&wanted.others), Framed::new(packet));
+        let mut updates = [MARK];
+        let (lent_others, lent_packet) = (others.bytes(), framed.bytes());
+        let told = lent::convert(from, to, kind, lent_others, lent_packet, &mut updates);
+        let asked = wanted.asked();
+        let mut converted = packet.to_vec();
+        let answer = convert::convert(&asked, &mut converted);
+        let wanted_updates = *answer.as_ref().unwrap_or(&MARK);
+        same_refusal("convert: number and offset", told, &answer)?;
+        same("convert: Symbol Updates", &updates, &[wanted_updates])?;
+        framed.has("convert", "byte", &converted)?;
+        others.has("convert", "byte of the exceptions", &wanted.others)?;
+        let seen = &mut self.tally.conversions;
+        seen.note_numbers(from, to);
+        seen.note_packet(&asked, packet, &answer);
+        Ok((answer, converted))
+    }
+
+    /// The same of a piece of a recording.
+    pub fn convert_piece(
+        &mut self,
+        wanted: &Wanted,
+        piece: &[u8],
+    ) -> Result<(Result<Counts, u8>, Vec<u8>), Difference> {
+        let (from, to, kind) = (wanted.from, wanted.to, wanted.kind);
+        let (mut others, mut framed) = (Framed::new(&wanted.others), Framed::new(piece));
+        let mut counts = [MARK; 4];
+        let (lent_others, lent_piece) = (others.bytes(), framed.bytes());
+        let number = lent::convert_piece(from, to, kind, lent_others, lent_piece, &mut counts);
+        let mut converted = piece.to_vec();
+        let answer = convert::convert_piece(&wanted.asked(), &mut converted);
+        let (wanted_number, wanted_counts) = match answer {
+            Err(number) => (number, [MARK; 4]),
+            Ok(told) => (0, [told.bytes, told.updates, told.unread, told.barred]),
+        };
+        same("convert a piece: answer", &number, &wanted_number)?;
+        same("convert a piece: counts", &counts, &wanted_counts)?;
+        framed.has("convert a piece", "byte", &converted)?;
+        others.has("convert a piece", "byte of the exceptions", &wanted.others)?;
+        let seen = &mut self.tally.conversions;
+        seen.note_numbers(from, to);
+        seen.note_piece(&answer);
+        Ok((answer, converted))
+    }
+
     /// Counts, and the ladders and the spread of a few symbols, known and unknown.
     pub fn views(&mut self, dice: &mut Dice) -> Result<(), Difference> {
         self.counts()?;
@@ -900,6 +1000,19 @@ impl Twins {
             self.sheet_in(length as usize, bad, whole, &wanted)?;
         }
         Ok(())
+    }
+
+    /// The sheet with the packets that were bad, of both, as text.
+    pub fn sheet_text(&mut self, whole: bool) -> Result<String, Difference> {
+        let (bad, desk) = (self.bad, &self.scanning.second);
+        let wanted = sheet(desk.state, &desk.orders, &desk.symbols, bad, whole);
+        self.note_sheet(&wanted);
+        let length = wanted.as_ref().map_or(0, Vec::len);
+        self.sheet_in(length, bad, whole, &wanted)?;
+        match wanted {
+            Ok(text) => Ok(shown(&text)),
+            Err(number) => Err(format!("a sheet refused with {number}")),
+        }
     }
 
     fn note_sheet(&mut self, wanted: &Result<Vec<u8>, u8>) {

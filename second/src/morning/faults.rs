@@ -175,6 +175,14 @@ pub fn bad_security_type(dice: &mut Dice) -> u8 {
     }
 }
 
+/// Each half the time a Security Type and another byte.
+pub fn some_byte_20(dice: &mut Dice) -> u8 {
+    match dice.below(2) {
+        0 => dice.pick(b"EF"),
+        _ => bad_security_type(dice),
+    }
+}
+
 /// Puts the judged field at this offset of a body into its range.
 pub fn mend_field(body: &mut [u8], at: usize) {
     match (body[0], at) {

@@ -2,10 +2,11 @@
 //! so that a failing seed can be run again. All chances are in 1,000.
 //!
 //! `dice` is what is drawn from, `messages` has bodies, records, packets and recordings, `lists` makes
-//! lists of well-formed messages, `delivery` their packets, `faults` bad packets, and `damage` alters
-//! tables, shelves and states.
+//! lists of well-formed messages, `delivery` their packets, `faults` bad packets, `conversions` what the
+//! other edition is made of, and `damage` alters tables, shelves and states.
 
 mod collisions;
+mod conversions;
 mod damage;
 mod delivery;
 mod dice;
@@ -14,6 +15,7 @@ mod lists;
 mod messages;
 
 pub use collisions::*;
+pub use conversions::*;
 pub use damage::*;
 pub use delivery::*;
 pub use dice::Dice;

@@ -34,14 +34,6 @@ fn good(number: u64, byte: u8) -> bool {
     number != 1 || byte == b'E' || byte == b'F'
 }
 
-/// Each half the time a Security Type and another byte.
-fn some_byte_20(dice: &mut Dice) -> u8 {
-    match dice.below(2) {
-        0 => dice.pick(b"EF"),
-        _ => bad_security_type(dice),
-    }
-}
-
 /// A Symbol Update with this byte 20.
 fn update_with(symbol: u32, byte: u8) -> Vec<u8> {
     let mut body = symbol_update(3, symbol, b"TYPED      ", 100);

@@ -2,6 +2,7 @@
 //! of its seed alone, the edition of its receivers too. A scenario makes calls of `Twins`, which compares.
 
 mod callers;
+mod conversions;
 mod editions;
 mod indexes;
 mod mornings;
@@ -32,7 +33,7 @@ const fn scenario(
     Scenario { name, weight, run }
 }
 
-pub const SCENARIOS: [Scenario; 25] = [
+pub const SCENARIOS: [Scenario; 26] = [
     scenario("morning", 60, mornings::morning),
     scenario("rules", 60, mornings::rules),
     scenario("small-tables", 50, mornings::small_tables),
@@ -51,6 +52,7 @@ pub const SCENARIOS: [Scenario; 25] = [
     scenario("timestamps", 20, timestamps::timestamps),
     scenario("offsets", 20, offsets::offsets),
     scenario("editions", 30, editions::editions),
+    scenario("converted", 22, conversions::converted),
     scenario("pieces", 40, pieces::pieces),
     scenario("long-pieces", 1, pieces::long_pieces),
     scenario("altered-index", 80, indexes::altered_index),
