@@ -6,7 +6,7 @@ use Rattle.api.proofs.bits_of.Statement.{statement}
 use Rattle.api.proofs.bits_of.Tie as tie
 
 magnitude-requires : tie.Need-magnitude-requires
-magnitude-requires c κs = search needs
+magnitude-requires c κs = tt
 
 sub-result : tie.Need-sub-result
 sub-result c = some-away _ (c .before .before .fits .n) _ (c .before .magnitude .ensures) (c .if1 .taken)

@@ -17,70 +17,70 @@ enum-told : tie.Need-enum-told
 enum-told c = search needs
 
 symbol-of-requires : tie.Need-symbol-of-requires
-symbol-of-requires c κs = search needs
+symbol-of-requires c κs = tt
 
 security-in-requires : tie.Need-security-in-requires
-security-in-requires c κs = search needs
+security-in-requires c κs = tt
 
 symbol-fields-requires : tie.Need-symbol-fields-requires
-symbol-fields-requires c κs = search needs
+symbol-fields-requires c κs = tt
 
 enum-told-2 : tie.Need-enum-told-2
 enum-told-2 c = search needs
 
 state-of-requires : tie.Need-state-of-requires
-state-of-requires c κs = search needs
+state-of-requires c κs = tt
 
 state-fields-requires : tie.Need-state-fields-requires
-state-fields-requires c κs = search needs
+state-fields-requires c κs = tt
 
 enum-known-m-2 : tie.Need-enum-known-m-2
 enum-known-m-2 c = search needs
 
 status-fields-requires : tie.Need-status-fields-requires
-status-fields-requires c κs = search needs
+status-fields-requires c κs = tt
 
 enum-known-m-3 : tie.Need-enum-known-m-3
 enum-known-m-3 c = search needs
 
 clear-fields-requires : tie.Need-clear-fields-requires
-clear-fields-requires c κs = search needs
+clear-fields-requires c κs = tt
 
 enum-known-m-4 : tie.Need-enum-known-m-4
 enum-known-m-4 c = search needs
 
 add-fields-requires : tie.Need-add-fields-requires
-add-fields-requires c κs = search needs
+add-fields-requires c κs = tt
 
 enum-known-m-5 : tie.Need-enum-known-m-5
 enum-known-m-5 c = search needs
 
 modify-fields-requires : tie.Need-modify-fields-requires
-modify-fields-requires c κs = search needs
+modify-fields-requires c κs = tt
 
 enum-known-m-6 : tie.Need-enum-known-m-6
 enum-known-m-6 c = search needs
 
 delete-fields-requires : tie.Need-delete-fields-requires
-delete-fields-requires c κs = search needs
+delete-fields-requires c κs = tt
 
 enum-known-m-7 : tie.Need-enum-known-m-7
 enum-known-m-7 c = search needs
 
 execution-fields-requires : tie.Need-execution-fields-requires
-execution-fields-requires c κs = search needs
+execution-fields-requires c κs = tt
 
 enum-known-m-8 : tie.Need-enum-known-m-8
 enum-known-m-8 c = search needs
 
 trade-fields-requires : tie.Need-trade-fields-requires
-trade-fields-requires c κs = search needs
+trade-fields-requires c κs = tt
 
 enum-known-m-9 : tie.Need-enum-known-m-9
 enum-known-m-9 c = search needs
 
 cancel-fields-requires : tie.Need-cancel-fields-requires
-cancel-fields-requires c κs = search needs
+cancel-fields-requires c κs = tt
 
 enum-told-3 : tie.Need-enum-told-3
 enum-told-3 c = search needs

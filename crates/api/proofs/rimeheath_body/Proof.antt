@@ -9,10 +9,10 @@ use Rattle.api.proofs.rimeheath_body.Statement.{statement}
 use Rattle.api.proofs.rimeheath_body.Tie as tie
 
 edition-of-requires : tie.Need-edition-of-requires
-edition-of-requires c κs = search needs
+edition-of-requires c κs = tt
 
 judge-body-requires : tie.Need-judge-body-requires
-judge-body-requires c κs = search needs
+judge-body-requires c κs = tt
 
 enum-known-f : tie.Need-enum-known-f
 enum-known-f c = search needs
@@ -24,16 +24,16 @@ enum-known-k : tie.Need-enum-known-k
 enum-known-k c = search needs
 
 decode-requires : tie.Need-decode-requires
-decode-requires c κs = search needs
+decode-requires c κs = tt
 
 u8-at-requires : tie.Need-u8-at-requires
-u8-at-requires c κs = search needs
+u8-at-requires c κs = tt
 
 cast-fields-of : tie.Need-cast-fields-of
 cast-fields-of c = search needs
 
 fields-of-requires : tie.Need-fields-of-requires
-fields-of-requires c κs = search needs
+fields-of-requires c κs = tt
 
 returns : tie.Need-returns
 returns c = rw (← c .before .before .before .before .before .edition-of .ensures) (body-refused _ _ _ _ (c .before .before .before .before .judge-body .ensures) _ (c .before .before .f .given .1) _ (c .with-offset .ensures))

@@ -8,7 +8,7 @@ use Rattle.api.proofs.rimeheath_counts.Statement.{statement}
 use Rattle.api.proofs.rimeheath_counts.Tie as tie
 
 counts-requires : tie.Need-counts-requires
-counts-requires c κs = search needs
+counts-requires c κs = tt
 
 enum-known-r : tie.Need-enum-known-r
 enum-known-r c = search needs

@@ -2,15 +2,14 @@
 -- Assumes nothing.
 use mathlib.Core.Path.{ap, _∙_}
 use Rattle.recording.specs.Stream.{cut}
-use borrow.Author.Needs.{needs}
 use Rattle.api.proofs.rimeheath_cut.Statement.{statement}
 use Rattle.api.proofs.rimeheath_cut.Tie as tie
 
 stream-from-requires : tie.Need-stream-from-requires
-stream-from-requires c κs = search needs
+stream-from-requires c κs = tt
 
 is-cut-requires : tie.Need-is-cut-requires
-is-cut-requires c κs = search needs
+is-cut-requires c κs = tt
 
 returns : tie.Need-returns
 returns c = c .is-cut .ensures ∙ ap cut (c .before .stream-from .ensures)

@@ -14,11 +14,11 @@ use Rattle.recording.proofs.feed.Reads as feed-reads
 
 -- src/lib.rt:232:9
 stream-from-requires : tie.Need-stream-from-requires
-stream-from-requires c κs = search needs
+stream-from-requires c κs = tt
 
 -- src/lib.rt:226:11
 feed-requires : tie.Need-feed-requires
-feed-requires c κs = search needs
+feed-requires c κs = tt
 
 -- src/lib.rt:235:22
 enum-known-r : tie.Need-enum-known-r
@@ -30,27 +30,27 @@ enum-known-k c = search needs
 
 -- src/lib.rt:237:23
 stream-numbers-requires : tie.Need-stream-numbers-requires
-stream-numbers-requires c κs = search needs
+stream-numbers-requires c κs = tt
 
 -- src/lib.rt:214:1
 same-length : tie.Need-same-length
-same-length c = search needs
+same-length c = c .before .before .before .before .before .before .before .before .before .before .before .before .before .feed .kept .0
 
 -- src/lib.rt:214:1
 same-length-2 : tie.Need-same-length-2
-same-length-2 c = search needs
+same-length-2 c = c .before .before .before .before .before .before .before .before .before .before .before .before .before .feed .kept .1 .0
 
 -- src/lib.rt:214:1
 same-length-3 : tie.Need-same-length-3
-same-length-3 c = search needs
+same-length-3 c = c .before .before .before .before .before .before .before .before .before .before .before .before .before .feed .kept .1 .1 .0
 
 -- src/lib.rt:214:1
 same-length-4 : tie.Need-same-length-4
-same-length-4 c = search needs
+same-length-4 c = c .before .before .before .before .before .before .before .before .before .before .before .before .before .feed .kept .1 .1 .1 .0
 
 -- src/lib.rt:214:1
 same-length-5 : tie.Need-same-length-5
-same-length-5 c = search needs
+same-length-5 c = c .before .before .before .before .before .before .before .before .before .before .before .before .before .feed .kept .1 .1 .1 .1 .0
 
 -- src/lib.rt:214:1
 returns : tie.Need-returns
@@ -59,23 +59,23 @@ returns c = feed-handed _ _ _ _ _ _ _ (rw (c .before .before .before .before .be
 
 -- src/lib.rt:214:1
 same-length-6 : tie.Need-same-length-6
-same-length-6 c = search needs
+same-length-6 c = c .before .before .before .before .before .before .before .before .before .before .before .before .before .before .feed .kept .0
 
 -- src/lib.rt:214:1
 same-length-7 : tie.Need-same-length-7
-same-length-7 c = search needs
+same-length-7 c = c .before .before .before .before .before .before .before .before .before .before .before .before .before .before .feed .kept .1 .0
 
 -- src/lib.rt:214:1
 same-length-8 : tie.Need-same-length-8
-same-length-8 c = search needs
+same-length-8 c = c .before .before .before .before .before .before .before .before .before .before .before .before .before .before .feed .kept .1 .1 .0
 
 -- src/lib.rt:214:1
 same-length-9 : tie.Need-same-length-9
-same-length-9 c = search needs
+same-length-9 c = c .before .before .before .before .before .before .before .before .before .before .before .before .before .before .feed .kept .1 .1 .1 .0
 
 -- src/lib.rt:214:1
 same-length-10 : tie.Need-same-length-10
-same-length-10 c = search needs
+same-length-10 c = c .before .before .before .before .before .before .before .before .before .before .before .before .before .before .feed .kept .1 .1 .1 .1 .0
 
 -- src/lib.rt:214:1
 returns-2 : tie.Need-returns-2

@@ -8,10 +8,10 @@ use Rattle.api.proofs.rimeheath_ladder.Statement.{statement}
 use Rattle.api.proofs.rimeheath_ladder.Tie as tie
 
 side-asked-requires : tie.Need-side-asked-requires
-side-asked-requires c κs = search needs
+side-asked-requires c κs = tt
 
 ladder-requires : tie.Need-ladder-requires
-ladder-requires c κs = search needs
+ladder-requires c κs = tt
 
 enum-known-r : tie.Need-enum-known-r
 enum-known-r c = search needs
@@ -20,14 +20,14 @@ enum-known-n : tie.Need-enum-known-n
 enum-known-n c = search needs
 
 same-length : tie.Need-same-length
-same-length c = search needs
+same-length c = c .before .before .before .before .before .ladder .kept .1 .1 .1 .1 .0
 
 returns : tie.Need-returns
 unfolding ladderAnswer ladderNumber
 returns c = ladder-handed _ _ (c .before .r .given .1) _ _ (rw (c .before .before .before .before .before .before .before .side-asked .ensures) at (c .before .before .before .before .before .ladder .ensures)) (c .before .before .before .before .before .before .before .before .before .before .before .args .levels .now)
 
 same-length-2 : tie.Need-same-length-2
-same-length-2 c = search needs
+same-length-2 c = c .before .before .before .before .before .before .ladder .kept .1 .1 .1 .1 .0
 
 returns-2 : tie.Need-returns-2
 unfolding ladderAnswer ladderNumber

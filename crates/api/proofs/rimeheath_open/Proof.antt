@@ -1,18 +1,17 @@
 -- The opened stream is told as its numbers.
 -- Assumes nothing.
 use Rattle.api.proofs.Streams.{open-handed}
-use borrow.Author.Needs.{needs}
 use Rattle.api.proofs.rimeheath_open.Statement.{statement}
 use Rattle.api.proofs.rimeheath_open.Tie as tie
 
 state-in-requires : tie.Need-state-in-requires
-state-in-requires c κs = search needs
+state-in-requires c κs = tt
 
 open-requires : tie.Need-open-requires
-open-requires c κs = search needs
+open-requires c κs = tt
 
 stream-numbers-requires : tie.Need-stream-numbers-requires
-stream-numbers-requires c κs = search needs
+stream-numbers-requires c κs = tt
 
 returns : tie.Need-returns
 returns c = open-handed _ _ (rw (c .before .before .state-in .ensures) at (c .before .«open» .ensures)) _ (c .stream-numbers .ensures)

@@ -10,10 +10,10 @@ use Rattle.api.proofs.rimeheath_packet.Statement.{statement}
 use Rattle.api.proofs.rimeheath_packet.Tie as tie
 
 edition-of-requires : tie.Need-edition-of-requires
-edition-of-requires c κs = search needs
+edition-of-requires c κs = tt
 
 read-packet-requires : tie.Need-read-packet-requires
-read-packet-requires c κs = search needs
+read-packet-requires c κs = tt
 
 enum-known-r : tie.Need-enum-known-r
 enum-known-r c = search needs

@@ -20,11 +20,11 @@ use Rattle.receiver.proofs.receive.Reads as receive-reads
 
 -- src/lib.rt:137:62
 state-in-requires : tie.Need-state-in-requires
-state-in-requires c κs = search needs
+state-in-requires c κs = tt
 
 -- src/lib.rt:137:9
 receive-requires : tie.Need-receive-requires
-receive-requires c κs = search needs
+receive-requires c κs = tt
 
 -- src/lib.rt:141:27
 enum-known-answer : tie.Need-enum-known-answer
@@ -48,27 +48,27 @@ enum-known-answer-3 c = search needs
 
 -- src/lib.rt:144:22
 state-numbers-requires : tie.Need-state-numbers-requires
-state-numbers-requires c κs = search needs
+state-numbers-requires c κs = tt
 
 -- src/lib.rt:145:24
 account-numbers-requires : tie.Need-account-numbers-requires
-account-numbers-requires c κs = search needs
+account-numbers-requires c κs = tt
 
 -- src/lib.rt:125:1
 same-length : tie.Need-same-length
-same-length c = search needs
+same-length c = c .before .before .before .before .before .before .before .before .before .before .before .before .before .receive .kept .0
 
 -- src/lib.rt:125:1
 same-length-2 : tie.Need-same-length-2
-same-length-2 c = search needs
+same-length-2 c = c .before .before .before .before .before .before .before .before .before .before .before .before .before .receive .kept .1 .0
 
 -- src/lib.rt:125:1
 same-length-3 : tie.Need-same-length-3
-same-length-3 c = search needs
+same-length-3 c = c .before .before .before .before .before .before .before .before .before .before .before .before .before .receive .kept .1 .1 .0
 
 -- src/lib.rt:125:1
 same-length-4 : tie.Need-same-length-4
-same-length-4 c = search needs
+same-length-4 c = c .before .before .before .before .before .before .before .before .before .before .before .before .before .receive .kept .1 .1 .1 .0
 
 -- src/lib.rt:125:1
 returns : tie.Need-returns
@@ -77,19 +77,19 @@ returns c = receive-handed _ _ _ _ _ _ _ (rw (c .before .before .before .before 
 
 -- src/lib.rt:125:1
 same-length-5 : tie.Need-same-length-5
-same-length-5 c = search needs
+same-length-5 c = c .before .before .before .before .before .before .before .before .before .before .before .before .before .receive .kept .0
 
 -- src/lib.rt:125:1
 same-length-6 : tie.Need-same-length-6
-same-length-6 c = search needs
+same-length-6 c = c .before .before .before .before .before .before .before .before .before .before .before .before .before .receive .kept .1 .0
 
 -- src/lib.rt:125:1
 same-length-7 : tie.Need-same-length-7
-same-length-7 c = search needs
+same-length-7 c = c .before .before .before .before .before .before .before .before .before .before .before .before .before .receive .kept .1 .1 .0
 
 -- src/lib.rt:125:1
 same-length-8 : tie.Need-same-length-8
-same-length-8 c = search needs
+same-length-8 c = c .before .before .before .before .before .before .before .before .before .before .before .before .before .receive .kept .1 .1 .1 .0
 
 -- src/lib.rt:125:1
 returns-2 : tie.Need-returns-2
@@ -97,19 +97,19 @@ returns-2 c = receive-bad _ _ _ _ _ _ _ (rw (c .before .before .before .before .
 
 -- src/lib.rt:125:1
 same-length-9 : tie.Need-same-length-9
-same-length-9 c = search needs
+same-length-9 c = c .before .before .before .before .before .before .before .before .before .before .before .before .before .before .receive .kept .0
 
 -- src/lib.rt:125:1
 same-length-10 : tie.Need-same-length-10
-same-length-10 c = search needs
+same-length-10 c = c .before .before .before .before .before .before .before .before .before .before .before .before .before .before .receive .kept .1 .0
 
 -- src/lib.rt:125:1
 same-length-11 : tie.Need-same-length-11
-same-length-11 c = search needs
+same-length-11 c = c .before .before .before .before .before .before .before .before .before .before .before .before .before .before .receive .kept .1 .1 .0
 
 -- src/lib.rt:125:1
 same-length-12 : tie.Need-same-length-12
-same-length-12 c = search needs
+same-length-12 c = c .before .before .before .before .before .before .before .before .before .before .before .before .before .before .receive .kept .1 .1 .1 .0
 
 -- src/lib.rt:125:1
 returns-3 : tie.Need-returns-3

@@ -10,10 +10,10 @@ use Rattle.api.proofs.rimeheath_record.Statement.{statement}
 use Rattle.api.proofs.rimeheath_record.Tie as tie
 
 edition-of-requires : tie.Need-edition-of-requires
-edition-of-requires c κs = search needs
+edition-of-requires c κs = tt
 
 read-record-requires : tie.Need-read-record-requires
-read-record-requires c κs = search needs
+read-record-requires c κs = tt
 
 enum-known-f : tie.Need-enum-known-f
 enum-known-f c = search needs

@@ -8,13 +8,13 @@ use Rattle.api.proofs.rimeheath_sheet.Statement.{statement}
 use Rattle.api.proofs.rimeheath_sheet.Tie as tie
 
 state-in-requires : tie.Need-state-in-requires
-state-in-requires c κs = search needs
+state-in-requires c κs = tt
 
 word-of-requires : tie.Need-word-of-requires
-word-of-requires c κs = search needs
+word-of-requires c κs = tt
 
 sheet-requires : tie.Need-sheet-requires
-sheet-requires c κs = search needs
+sheet-requires c κs = tt
 
 enum-known-r : tie.Need-enum-known-r
 enum-known-r c = search needs
@@ -23,14 +23,14 @@ enum-known-n : tie.Need-enum-known-n
 enum-known-n c = search needs
 
 same-length : tie.Need-same-length
-same-length c = search needs
+same-length c = c .before .before .before .before .before .sheet .kept .0
 
 returns : tie.Need-returns
 unfolding sheetAnswer sheetNumber
 returns c = sheet-handed _ _ (c .before .r .given .1) _ _ (rw (c .before .before .before .before .before .before .before .before .state-in .ensures, c .before .before .before .before .before .before .word-of .ensures) at (c .before .before .before .before .before .sheet .ensures)) (c .before .before .before .before .before .before .before .before .before .before .before .before .args .length .now)
 
 same-length-2 : tie.Need-same-length-2
-same-length-2 c = search needs
+same-length-2 c = c .before .before .before .before .before .before .sheet .kept .0
 
 returns-2 : tie.Need-returns-2
 unfolding sheetAnswer sheetNumber

@@ -8,7 +8,7 @@ use Rattle.api.proofs.rimeheath_spread.Statement.{statement}
 use Rattle.api.proofs.rimeheath_spread.Tie as tie
 
 spread-requires : tie.Need-spread-requires
-spread-requires c κs = search needs
+spread-requires c κs = tt
 
 enum-known-r : tie.Need-enum-known-r
 enum-known-r c = search needs
@@ -20,7 +20,7 @@ enum-known-z : tie.Need-enum-known-z
 enum-known-z c = search needs
 
 bits-of-requires : tie.Need-bits-of-requires
-bits-of-requires c κs = search needs
+bits-of-requires c κs = tt
 
 returns : tie.Need-returns
 unfolding spreadAnswer spreadNumber

@@ -13,11 +13,11 @@ use Rattle.receiver.proofs.start.Reads as start-reads
 
 -- src/lib.rt:75:27
 edition-of-requires : tie.Need-edition-of-requires
-edition-of-requires c κs = search needs
+edition-of-requires c κs = tt
 
 -- src/lib.rt:75:11
 start-requires : tie.Need-start-requires
-start-requires c κs = search needs
+start-requires c κs = tt
 
 -- src/lib.rt:76:26
 enum-known-r : tie.Need-enum-known-r
@@ -29,23 +29,23 @@ enum-known-s c = search needs
 
 -- src/lib.rt:78:22
 state-numbers-requires : tie.Need-state-numbers-requires
-state-numbers-requires c κs = search needs
+state-numbers-requires c κs = tt
 
 -- src/lib.rt:64:1
 same-length : tie.Need-same-length
-same-length c = search needs
+same-length c = c .before .before .before .before .before .before .before .before .before .before .before .start .kept .1 .0
 
 -- src/lib.rt:64:1
 same-length-2 : tie.Need-same-length-2
-same-length-2 c = search needs
+same-length-2 c = c .before .before .before .before .before .before .before .before .before .before .before .start .kept .1 .1 .0
 
 -- src/lib.rt:64:1
 same-length-3 : tie.Need-same-length-3
-same-length-3 c = search needs
+same-length-3 c = c .before .before .before .before .before .before .before .before .before .before .before .start .kept .1 .1 .1 .0
 
 -- src/lib.rt:64:1
 same-length-4 : tie.Need-same-length-4
-same-length-4 c = search needs
+same-length-4 c = c .before .before .before .before .before .before .before .before .before .before .before .start .kept .1 .1 .1 .1 .0
 
 -- src/lib.rt:64:1
 returns : tie.Need-returns
@@ -54,19 +54,19 @@ returns c = start-handed _ _ (c .before .r .given .1) _ _ _ _ _ (rw (c .before .
 
 -- src/lib.rt:64:1
 same-length-5 : tie.Need-same-length-5
-same-length-5 c = search needs
+same-length-5 c = c .before .before .before .before .before .before .before .before .before .before .before .before .start .kept .1 .0
 
 -- src/lib.rt:64:1
 same-length-6 : tie.Need-same-length-6
-same-length-6 c = search needs
+same-length-6 c = c .before .before .before .before .before .before .before .before .before .before .before .before .start .kept .1 .1 .0
 
 -- src/lib.rt:64:1
 same-length-7 : tie.Need-same-length-7
-same-length-7 c = search needs
+same-length-7 c = c .before .before .before .before .before .before .before .before .before .before .before .before .start .kept .1 .1 .1 .0
 
 -- src/lib.rt:64:1
 same-length-8 : tie.Need-same-length-8
-same-length-8 c = search needs
+same-length-8 c = c .before .before .before .before .before .before .before .before .before .before .before .before .start .kept .1 .1 .1 .1 .0
 
 -- src/lib.rt:64:1
 returns-2 : tie.Need-returns-2

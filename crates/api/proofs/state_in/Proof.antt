@@ -23,7 +23,7 @@ element-copy-out-edition-of : tie.Need-element-copy-out-edition-of
 element-copy-out-edition-of c = search needs
 
 edition-of-requires : tie.Need-edition-of-requires
-edition-of-requires c κs = search needs
+edition-of-requires c κs = tt
 
 returns : tie.Need-returns
 returns c = rw (c .edition-of .ensures)

@@ -17,7 +17,7 @@ element-copy-out-t17 : tie.Need-element-copy-out-t17
 element-copy-out-t17 c = search needs
 
 state-in-requires : tie.Need-state-in-requires
-state-in-requires c κs = search needs
+state-in-requires c κs = tt
 
 element-copy-out-t8-2 : tie.Need-element-copy-out-t8-2
 element-copy-out-t8-2 c = search needs

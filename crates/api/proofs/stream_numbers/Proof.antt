@@ -5,7 +5,7 @@ use Rattle.api.proofs.stream_numbers.Statement.{statement}
 use Rattle.api.proofs.stream_numbers.Tie as tie
 
 state-numbers-requires : tie.Need-state-numbers-requires
-state-numbers-requires c κs = search needs
+state-numbers-requires c κs = tt
 
 array-read-t8 : tie.Need-array-read-t8
 array-read-t8 c = search needs

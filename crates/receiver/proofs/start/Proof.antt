@@ -4,6 +4,7 @@ use mathlib.Core.Path.{_∙_}
 use borrow.Author.Tests.{not-true, not-false}
 use Rattle.facts.specs.Pick.{pick}
 use Rattle.receiver.specs.Lent.{started}
+use borrow.Author.Needs.{needs}
 use Rattle.receiver.proofs.start.Statement.{statement}
 use Rattle.receiver.proofs.start.Tie as tie
 use Rattle.receiver.proofs.start.Reads as reads
@@ -52,7 +53,7 @@ same-length-2 c = c .before .before .before .before .before .before .before .bef
 
 -- src/lib.rt:474:1
 same-length-3 : tie.Need-same-length-3
-same-length-3 c = c .before .before .before .before .before .before .before .before .before .before .before .wipe2 .kept .0
+same-length-3 c = search needs
 
 -- src/lib.rt:474:1
 same-length-4 : tie.Need-same-length-4
