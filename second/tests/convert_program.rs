@@ -77,7 +77,7 @@ fn words_that_ask() {
             None,
         ),
         (
-            "--to 1.3 --type 0000000000000000000007=F --type E",
+            "--to 1.3 --type 00000000007=F --type E",
             older(b'E', seven.clone()),
             None,
         ),
@@ -125,6 +125,8 @@ fn wrong_words() -> Vec<Vec<&'static str>> {
         "--to 1.3 --type 7=F",
         "--to 1.3 --type E --type F",
         "--to 1.3 --type E --type E",
+        // A name of more than eleven bytes.
+        "--to 1.3 --type E --type 000000000007=F",
         // No letter, or no name.
         "--to 1.3 --type e",
         "--to 1.3 --type G",
