@@ -21,7 +21,7 @@
  *
  * THE WAY THROUGH. rimeheath_start; then rimeheath_receive for each packet, or rimeheath_open and rimeheath_feed for a recording in chunks
  * of any size; then views (rimeheath_ladder, rimeheath_spread, rimeheath_counts) and rimeheath_sheet, whenever they are wanted.
- * rimeheath_convert and rimeheath_convert_piece need no receiver.
+ * rimeheath_convert and rimeheath_convert_piece need no receiver, nor do rimeheath_append and rimeheath_append_packet, which write recordings.
  *
  * THE INDEX. Orders and symbols are found row by row, or through an index: further memory of RIMEHEATH_INDEX_SIZE numbers that is lent
  * beside the tables. Lend it to the start, which makes it, and then to every packet or chunk of that receiver. With a length of 0 there is
@@ -36,11 +36,12 @@
  * ANSWERS. Every call but rimeheath_cut answers RIMEHEATH_DONE or a refusal, by its number. A refusal changes no byte of what is lent. Any
  * bytes, numbers and lengths may be given: no call asks that anything was checked before.
  *
- * WHICH BYTE. The five calls that read a packet, a record or a body (rimeheath_receive, rimeheath_packet, rimeheath_record, rimeheath_body,
- * rimeheath_convert) answer 32 bits: the number in the low 8, and above it the offset of the first byte at fault in what they were given, packet, record or
- * body. RIMEHEATH_NUMBER and RIMEHEATH_OFFSET take them apart: compare RIMEHEATH_NUMBER(answer) with the refusals below, and not the
- * answer itself. Refusals 2 to 5 have an offset; it is 0 for RIMEHEATH_DONE, 1 and 6, and for the 4 by which
- * rimeheath_convert refuses a type.
+ * WHICH BYTE. The seven calls that read a packet, a record or a body (rimeheath_receive, rimeheath_packet, rimeheath_record, rimeheath_body,
+ * rimeheath_convert, rimeheath_append, rimeheath_append_packet) answer 32 bits: the number in the low 8, and above it the offset of the first
+ * byte at fault in what they were given, packet, record or body. RIMEHEATH_NUMBER and RIMEHEATH_OFFSET take them apart: compare
+ * RIMEHEATH_NUMBER(answer) with the refusals below, and not the answer itself. Refusals 2 to 5 have an offset; it is 0 for RIMEHEATH_DONE,
+ * 1, 6 and 32, for the 4 by which rimeheath_convert refuses a type, and for the 5, 3 and 4 by which rimeheath_append refuses the number and
+ * the fields that it was given.
  *
  * POINTERS. What the types of C cannot say, the caller must see to:
  *   - a pointer points to as many elements as its length says, and an array has the size that is written here;
@@ -76,7 +77,9 @@ enum {
     RIMEHEATH_LEVEL_SIZE = 3,      /* numbers in a level of a ladder */
     RIMEHEATH_SHEET_MOST = 1500000, /* a buffer of this many bytes holds any sheet whole */
     RIMEHEATH_EXCEPTION_SIZE = 13, /* bytes in an exception of a conversion */
-    RIMEHEATH_PIECE_LEAST = 65537  /* a piece of this many bytes of a recording has a whole packet, with its length, in front */
+    RIMEHEATH_PIECE_LEAST = 65537, /* a piece of this many bytes of a recording has a whole packet, with its length, in front */
+    RIMEHEATH_FIELDS_SIZE = 8,     /* numbers of a message, its type first */
+    RIMEHEATH_TEXT_SIZE = 28       /* bytes of a message that are no numbers: ticker, times, version, a reserved byte */
 };
 
 /* ---- editions of the feed's specification; any other number means 1.3.a and 1.3.b too, and is written back as 0 ---- */
@@ -88,18 +91,21 @@ enum {
 /* ---- answers of the calls ---- */
 enum {
     RIMEHEATH_DONE = 0,
-    RIMEHEATH_REFUSED_PACKET = 1, /* a packet of 0 bytes, or of more than RIMEHEATH_PACKET_MOST */
+    RIMEHEATH_REFUSED_PACKET = 1, /* a packet of 0 bytes, or of more than RIMEHEATH_PACKET_MOST, or one that would have more when written */
     RIMEHEATH_REFUSED_RECORD = 2, /* fewer than 10 bytes are left for a record's header, or its body runs past the end */
     RIMEHEATH_REFUSED_BODY = 3,   /* no such type, an empty body, or not that type's length */
     RIMEHEATH_REFUSED_FIELD = 4,  /* a field out of range: nanoseconds (999,999,999 at most), side, price, size, security type (in 1.3),
-                                   * test indicator, market */
+                                   * test indicator, market; when written, also a number too large for its bytes */
     RIMEHEATH_REFUSED_NUMBER = 5, /* a sequence number of 0 or above 10^12 */
     RIMEHEATH_REFUSED_SIZE = 6,   /* a table, index or buffer whose size is not as said above, or a next number outside 1 to 10^12 + 1 */
-    RIMEHEATH_REFUSED_SYMBOL = 30 /* a view of a symbol that no entry in use has */
+    RIMEHEATH_REFUSED_SYMBOL = 30, /* a view of a symbol that no entry in use has */
+    RIMEHEATH_REFUSED_ROOM = 32    /* a packet or recording so far, or with what is to be written behind it, is longer than its memory */
 };
-/* Where several apply, the first of this order is told: 6; 1; then record by record from the front 2, 5, 3, 4. Of a view: 6, then 30. */
+/* Where several apply, the first of this order is told: 6; 1; then record by record from the front 2, 5, 3, 4. Of a view: 6, then 30. Of a
+ * record that is written: 32 for the packet so far; what the packet so far is refused by; 5, 3, 4, 1 and 32 for the record. Of a packet that
+ * is written: 32 for the recording so far; what the packet is refused by; 32 for the packet. */
 
-/* ---- number and offset of an answer of the five calls that read ----
+/* ---- number and offset of an answer of the seven calls that read ----
  * The offset is, for 2 and 5, where the record starts (with its number); for 3, where the body starts, which is the end of what was given
  * where the body is empty and nothing follows it; for 4, the first byte of the earliest field of the body that is out of range. A bad body
  * has one offset in the body, 10 more in its record, and in its packet as many more as lie before the record. */
@@ -265,13 +271,13 @@ uint32_t rimeheath_packet(uint64_t edition, const uint8_t *packet, size_t packet
  * itself at the packet's end. Refused by 2, 5, 3, 4, with the offset in what is left: 0, or 10 and the offset in the body. */
 uint32_t rimeheath_record(uint64_t edition, const uint8_t *rest, size_t rest_len, uint64_t head[2]);
 
-/* Judges a body of an edition and reads its numbers. fields[0] becomes the type; behind it stand the numbers of the message in the order of
- * their places, but for the security type, which stands behind the others, then zeros. Letters are their codes; of an attributable ID,
- * four letters, the first is the lowest byte. Refused by 3, 4, with the offset in the body.
+/* Judges a body of an edition and reads all of its fields. fields[0] becomes the type; behind it stand the numbers of the message, as listed
+ * here, then zeros. Letters are their codes; of an attributable ID, four letters, the first is the lowest byte. text becomes the bytes that
+ * are no numbers (RIMEHEATH_TEXT_..), and zeros. Refused by 3, 4, with the offset in the body.
  *    49 System Time              second
- *     1 Symbol Update            symbol, lot, market, and in 1.3 the security type behind them (left out: the others of
- *                                RIMEHEATH_ENTRY_.., which are its offsets in the body)
- *    83 System State             nanoseconds, session, status (left out, and in the body: the version, 8 bytes at 5)
+ *     1 Symbol Update            symbol, lot, market, in 1.3 the security type and else 0, nanoseconds, test indicator, byte 22;
+ *                                text: ticker, opening, closing, and byte 20 where it is reserved
+ *    83 System State             nanoseconds, session, status; text: version
  *     4 Security Trading Status  nanoseconds, symbol, trading status, market, short sale restriction
  *     5 Symbol Clear             nanoseconds, symbol
  *    20 Add Order                nanoseconds, symbol, order, side, price, size, attributable ID
@@ -281,7 +287,34 @@ uint32_t rimeheath_record(uint64_t edition, const uint8_t *rest, size_t rest_len
  *    10 Trade                    nanoseconds, symbol, trade, correction, price, size, flags
  *    11 Trade Cancel             nanoseconds, symbol, trade, correction, price, size
  */
-uint32_t rimeheath_body(uint64_t edition, const uint8_t *body, size_t body_len, uint64_t fields[8]);
+uint32_t rimeheath_body(uint64_t edition, const uint8_t *body, size_t body_len, uint64_t fields[8], uint8_t text[28]);
+
+/* ---- offsets in text ---- */
+enum {
+    RIMEHEATH_TEXT_TICKER = 0,    /* 11 bytes of a Symbol Update: the name, with spaces behind it */
+    RIMEHEATH_TEXT_OPENING = 11,  /* 8 bytes, as 09:30:00 */
+    RIMEHEATH_TEXT_CLOSING = 19,  /* 8 bytes, as 16:00:00 */
+    RIMEHEATH_TEXT_RESERVED = 27, /* byte 20 where it is reserved; in 1.3 it is the security type among the numbers, and this is 0 */
+    RIMEHEATH_TEXT_VERSION = 0    /* 8 bytes of a System State */
+};
+
+/* ---- writing (docs/WRITE.md) ---- */
+
+/* Writes a record behind the packet so far, the first used bytes of memory, which may be none: its number, and the message that fields and
+ * text are, in the places in which rimeheath_body gives them, so that what was read can be written. Numbers and bytes that the message does
+ * not have may be anything. length[0] becomes the packet's new length; bytes behind it stay as they are. Refused by 32 where used is above
+ * memory_len; then, where used is not 0, as rimeheath_packet refuses the packet so far: by 1, 2, 5, 3, 4, and for the last four with the
+ * offset in it; then without an offset by 5 for the number, by 3 where fields[0] is no type, by 4 for a field out of range or too large for its
+ * bytes, by 1 where the packet would have more than RIMEHEATH_PACKET_MOST bytes, by 32 where it would have more than memory_len. */
+uint32_t rimeheath_append(uint64_t edition, uint8_t *memory, size_t memory_len, size_t used, uint64_t number, const uint64_t fields[8],
+                          const uint8_t text[28], uint64_t length[1]);
+
+/* Writes a packet, behind its length in 2 bytes, behind the recording so far, the first used bytes of memory, which are not looked at.
+ * length[0] becomes the recording's new length; bytes behind it stay as they are. Refused by 32 where used is above memory_len; then as
+ * rimeheath_packet refuses the packet: by 1, 2, 5, 3, 4, and for the last four with the offset in the packet; then by 32 where the recording
+ * would have more than memory_len bytes. */
+uint32_t rimeheath_append_packet(uint64_t edition, uint8_t *memory, size_t memory_len, size_t used, const uint8_t *packet,
+                                 size_t packet_len, uint64_t length[1]);
 
 /* ---- converting ---- */
 
