@@ -7,3 +7,4 @@ pub mod PieceLaws
 pub mod SumLaws
 pub mod TableLaws
 pub mod CountLaws
+pub mod Stores

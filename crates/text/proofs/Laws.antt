@@ -10,28 +10,17 @@ use native.Mathlib.Numerals.{add-one}
 use lib.ListN.{length, getD, take, drop, set, length-set, length-append, length-take, take-append-drop, drop-of-length-le}
 use lib.Seq.{sets, length-sets, sets-eq, set-out, take-suc, take-all}
 use Rattle.facts.proofs.Picks.{no-second}
+use Rattle.facts.proofs.Stores.{sets-past, sets-append}
 use Rattle.text.specs.Text.{lastPlace, Wrote, firstTexts}
 
 -- ---- stores
--- past the end nothing is stored
-sets-out : (u b : List ℕ) (i : ℕ) → length b ≤ i → sets b i u ≡ b
-sets-out [] b i h = refl
-sets-out (a ∷ u) b i h =
-    let e = set-out b i a h in
-    let h' : length (set b i a) ≤ suc i = omega (arith, length-set b i a) in
-    sets-out u (set b i a) (suc i) h' ∙ e
-
-sets-append : (t u b : List ℕ) (i : ℕ) → sets b i (t ++ u) ≡ sets (sets b i t) (i + length t) u
-sets-append [] u b i = ap (λ (k : ℕ). sets b k u) (omega arith)
-sets-append (a ∷ t) u b i = sets-append t u (set b i a) (suc i) ∙ ap (λ (k : ℕ). sets (sets (set b i a) (suc i) t) k u) (omega arith)
-
 -- a place that stays at the highest lies behind the buffer, as the true one does
 sets-clip : (b u : List ℕ) (i n : ℕ) → length b ≤ lastPlace → sets b (i + min n (lastPlace - i)) u ≡ sets b (i + n) u
 sets-clip b u i n l = go (decLe (i + n) lastPlace)
   where
     go : Dec (i + n ≤ lastPlace) → sets b (i + min n (lastPlace - i)) u ≡ sets b (i + n) u
     go (yes h) = ap (λ (k : ℕ). sets b k u) (omega arith)
-    go (no h) = sets-out u b (i + min n (lastPlace - i)) (omega arith) ∙ sym (sets-out u b (i + n) (omega arith))
+    go (no h) = sets-past u b (i + min n (lastPlace - i)) (omega arith) ∙ sym (sets-past u b (i + n) (omega arith))
 
 -- ---- one append, and one behind another
 pub wrote-none : {b : List ℕ} {at : ℕ} → length b ≤ lastPlace → Wrote b at [] b at
@@ -105,7 +94,7 @@ sets-front t b = go (decLe (length t) (length b))
         let a : length (sets b 0 u) ≤ 0 + length u = omega (arith, length-sets b 0 u) in
         ap (sets b 0) (sym (take-append-drop (length b) t))
         ∙ sets-append u (drop (length b) t) b 0
-        ∙ sets-out (drop (length b) t) (sets b 0 u) (0 + length u) a
+        ∙ sets-past (drop (length b) t) (sets b 0 u) (0 + length u) a
         ∙ sets-eq u b 0 (omega arith)
         ∙ rw (zero-add (length u), drop-of-length-le b {i = length u} (omega arith), drop-of-length-le b {i = length t} (omega arith))
 

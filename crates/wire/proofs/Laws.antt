@@ -9,9 +9,10 @@ use lib.Dec.{leb}
 use borrow.Author.Tests.{leb-true, leb-false, le-leb, lt-leb}
 use native.Mathlib.Nat.{pow-suc, pow-succ', pow-zero, zero-add, add-zero, suc-add, add-suc, mul-assoc}
 use native.Mathlib.Omega.{arith}
-use lib.ListN.{length, take, drop, getD, set, replicate, length-set, length-append, length-drop, length-replicate, drop-of-length-le}
-use lib.Seq.{sets, sets-eq, set-out, take-at, drop-at, drop-drop, take-nil, take-all, drop-nil, length-take-le, take-append-le, getD-take, getD-drop, ext-getD}
+use lib.ListN.{length, take, drop, getD, set, replicate, length-append, length-drop, length-replicate, drop-of-length-le}
+use lib.Seq.{sets, sets-eq, take-at, drop-at, drop-drop, take-nil, take-all, drop-nil, length-take-le, take-append-le, getD-take, getD-drop, drop-cons, ext-getD}
 use Rattle.facts.proofs.PieceLaws.{is-replicate}
+use Rattle.facts.proofs.Stores.{sets-past}
 use Rattle.wire.specs.Le.{le, toLe, field, padded, Bytes}
 
 -- what the test for bytes that are there says, where n of them can be
@@ -156,11 +157,6 @@ toLe-le (x ∷ l) h =
     let high : (x + 256 * le l) / 256 ≡ le l = omega arith in
     rw (low, high, toLe-le l (λ i. h (suc i)))
 
--- past the end nothing is stored
-sets-past : (s x : List ℕ) (i : ℕ) → length x ≤ i → sets x i s ≡ x
-sets-past [] x i h = refl
-sets-past (a ∷ s) x i h = sets-past s (set x i a) (suc i) (rw length-set (omega arith)) ∙ set-out x i a h
-
 -- a number of w bytes stored from i on: its first byte and what is left behind it, or none
 pub le-more : (x : List ℕ) (i w v : ℕ) → 0 < w → sets (set x i (v % 256)) (i + 1) (toLe (w - 1) (v / 256)) ≡ sets x i (toLe w v)
 unfolding toLe
@@ -176,6 +172,19 @@ le-none x i w v h = let z : w ≡ 0 = omega arith in rw z
 
 pub le-past : (x : List ℕ) (i w v : ℕ) → length x ≤ i → x ≡ sets x i (toLe w v)
 le-past x i w v h = sym (sets-past (toLe w v) x i h)
+
+-- bytes stored from i on, those from k on: the next one and what is left behind it, or none
+pub text-more : (s x : List ℕ) (i k : ℕ) → k < length s → sets (set x i (getD s k 0)) (i + 1) (drop (k + 1) s) ≡ sets x i (drop k s)
+text-more s x i k h =
+    let j : i + 1 ≡ suc i = omega arith in
+    let m : k + 1 ≡ suc k = omega arith in
+    rw (j, m, drop-cons s k 0 h)
+
+pub text-none : (s x : List ℕ) (i k : ℕ) → length s ≤ k → x ≡ sets x i (drop k s)
+text-none s x i k h = rw (drop-of-length-le s {i = k} h)
+
+pub text-past : (s x : List ℕ) (i k : ℕ) → length x ≤ i → x ≡ sets x i (drop k s)
+text-past s x i k h = sym (sets-past (drop k s) x i h)
 
 -- bytes stored right behind p
 pub stored-behind : (p q s : List ℕ) (n : ℕ) → length p ≡ n → length s ≤ length q → sets (p ++ q) n s ≡ (p ++ s) ++ drop (length s) q

@@ -2,7 +2,7 @@
 // A byte past the end counts as 0 and is not stored, so that every function here answers for any slice and any place.
 ghost use mathlib.Core.Path.{_≡_};
 ghost use Prim.Native.Nat.{_+_, _≤_, _<_};
-ghost use lib.ListN.{length, getD, replicate};
+ghost use lib.ListN.{length, getD, set, replicate};
 ghost use lib.Seq.{sets};
 ghost use lib.Dec.{leb};
 ghost use Rattle.wire.specs.Le.{toLe, field, padded};
@@ -158,5 +158,31 @@ pub fn put_le(out: &mut [u8], at: usize, w: usize, n: u64)
         v = v / 256;
         i += 1;
         left -= 1;
+    }
+}
+
+// One byte, stored at a place, if it is there.
+pub fn put_byte(out: &mut [u8], at: usize, x: u8)
+    ensures { λ _. ⌜ now (out .exit) ≡ set (now (out .entry)) at x ⌝ }
+{
+    if at < out.len() {
+        out[at] = x;
+    }
+}
+
+// Bytes as they are, stored from at on as far as the slice reaches.
+pub fn put_at(out: &mut [u8], at: usize, s: &[u8])
+    ensures { λ _. ⌜ now (out .exit) ≡ sets (now (out .entry)) at (now (s .entry)) ⌝ }
+{
+    let n = s.len();
+    let mut i = at;
+    let mut k: usize = 0;
+    while k < n {
+        if out.len() <= i {
+            return;
+        }
+        out[i] = s[k];
+        i += 1;
+        k += 1;
     }
 }
