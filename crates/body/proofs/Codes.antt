@@ -14,7 +14,7 @@ use Rattle.kinds.specs.declared.Kind.{Kind}
 use Rattle.fields.specs.Fields.{badAt}
 use Rattle.fields.specs.declared.Fault.{Fault}
 use Rattle.body.specs.Faults.{faultOf}
-use Rattle.body.specs.Read.{framed, ranged, judgeBody, judgedCode}
+use Rattle.body.specs.Read.{framed, ranged, judgeBody, judgedNumber, judgedCode}
 use Rattle.body.specs.declared.Judged.{Judged}
 use Rattle.body.specs.Places.{BadBody}
 use Rattle.body.proofs.Laws.{JudgedAs, judge-sound, Judgement, good, bad, judgement}
@@ -65,3 +65,12 @@ module _ (ed : Edition) (b : List ℕ) where
           let n : c % 256 ≡ f .number = omega (arith, q, number-bound f w .1) in
           let o : c / 256 ≡ f .at = omega (arith, q, number-bound f w .1) in
           (λ j. Judged.Bad (record { number = n j; at = o j })) ∙ sym e
+
+  -- the number alone, from the one number, which is 0 where it is
+  pub code-number : (c : ℕ) → c ≡ judgedCode (judgeBody ed b) → (c % 256 ≡ judgedNumber (judgeBody ed b)) × (judgedNumber (judgeBody ed b) ≡ 0 → c ≡ 0)
+  code-number c = go (judgeBody ed b) (judge-sound ed b)
+    where
+      go : (j : Judged) → JudgedAs ed j b → c ≡ judgedCode j → (c % 256 ≡ judgedNumber j) × (judgedNumber j ≡ 0 → c ≡ 0)
+      go (Judged.Good k) s e = (omega (arith, e), λ z. e)
+      go (Judged.Bad f) (inl s) e = (omega (arith, e, s .0), λ z. absurd (omega (arith, s .0)))
+      go (Judged.Bad f) (inr s) e = (omega (arith, e, s .0), λ z. absurd (omega (arith, s .0)))

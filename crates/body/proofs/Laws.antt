@@ -86,7 +86,7 @@ pub record Framed (k : Kind) (b : List ℕ) : Type 0 where
 -- what an answer says: the body is framed, the message is what its layout reads there, and the fields that it shows are in range
 abbrev pub Sound : (ed : Edition) → Body → List ℕ → Type 0
 Sound ed (Body.SystemTime n) b = Framed Kind.SystemTime b × (n ≡ readAs systemTime b)
-Sound ed Body.SymbolUpdate b = Framed Kind.SymbolUpdate b × (testOk (readAs symbolUpdate b .test) ≡ true) × (marketOk (readAs symbolUpdate b .market) ≡ true) × (readAs symbolUpdate b .nanos ≤ mostNanos) × (securityOk ed (readAs symbolUpdate b .security) ≡ true)
+Sound ed Body.SymbolUpdate b = Framed Kind.SymbolUpdate b × (testOk (readAs symbolUpdate b .test) ≡ true) × (marketOk (readAs symbolUpdate b .symbol .market) ≡ true) × (readAs symbolUpdate b .nanos ≤ mostNanos) × (securityOk ed (readAs symbolUpdate b .security) ≡ true)
 Sound ed Body.SystemState b = Framed Kind.SystemState b × (readAs systemState b .nanos ≤ mostNanos)
 Sound ed (Body.TradingStatus m) b = Framed Kind.TradingStatus b × (m ≡ statusOf b) × (m .nanos ≤ mostNanos)
 Sound ed (Body.SymbolClear m) b = Framed Kind.SymbolClear b × (m ≡ clearOf b) × (m .nanos ≤ mostNanos)

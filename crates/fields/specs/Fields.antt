@@ -3,7 +3,7 @@ use Prim.Native.Nat.{ℕ}
 use mathlib.Core.List.{List}
 use Rattle.kinds.specs.declared.Kind.{Kind}
 use Rattle.layout.specs.Message.{readAs}
-use Rattle.fields.specs.Messages.{SymbolUpdate, systemTime, symbolUpdate, tradingStatus, symbolClear, addOrder, modifyOrder, deleteOrder, orderExecution, trade, tradeCancel, systemState}
+use Rattle.fields.specs.Messages.{systemTime, symbolUpdate, tradingStatus, symbolClear, addOrder, modifyOrder, deleteOrder, orderExecution, trade, tradeCancel, systemState}
 use Rattle.fields.specs.declared.TradingStatus.{TradingStatus}
 use Rattle.fields.specs.declared.SymbolClear.{SymbolClear}
 use Rattle.fields.specs.declared.AddOrder.{AddOrder}
@@ -13,6 +13,7 @@ use Rattle.fields.specs.declared.OrderExecution.{OrderExecution}
 use Rattle.fields.specs.declared.Trade.{Trade}
 use Rattle.fields.specs.declared.TradeCancel.{TradeCancel}
 use Rattle.fields.specs.declared.Symbol.{Symbol}
+use Rattle.fields.specs.declared.SymbolUpdate.{SymbolUpdate}
 use Rattle.fields.specs.declared.SystemState.{SystemState}
 use Rattle.fields.specs.declared.Refusal.{Refusal}
 use Rattle.fields.specs.declared.Fault.{Fault}
@@ -50,13 +51,17 @@ tradeOf b = readAs trade b
 abbrev pub cancelOf : List ℕ → TradeCancel
 cancelOf b = readAs tradeCancel b
 
--- Symbol Update (4.2): "Struct of symbol ID, ticker array, two eight-byte time arrays, lot and market letter"
+-- Symbol Update (4.2), all of its fields
+abbrev pub updateOf : List ℕ → SymbolUpdate
+updateOf b = readAs symbolUpdate b
+
+-- and what the table and the sheet show of it: "Struct of symbol ID, ticker array, two eight-byte time arrays, lot and market letter"
 abbrev pub symbolOf : List ℕ → Symbol
-symbolOf b = let m : SymbolUpdate = readAs symbolUpdate b in record { id = m .symbol; ticker = m .ticker; opening = m .opening; closing = m .closing; lot = m .lot; market = m .market }
+symbolOf b = updateOf b .symbol
 
 -- byte 20 of it: "version 1.3, where byte 20 of a Symbol Update is Security Type" (document 02, No. 10); reserved from 1.3.a on
 abbrev pub securityOf : List ℕ → ℕ
-securityOf b = readAs symbolUpdate b .security
+securityOf b = updateOf b .security
 
 -- System State (4.3).
 abbrev pub stateOf : List ℕ → SystemState

@@ -4,6 +4,8 @@ use mathlib.Core.Path.{refl}
 use mathlib.Core.List.{List}
 use Rattle.kinds.specs.declared.Kind.{Kind}
 use Rattle.layout.specs.Message.{Message}
+use Rattle.fields.specs.declared.Symbol.{Symbol}
+use Rattle.fields.specs.declared.SymbolUpdate.{SymbolUpdate}
 use Rattle.fields.specs.declared.SystemState.{SystemState}
 use Rattle.fields.specs.declared.TradingStatus.{TradingStatus}
 use Rattle.fields.specs.declared.SymbolClear.{SymbolClear}
@@ -25,23 +27,11 @@ systemTime = record {
 }
 
 -- Symbol Update (4.2), every field of it, the reserved bytes too (byte 20 is the 2020 edition's security type)
-pub record SymbolUpdate : Type 0 where
-  pub nanos : ℕ
-  pub symbol : ℕ
-  pub ticker : List ℕ
-  pub security : ℕ
-  pub test : ℕ
-  pub reserved : ℕ
-  pub lot : ℕ
-  pub opening : List ℕ
-  pub closing : List ℕ
-  pub market : ℕ
-
 abbrev pub symbolUpdate : Message SymbolUpdate
 symbolUpdate = record {
   kind = Kind.SymbolUpdate;
-  to = λ m. (m .nanos, (m .symbol, (m .ticker, (m .security, (m .test, (m .reserved, (m .lot, (m .opening, (m .closing, (m .market, tt))))))))));
-  from = λ v. record { nanos = v .0; symbol = v .1 .0; ticker = v .1 .1 .0; security = v .1 .1 .1 .0; test = v .1 .1 .1 .1 .0; reserved = v .1 .1 .1 .1 .1 .0; lot = v .1 .1 .1 .1 .1 .1 .0; opening = v .1 .1 .1 .1 .1 .1 .1 .0; closing = v .1 .1 .1 .1 .1 .1 .1 .1 .0; market = v .1 .1 .1 .1 .1 .1 .1 .1 .1 .0 };
+  to = λ m. (m .nanos, (m .symbol .id, (m .symbol .ticker, (m .security, (m .test, (m .reserved, (m .symbol .lot, (m .symbol .opening, (m .symbol .closing, (m .symbol .market, tt))))))))));
+  from = λ v. record { nanos = v .0; symbol = record { id = v .1 .0; ticker = v .1 .1 .0; opening = v .1 .1 .1 .1 .1 .1 .1 .0; closing = v .1 .1 .1 .1 .1 .1 .1 .1 .0; lot = v .1 .1 .1 .1 .1 .1 .0; market = v .1 .1 .1 .1 .1 .1 .1 .1 .1 .0 }; security = v .1 .1 .1 .0; test = v .1 .1 .1 .1 .0; reserved = v .1 .1 .1 .1 .1 .0 };
   there = λ m. refl;
   again = λ v. refl;
 }

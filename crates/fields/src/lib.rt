@@ -1,7 +1,7 @@
 // The eleven messages as values: what stands where in a body (docs/MESSAGES.md). Decoding judges nothing; any bytes have fields.
 use kinds::Kind;
 ghost use mathlib.Core.Path.{_≡_};
-ghost use Rattle.fields.specs.Fields.{statusOf, clearOf, addOf, modifyOf, deleteOf, executionOf, tradeOf, cancelOf, symbolOf, securityOf, stateOf, decoded};
+ghost use Rattle.fields.specs.Fields.{statusOf, clearOf, addOf, modifyOf, deleteOf, executionOf, tradeOf, cancelOf, symbolOf, securityOf, updateOf, stateOf, decoded};
 
 // Security Trading Status (4.4).
 pub struct TradingStatus {
@@ -78,7 +78,7 @@ pub struct TradeCancel {
     pub size: u32,
 }
 
-// Symbol Update (4.2). What it leaves out (nanoseconds, byte 20, which security_of reads, test indicator, byte 22) stays in the body's 42 bytes.
+// Symbol Update (4.2), what the table and the sheet show of it. All of its fields are in SymbolUpdate.
 pub struct Symbol {
     pub id: u32,
     pub ticker: [u8; 11],
@@ -86,6 +86,15 @@ pub struct Symbol {
     pub closing: [u8; 8],
     pub lot: u16,
     pub market: u8,
+}
+
+// Symbol Update (4.2), every field of it: byte 20 is the Security Type of 1.3 and reserved from 1.3.a on, byte 22 is reserved.
+pub struct SymbolUpdate {
+    pub nanos: u32,
+    pub symbol: Symbol,
+    pub security: u8,
+    pub test: u8,
+    pub reserved: u8,
 }
 
 // System State (4.3).
@@ -109,7 +118,7 @@ pub struct Fault {
 }
 
 // What a body says, or why it is refused. An enum holds no array, so the fields of a Symbol Update and of a System State stand
-// beside it: symbol_of and state_of.
+// beside it: update_of and state_of.
 pub enum Body {
     SystemTime(u32),
     SymbolUpdate,
@@ -245,6 +254,19 @@ pub fn security_of(b: &[u8]) -> u8
     ensures { λ r. ⌜ r ≡ securityOf (now (b .entry)) ⌝ }
 {
     wire::u8_at(b, 20)
+}
+
+pub fn update_of(b: &[u8]) -> SymbolUpdate
+    ensures { λ r. ⌜ r ≡ updateOf (now (b .entry)) ⌝ }
+{
+    let symbol = symbol_of(b);
+    SymbolUpdate {
+        nanos: wire::u32_at(b, 1),
+        symbol,
+        security: security_of(b),
+        test: wire::u8_at(b, 21),
+        reserved: wire::u8_at(b, 22),
+    }
 }
 
 pub fn state_of(b: &[u8]) -> SystemState

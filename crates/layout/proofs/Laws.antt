@@ -103,8 +103,29 @@ tiles k l = go (lookup-rule tileTest table table-tiles (typeOf k))
     go (inl e) = absurd (omega arith)
     go (inr e) = rw (type-kind k) at (eqb-true (lookup (typeOf k) table) (1 + total (shapes (kindOf (typeOf k)))) e)
 
+-- every message has a length in the table
+pub sized : (k : Kind) → 1 ≤ typeOf k → 1 ≤ kindLength k
+unfolding kindLength lengthOf lookup table pick
+sized Kind.SystemTime l = omega arith
+sized Kind.SymbolUpdate l = omega arith
+sized Kind.SystemState l = omega arith
+sized Kind.TradingStatus l = omega arith
+sized Kind.SymbolClear l = omega arith
+sized Kind.Add l = omega arith
+sized Kind.Modify l = omega arith
+sized Kind.Delete l = omega arith
+sized Kind.Execution l = omega arith
+sized Kind.Trade l = omega arith
+sized Kind.TradeCancel l = omega arith
+sized Kind.Unknown l = absurd (omega arith)
+
 -- ---- reading what was written, and writing what was read
 module _ (k : Kind) where
+  -- a body that is written has its type's length: that of the table
+  pub length-body : (vs : Fields k) → FieldsFit k vs → 1 ≤ kindLength k → length (bodyFor k vs) ≡ kindLength k
+  unfolding bodyFor
+  length-body vs f l = omega (arith, length-joined (shapes k) vs f, tiles k l)
+
   pub fields-back : (vs : Fields k) → FieldsFit k vs → fieldsIn k (bodyFor k vs) ≡ vs
   unfolding bodyFor
   fields-back vs f = cut-joined (shapes k) vs (typeOf k ∷ []) 1 refl f
