@@ -112,6 +112,15 @@ module _ (ed : Edition) (t : List ℕ) (h : Head) (e : h ≡ headOf t) (a : 10 �
 pub whole-record : (ed : Edition) (t : List ℕ) → 10 + headOf t .len ≤ length t → numberOk (headOf t .number) ≡ true → readRecord ed t ≡ bodyJudged (judgeBody ed (bodyOf t)) (headOf t)
 whole-record ed t w o = sym (record-judged ed t (headOf t) refl (omega arith) (omega arith) o (judgeBody ed (bodyOf t)) (ap (judgeBody ed) (sym (body-cut t (headOf t .len) refl))))
 
+-- a number that is good is in range, and the other way round
+pub number-range : (n : ℕ) → numberOk n ≡ true → (1 ≤ n) × (n ≤ lastNumber)
+unfolding numberOk
+number-range n o = let r = both-true {a = leb 1 n} {b = leb n lastNumber} o in (leb-true 1 n (r .0), leb-true n lastNumber (r .1))
+
+pub number-in : (n : ℕ) → 1 ≤ n → n ≤ lastNumber → numberOk n ≡ true
+unfolding numberOk both
+number-in n a b = rw (le-leb 1 n a, le-leb n lastNumber b) refl
+
 -- what is known of a good record: its number is in range, and its body good
 pub record GoodRec (ed : Edition) (c : Rec) : Type 0 where
   pub number-from : 1 ≤ c .number
@@ -125,16 +134,16 @@ Held ed (Record.Bad f) t = BadRecord ed t f
 
 -- a record whose body has come whole, with a good number: the body decides
 judged-held : (ed : Edition) (t : List ℕ) → 10 + headOf t .len ≤ length t → numberOk (headOf t .number) ≡ true → Held ed (bodyJudged (judgeBody ed (bodyOf t)) (headOf t)) t
-unfolding numberOk bodyJudged
+unfolding bodyJudged
 judged-held ed t w o = go (judgement ed (bodyOf t))
   where
     go : Judgement ed (bodyOf t) → Held ed (bodyJudged (judgeBody ed (bodyOf t)) (headOf t)) t
     go (good k e g z) =
-        let r = both-true {a = leb 1 (field t 0 8)} {b = leb (field t 0 8) lastNumber} o in
+        let r = number-range (field t 0 8) o in
         rw e (
           refl,
           w,
-          record { number-from = leb-true 1 (field t 0 8) (r .0); number-to = leb-true (field t 0 8) lastNumber (r .1); body-good = g },
+          record { number-from = r .0; number-to = r .1; body-good = g },
         )
     go (bad-judged f e g h) = rw e (bad-body f w o h)
 

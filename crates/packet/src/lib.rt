@@ -26,7 +26,8 @@ pub enum Packet {
     Bad(Fault),
 }
 
-fn number_ok(n: u64) -> bool
+// Whether a sequence number is in range.
+pub fn number_ok(n: u64) -> bool
     ensures { λ r. ⌜ r ≡ numberOk n ⌝ }
 {
     1 <= n && n <= facts::LAST_NUMBER
