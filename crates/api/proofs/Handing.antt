@@ -31,9 +31,10 @@ use Rattle.receiver.specs.Lent.{stateNumbers, Begun, begun, lent, Handled, hand
 use Rattle.answer_sheet.specs.declared.SheetAnswer.{SheetAnswer}
 use Rattle.answer_sheet.specs.Sheet.{Sheet, sheetAnd}
 use Rattle.body.specs.Read.{withOffset}
-use Rattle.api.specs.Calls.{accountNumbers, startCall, startAnswer, receiveCall, receiveAnswer, ladderAnswer, call, bitsOf, spreadAnswer, countsAnswer, packetAnswer, recordAnswer, sheetAnswer}
-use Rattle.api.specs.Messages.{typed, kindIn, bodyAnswer}
-use Rattle.api.proofs.Types.{type-told}
+use Rattle.api.specs.Calls.{accountNumbers, fillCall, startCall, startAnswer, receiveCall, receiveAnswer, ladderAnswer, call, bitsOf, spreadAnswer, countsAnswer, packetAnswer, recordAnswer, sheetAnswer}
+use Rattle.numbers.specs.Numbers.{typed, kindIn, textOf}
+use Rattle.numbers.proofs.Types.{type-told}
+use Rattle.api.specs.Messages.{bodyAnswer}
 
 -- x is the answer and k its case; g puts it beside what was lent, and f hands that on
 pub handed : {A B C : Type 0} (f : B → C) (g : A → B) (x k : A) (b : B) → x ≡ k → g x ≡ b → f (g k) ≡ f b
@@ -96,21 +97,18 @@ module _ (x v : SpreadAnswer) (e : x ≡ v) (l : List ℕ) where
   spread-is z fit q n f = ap (λ (y : ℕ). call 0 (1 ∷ y ∷ [])) (f ∙ ap bitsOf (toZ-ofZ w64 z fit)) ∙ spread-handed (SpreadAnswer.Of z) q
 
 -- ---- a body
--- the numbers of the case that a message is are its numbers
-pub case-fields : (ed : Edition) (t : ℕ) (m k : Body) → m ≡ k → (b w : List ℕ) → w ≡ typed ed t k b → w ≡ typed ed t m b
-case-fields ed t m k q b w f = f ∙ ap (λ (y : Body). typed ed t y b) (sym q)
-
-module _ (ed : Edition) (b l : List ℕ) (r : Judged) (e : r ≡ judgeBody ed b) where
-  pub body-refused : (f : Fault) → r ≡ Judged.Bad f → (n : ℕ) → n ≡ withOffset f → call n l ≡ bodyAnswer ed (judgeBody ed b) (readBody ed b) b l
+module _ (ed : Edition) (b l x : List ℕ) (r : Judged) (e : r ≡ judgeBody ed b) where
+  pub body-refused : (f : Fault) → r ≡ Judged.Bad f → (n : ℕ) → n ≡ withOffset f → fillCall n l x ≡ bodyAnswer ed (judgeBody ed b) (readBody ed b) b l x
   unfolding bodyAnswer
-  body-refused f q n g = ap (λ (y : ℕ). call y l) g ∙ ap (λ (y : Judged). bodyAnswer ed y (readBody ed b) b l) (sym q ∙ e)
+  body-refused f q n g = ap (λ (y : ℕ). fillCall y l x) g ∙ ap (λ (y : Judged). bodyAnswer ed y (readBody ed b) b l x) (sym q ∙ e)
 
-  -- told by the type t that the body starts with, m being what was decoded
-  pub body-told : (k : Kind) → r ≡ Judged.Good k → (t : ℕ) → t ≡ getD b 0 0 → (m : Body) → m ≡ decoded k b → (w : List ℕ) → w ≡ typed ed t m b → call 0 w ≡ bodyAnswer ed (judgeBody ed b) (readBody ed b) b l
+  -- its numbers w, by the type that the body starts with, and its text z, of what is decoded of its kind
+  pub body-told : (k : Kind) → r ≡ Judged.Good k → (w z : List ℕ) → w ≡ typed ed (getD b 0 0) (decoded k b) b → z ≡ textOf ed (decoded k b) b → fillCall 0 w z ≡ bodyAnswer ed (judgeBody ed b) (readBody ed b) b l x
   unfolding bodyAnswer readBody message
-  body-told k q t h m d w g =
+  body-told k q w z g h =
       let good : judgeBody ed b ≡ Judged.Good k = sym e ∙ q in
-      let same : readBody ed b ≡ m = ap (λ (y : Judged). message y b) good ∙ sym d in
+      let same : readBody ed b ≡ decoded k b = ap (λ (y : Judged). message y b) good in
       let none : bodyNumber (readBody ed b) ≡ 0 = sym (judge-number ed b) ∙ ap judgedNumber good in
-      let type-is : t ≡ typeOf (kindIn (readBody ed b)) = h ∙ sym (type-told ed (readBody ed b) b (read-sound ed b) none) in
-      ap (call 0) (g ∙ (λ j. typed ed (type-is j) (sym same j) b)) ∙ ap (λ (y : Judged). bodyAnswer ed y (readBody ed b) b l) (sym good)
+      let type-is : getD b 0 0 ≡ typeOf (kindIn (readBody ed b)) = sym (type-told ed (readBody ed b) b (read-sound ed b) none) in
+      (λ j. fillCall 0 ((g ∙ (λ i. typed ed (type-is i) (sym same i) b)) j) ((h ∙ (λ i. textOf ed (sym same i) b)) j))
+      ∙ ap (λ (y : Judged). bodyAnswer ed y (readBody ed b) b l x) (sym good)

@@ -15,31 +15,20 @@ ghost use Rattle.body.specs.Read.{withOffset};
 ghost use Rattle.retype.specs.Retyped.{asked};
 ghost use Rattle.conversion.specs.Packet.{converted};
 ghost use Rattle.conversion.specs.Piece.{turnedTo};
+ghost use Rattle.writer.specs.Append.{numbersAppended, packetAppended};
+ghost use Rattle.api.specs.Writing.{writeAnswer};
 ghost use Rattle.api.specs.Conversions.{convertCall, convertAnswer, pieceAnswer};
 ghost use Rattle.api.specs.Calls.{stateIn, accountNumbers, sideAsked, startCall, startAnswer, receiveCall, receiveAnswer, fillCall, ladderAnswer, call, bitsOf, spreadAnswer, countsAnswer, packetAnswer, recordAnswer, wordOf, sheetAnswer};
 ghost use Rattle.api.specs.Streams.{streamNumbers, streamFrom, openAnswer, feedCall, feedAnswer};
-ghost use Rattle.api.specs.Messages.{typeNumber, symbolFields, stateFields, statusFields, clearFields, addFields, modifyFields, deleteFields, executionFields, tradeFields, cancelFields, typed, bodyAnswer};
+ghost use Rattle.api.specs.Messages.{bodyAnswer};
 use answer_sheet::Recording;
 use answer_sheet::SheetAnswer;
 use arbitration::Counts;
 use body::Judged;
-use body::Security;
 use book::Clock;
 use conversion::Converted;
 use conversion::Pieced;
-use editions::Edition;
-use fields::AddOrder;
-use fields::Body;
-use fields::DeleteOrder;
 use fields::Fault;
-use fields::ModifyOrder;
-use fields::OrderExecution;
-use fields::Symbol;
-use fields::SymbolClear;
-use fields::SystemState;
-use fields::Trade;
-use fields::TradeCancel;
-use fields::TradingStatus;
 use packet::Packet;
 use packet::Record;
 use receiver::Account;
@@ -52,6 +41,7 @@ use views::CountsAnswer;
 use views::LadderAnswer;
 use views::Side;
 use views::SpreadAnswer;
+use writer::Wrote;
 
 // A receiver's state as four numbers.
 fn state_numbers(s: State) -> [u64; 4]
@@ -359,180 +349,22 @@ pub extern "C" fn rimeheath_record(edition: u64, rest: &[u8], head: &mut [u64; 2
     }
 }
 
-// The Security Type, 0 where there is none.
-fn type_number(y: Security) -> u64
-    ensures { λ r. ⌜ r ≡ typeNumber y ⌝ }
-{
-    match y {
-        Security::Type(x) => x as u64,
-        Security::Reserved => 0,
-    }
-}
-
-// The numbers of each message, in the order of their places but for the Security Type: its type t first, zeros behind them.
-fn symbol_fields(t: u64, s: Symbol, y: Security) -> [u64; 8]
-    ensures { λ r. ⌜ r ≡ symbolFields t s y ⌝ }
-{
-    [
-        t,
-        s.id as u64,
-        s.lot as u64,
-        s.market as u64,
-        type_number(y),
-        0,
-        0,
-        0,
-    ]
-}
-
-fn state_fields(t: u64, s: SystemState) -> [u64; 8]
-    ensures { λ r. ⌜ r ≡ stateFields t s ⌝ }
-{
-    [
-        t,
-        s.nanos as u64,
-        s.session as u64,
-        s.status as u64,
-        0,
-        0,
-        0,
-        0,
-    ]
-}
-
-fn status_fields(t: u64, s: TradingStatus) -> [u64; 8]
-    ensures { λ r. ⌜ r ≡ statusFields t s ⌝ }
-{
-    [
-        t,
-        s.nanos as u64,
-        s.symbol as u64,
-        s.trading as u64,
-        s.market as u64,
-        s.short as u64,
-        0,
-        0,
-    ]
-}
-
-fn clear_fields(t: u64, s: SymbolClear) -> [u64; 8]
-    ensures { λ r. ⌜ r ≡ clearFields t s ⌝ }
-{
-    [t, s.nanos as u64, s.symbol as u64, 0, 0, 0, 0, 0]
-}
-
-fn add_fields(t: u64, s: AddOrder) -> [u64; 8]
-    ensures { λ r. ⌜ r ≡ addFields t s ⌝ }
-{
-    [
-        t,
-        s.nanos as u64,
-        s.symbol as u64,
-        s.order,
-        s.side as u64,
-        s.price,
-        s.size as u64,
-        s.attributable as u64,
-    ]
-}
-
-fn modify_fields(t: u64, s: ModifyOrder) -> [u64; 8]
-    ensures { λ r. ⌜ r ≡ modifyFields t s ⌝ }
-{
-    [
-        t,
-        s.nanos as u64,
-        s.symbol as u64,
-        s.order,
-        s.price,
-        s.size as u64,
-        s.flags as u64,
-        0,
-    ]
-}
-
-fn delete_fields(t: u64, s: DeleteOrder) -> [u64; 8]
-    ensures { λ r. ⌜ r ≡ deleteFields t s ⌝ }
-{
-    [t, s.nanos as u64, s.symbol as u64, s.order, 0, 0, 0, 0]
-}
-
-fn execution_fields(t: u64, s: OrderExecution) -> [u64; 8]
-    ensures { λ r. ⌜ r ≡ executionFields t s ⌝ }
-{
-    [
-        t,
-        s.nanos as u64,
-        s.symbol as u64,
-        s.order,
-        s.trade,
-        s.price,
-        s.size as u64,
-        s.flags as u64,
-    ]
-}
-
-fn trade_fields(t: u64, s: Trade) -> [u64; 8]
-    ensures { λ r. ⌜ r ≡ tradeFields t s ⌝ }
-{
-    [
-        t,
-        s.nanos as u64,
-        s.symbol as u64,
-        s.trade,
-        s.correction as u64,
-        s.price,
-        s.size as u64,
-        s.flags as u64,
-    ]
-}
-
-fn cancel_fields(t: u64, s: TradeCancel) -> [u64; 8]
-    ensures { λ r. ⌜ r ≡ cancelFields t s ⌝ }
-{
-    [
-        t,
-        s.nanos as u64,
-        s.symbol as u64,
-        s.trade,
-        s.correction as u64,
-        s.price,
-        s.size as u64,
-        0,
-    ]
-}
-
-// A Symbol Update and a System State hold arrays, so their numbers are read from the body.
-fn fields_of(e: Edition, t: u64, m: Body, b: &[u8]) -> [u64; 8]
-    ensures { λ r. ⌜ r ≡ typed e t m (now (b .entry)) ⌝ }
-{
-    match m {
-        Body::SystemTime(n) => [t, n as u64, 0, 0, 0, 0, 0, 0],
-        Body::SymbolUpdate => symbol_fields(t, fields::symbol_of(b), body::security_in(e, b)),
-        Body::SystemState => state_fields(t, fields::state_of(b)),
-        Body::TradingStatus(s) => status_fields(t, s),
-        Body::SymbolClear(s) => clear_fields(t, s),
-        Body::Add(s) => add_fields(t, s),
-        Body::Modify(s) => modify_fields(t, s),
-        Body::Delete(s) => delete_fields(t, s),
-        Body::Execution(s) => execution_fields(t, s),
-        Body::Trade(s) => trade_fields(t, s),
-        Body::TradeCancel(s) => cancel_fields(t, s),
-        Body::Bad(_) => [t, 0, 0, 0, 0, 0, 0, 0],
-    }
-}
-
-// Judges a body of an edition, and reads the numbers of a good one, which starts with its type.
+// Judges a body of an edition, and reads all fields of a good one: its numbers, of which the first is its type, and its text.
 #[no_mangle]
-pub extern "C" fn rimeheath_body(edition: u64, b: &[u8], numbers: &mut [u64; 8]) -> u32
-    ensures { λ r. ⌜ call r (now (numbers .exit)) ≡ bodyAnswer (editionOf edition) (judgeBody (editionOf edition) (now (b .entry))) (readBody (editionOf edition) (now (b .entry))) (now (b .entry)) (now (numbers .entry)) ⌝ }
+pub extern "C" fn rimeheath_body(
+    edition: u64,
+    b: &[u8],
+    fields: &mut [u64; 8],
+    text: &mut [u8; 28],
+) -> u32
+    ensures { λ r. ⌜ fillCall r (now (fields .exit)) (now (text .exit)) ≡ bodyAnswer (editionOf edition) (judgeBody (editionOf edition) (now (b .entry))) (readBody (editionOf edition) (now (b .entry))) (now (b .entry)) (now (fields .entry)) (now (text .entry)) ⌝ }
 {
     let e = editions::edition_of(edition);
     match body::judge_body(e, b) {
         Judged::Bad(f) => with_offset(f),
         Judged::Good(k) => {
-            let m = fields::decode(k, b);
-            *numbers = fields_of(e, wire::u8_at(b, 0) as u64, m, b);
+            *fields = numbers::fields_of(e, k, b);
+            *text = numbers::text_of(e, k, b);
             0
         }
     }
@@ -613,6 +445,52 @@ pub extern "C" fn rimeheath_convert_piece(
         Pieced::Refused(r) => r.number,
         Pieced::Done(n, c) => {
             *counts = [n as u64, c.updates as u64, c.unread as u64, c.barred as u64];
+            0
+        }
+    }
+}
+
+// Writes a record behind the packet so far, from the numbers and the text in which rimeheath_body gives a message: the packet's new length.
+#[no_mangle]
+pub extern "C" fn rimeheath_append(
+    edition: u64,
+    memory: &mut [u8],
+    used: usize,
+    number: u64,
+    fields: &[u64; 8],
+    text: &[u8; 28],
+    length: &mut [u64; 1],
+) -> u32
+    ensures { λ r. ⌜ fillCall r (now (length .exit)) (now (memory .exit)) ≡ writeAnswer (numbersAppended (editionOf edition) (now (memory .entry)) used number (now (fields .entry)) (now (text .entry))) (now (length .entry)) ⌝ }
+{
+    let e = editions::edition_of(edition);
+    match writer::append_numbers(e, memory, used, number, fields, text) {
+        Wrote::Refused(r) => r.number as u32,
+        Wrote::Bad(f) => with_offset(f),
+        Wrote::Length(n) => {
+            *length = [n as u64];
+            0
+        }
+    }
+}
+
+// Writes a packet, behind its length, behind the recording so far: the recording's new length.
+#[no_mangle]
+pub extern "C" fn rimeheath_append_packet(
+    edition: u64,
+    memory: &mut [u8],
+    used: usize,
+    p: &[u8],
+    length: &mut [u64; 1],
+) -> u32
+    ensures { λ r. ⌜ fillCall r (now (length .exit)) (now (memory .exit)) ≡ writeAnswer (packetAppended (editionOf edition) (now (memory .entry)) used (now (p .entry))) (now (length .entry)) ⌝ }
+{
+    let e = editions::edition_of(edition);
+    match writer::append_packet(e, memory, used, p) {
+        Wrote::Refused(r) => r.number as u32,
+        Wrote::Bad(f) => with_offset(f),
+        Wrote::Length(n) => {
+            *length = [n as u64];
             0
         }
     }

@@ -1,4 +1,4 @@
--- A refused body leaves what is lent; any other is told by its first byte and its numbers.
+-- A refused body leaves what is lent; any other is told by its numbers and its text.
 -- Assumes nothing.
 use mathlib.Core.Path.{sym, _∙_}
 use native.Mathlib.Omega.{arith}
@@ -9,10 +9,10 @@ use Rattle.api.proofs.rimeheath_body.Statement.{statement}
 use Rattle.api.proofs.rimeheath_body.Tie as tie
 
 edition-of-requires : tie.Need-edition-of-requires
-edition-of-requires c κs = tt
+edition-of-requires c κs = search needs
 
 judge-body-requires : tie.Need-judge-body-requires
-judge-body-requires c κs = tt
+judge-body-requires c κs = search needs
 
 enum-known-f : tie.Need-enum-known-f
 enum-known-f c = search needs
@@ -23,23 +23,17 @@ with-offset-requires c κs = omega (arith, judged-small _ (c .before .before .be
 enum-known-k : tie.Need-enum-known-k
 enum-known-k c = search needs
 
-decode-requires : tie.Need-decode-requires
-decode-requires c κs = tt
-
-u8-at-requires : tie.Need-u8-at-requires
-u8-at-requires c κs = tt
-
-cast-fields-of : tie.Need-cast-fields-of
-cast-fields-of c = search needs
-
 fields-of-requires : tie.Need-fields-of-requires
-fields-of-requires c κs = tt
+fields-of-requires c κs = search needs
+
+text-of-requires : tie.Need-text-of-requires
+text-of-requires c κs = search needs
 
 returns : tie.Need-returns
-returns c = rw (← c .before .before .before .before .before .edition-of .ensures) (body-refused _ _ _ _ (c .before .before .before .before .judge-body .ensures) _ (c .before .before .f .given .1) _ (c .with-offset .ensures))
+returns c = rw (← c .before .before .before .before .before .edition-of .ensures) (body-refused _ _ _ _ _ (c .before .before .before .before .judge-body .ensures) _ (c .before .before .f .given .1) _ (c .with-offset .ensures))
 
 returns-2 : tie.Need-returns-2
-returns-2 c = rw (← c .before .before .before .before .before .before .before .edition-of .ensures) (body-told _ _ _ _ (c .before .before .before .before .before .before .judge-body .ensures) _ (c .before .before .before .before .k .given .1) _ (c .before .u8-at .ensures) _ (c .before .before .decode .ensures) _ (c .fields-of .ensures))
+returns-2 c = rw (← c .before .before .before .before .before .before .edition-of .ensures) (body-told _ _ _ _ _ (c .before .before .before .before .before .judge-body .ensures) _ (c .before .before .before .k .given .1) _ _ (c .before .fields-of .ensures) (c .text-of .ensures))
 
 pub rimeheath-body-spec : {M : Type 1} → statement M
 rimeheath-body-spec =
@@ -50,9 +44,7 @@ rimeheath-body-spec =
     enum-known-f
     with-offset-requires
     enum-known-k
-    decode-requires
-    u8-at-requires
-    cast-fields-of
     fields-of-requires
+    text-of-requires
     returns
     returns-2)

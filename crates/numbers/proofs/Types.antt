@@ -1,18 +1,21 @@
 -- The first number told of a good body is its own type byte, since a body that was read is framed by its kind's type in the table.
 -- Assumes nothing.
 use Prim.Native.Nat.{ℕ}
-use mathlib.Core.Path.{_≡_, refl, sym, _∙_}
-use mathlib.Core.List.{List}
+use mathlib.Core.Path.{_≡_, refl, sym, ap, _∙_}
+use mathlib.Core.List.{List, [], _∷_, _++_, append-assoc}
 use mathlib.Core.Logic.{inl, inr}
 use native.Mathlib.Omega.{arith}
-use lib.ListN.{getD, set}
+use lib.ListN.{length, getD, set, length-append}
+use lib.Seq.{set-at}
 use Rattle.editions.specs.declared.Edition.{Edition}
+use Rattle.wire.specs.Le.{padded}
+use Rattle.wire.proofs.Laws.{length-padded}
 use Rattle.kinds.specs.Table.{typeOf}
 use Rattle.fields.specs.Fields.{bodyNumber, securityOf}
 use Rattle.fields.specs.declared.Body.{Body}
 use Rattle.body.specs.Read.{readBody}
 use Rattle.body.proofs.Laws.{Sound, read-sound}
-use Rattle.api.specs.Messages.{typed, kindIn, fieldsOf}
+use Rattle.numbers.specs.Numbers.{typed, kindIn, fieldsOf, textOf}
 
 -- the kind of what was read has the type that the body starts with
 pub type-told : (ed : Edition) (m : Body) (b : List ℕ) → Sound ed m b → bodyNumber m ≡ 0 → typeOf (kindIn m) ≡ getD b 0 0
@@ -68,3 +71,27 @@ numbers-alike r w t (Body.Bad f) b e = refl
 -- of a Symbol Update all but one, which is byte 20 in 1.3 and 0 in 1.3.b
 pub update-numbers : (t : ℕ) (b : List ℕ) → typed Edition.V13 t Body.SymbolUpdate b ≡ set (typed Edition.V13b t Body.SymbolUpdate b) 4 (securityOf b)
 update-numbers t b = refl
+
+-- and so with the text: of any other message it is the same in each edition, and of a Symbol Update all but the last byte, which is byte 20 where it is reserved and 0 in 1.3
+pub texts-alike : (r w : Edition) (m : Body) (b : List ℕ) → (m ≡ Body.SymbolUpdate → ⊥) → textOf r m b ≡ textOf w m b
+texts-alike r w (Body.SystemTime n) b e = refl
+texts-alike r w Body.SymbolUpdate b e = absurd (e refl)
+texts-alike r w Body.SystemState b e = refl
+texts-alike r w (Body.TradingStatus m) b e = refl
+texts-alike r w (Body.SymbolClear m) b e = refl
+texts-alike r w (Body.Add m) b e = refl
+texts-alike r w (Body.Modify m) b e = refl
+texts-alike r w (Body.Delete m) b e = refl
+texts-alike r w (Body.Execution m) b e = refl
+texts-alike r w (Body.Trade m) b e = refl
+texts-alike r w (Body.TradeCancel m) b e = refl
+texts-alike r w (Body.Bad f) b e = refl
+
+last-set : (p q s : List ℕ) (v : ℕ) → length p ≡ 11 → length q ≡ 8 → length s ≡ 8 → p ++ (q ++ (s ++ (0 ∷ []))) ≡ set (p ++ (q ++ (s ++ (v ∷ [])))) 27 0
+last-set p q s v a b c =
+    let l : length (p ++ (q ++ s)) ≡ 27 = rw (length-append, length-append) (omega arith) in
+    let joined-is : (y : ℕ) → p ++ (q ++ (s ++ (y ∷ []))) ≡ (p ++ (q ++ s)) ++ (y ∷ []) = λ y. rw (append-assoc p (q ++ s) (y ∷ []), append-assoc q s (y ∷ [])) refl in
+    joined-is 0 ∙ (sym (set-at (p ++ (q ++ s)) v [] 0 27 l) ∙ ap (λ (z : List ℕ). set z 27 0) (sym (joined-is v)))
+
+pub update-texts : (b : List ℕ) → textOf Edition.V13 Body.SymbolUpdate b ≡ set (textOf Edition.V13b Body.SymbolUpdate b) 27 0
+update-texts b = last-set (padded b 9 11) (padded b 25 8) (padded b 33 8) (securityOf b) (length-padded b 9 11) (length-padded b 25 8) (length-padded b 33 8)
