@@ -1,6 +1,7 @@
 /* A first program over the proved library, in two parts.
  *
- * One packet: a receiver is given the project's example, numbers 1 to 5 in one packet, and the program walks through the tables.
+ * One packet: the project's example, numbers 1 to 5 in one packet, is written, read and written again; a receiver is given it, and the
+ * program walks through the tables.
  * A recording in chunks: the file that is named is fed in pieces of 64 bytes, and its answer sheet is printed. A second word, 1.3, says that
  * it is a recording of version 1.3.
  *
@@ -37,6 +38,7 @@ static const char *meaning(uint8_t answer) {
     case RIMEHEATH_REFUSED_NUMBER: return "a sequence number out of range";
     case RIMEHEATH_REFUSED_SIZE: return "the size of a table, the index or the buffer, or the next number";
     case RIMEHEATH_REFUSED_SYMBOL: return "no such symbol";
+    case RIMEHEATH_REFUSED_ROOM: return "no room in the memory";
     default: return "done";
     }
 }
@@ -55,54 +57,68 @@ static bool refused_at(const char *call, uint32_t answer) {
     return true;
 }
 
+/* A call that writes tells a byte only of the packet so far, which it reads. */
+static bool not_written(const char *call, uint32_t answer) {
+    return RIMEHEATH_OFFSET(answer) > 0 ? refused_at(call, answer) : refused(call, RIMEHEATH_NUMBER(answer));
+}
+
 /* ---- one packet ---- */
 
 static uint8_t packet[RIMEHEATH_PACKET_MOST];
 static size_t used;
 
-/* All numbers of the feed are little-endian. */
-static void put(uint64_t value, int width) {
-    for (; width > 0; width--, value >>= 8) packet[used++] = (uint8_t)value;
+/* A message is eight numbers, its type first, and 28 bytes of text; one that has no text may be lent any. */
+static bool append(uint64_t number, const uint64_t fields[RIMEHEATH_FIELDS_SIZE], const uint8_t text[RIMEHEATH_TEXT_SIZE]) {
+    uint64_t length[1];
+    if (not_written("append", rimeheath_append(RIMEHEATH_EDITION_1_3_B, packet, sizeof packet, used, number, fields, text, length)))
+        return false;
+    used = (size_t)length[0];
+    return true;
 }
 
-static void put_text(const char *bytes) {
-    memcpy(packet + used, bytes, strlen(bytes));
-    used += strlen(bytes);
+static const uint8_t no_text[RIMEHEATH_TEXT_SIZE];
+
+/* Add Order: nanoseconds, symbol, order, side, price in millionths of a dollar, size, attribution (four spaces: none). */
+static bool add(uint64_t number, uint64_t order, char side, uint64_t price, uint64_t size) {
+    const uint64_t fields[RIMEHEATH_FIELDS_SIZE] = {20, 0, 7, order, (uint64_t)side, price, size, 0x20202020};
+    return append(number, fields, no_text);
 }
 
-/* A record's header, then the first byte of its body. */
-static void put_head(uint64_t number, int length, uint8_t type) {
-    put(number, 8);
-    put((uint64_t)length, 2);
-    put(type, 1);
+static bool make_packet(void) {
+    const uint64_t time[RIMEHEATH_FIELDS_SIZE] = {49, 34200};
+    /* Symbol Update: symbol 7, lot 100, market, no Security Type in this edition, nanoseconds, no test symbol, byte 22. */
+    const uint64_t listed[RIMEHEATH_FIELDS_SIZE] = {1, 7, 100, 'H', 0, 0, 'N', 0};
+    uint8_t text[RIMEHEATH_TEXT_SIZE] = {0};
+    memcpy(text + RIMEHEATH_TEXT_TICKER, "ABC        ", RIMEHEATH_TICKER_SIZE);
+    memcpy(text + RIMEHEATH_TEXT_OPENING, "09:30:00", 8);
+    memcpy(text + RIMEHEATH_TEXT_CLOSING, "16:00:00", 8);
+    return append(1, time, no_text) && append(2, listed, text) && add(3, 500, 'B', 10000000, 100) && add(4, 501, 'S', 10020000, 200) &&
+           add(5, 502, 'B', 10000000, 50);
 }
 
-static void put_add(uint64_t number, uint64_t order, const char *side, uint64_t price, uint32_t size) {
-    put_head(number, 34, 20);
-    put(0, 4); /* nanoseconds */
-    put(7, 4); /* symbol */
-    put(order, 8);
-    put_text(side);
-    put(price, 8); /* millionths of a dollar */
-    put(size, 4);
-    put_text("    "); /* no attribution */
+/* Reads the packet record by record, and writes each behind those before: the same bytes come of it. */
+static bool write_again(void) {
+    uint8_t again[RIMEHEATH_PACKET_MOST], text[RIMEHEATH_TEXT_SIZE];
+    uint64_t head[2], fields[RIMEHEATH_FIELDS_SIZE], length[1] = {0};
+    for (size_t at = 0; at < used; at += 10 + (size_t)head[1]) {
+        if (refused_at("record", rimeheath_record(RIMEHEATH_EDITION_1_3_B, packet + at, used - at, head))) return false;
+        if (refused_at("body", rimeheath_body(RIMEHEATH_EDITION_1_3_B, packet + at + 10, (size_t)head[1], fields, text))) return false;
+        if (not_written("append", rimeheath_append(RIMEHEATH_EDITION_1_3_B, again, sizeof again, (size_t)length[0], head[0], fields, text,
+                                                   length)))
+            return false;
+    }
+    printf("read and written again: %s\n", length[0] == used && memcmp(packet, again, used) == 0 ? "the same bytes" : "other bytes");
+    return true;
 }
 
-static void make_packet(void) {
-    put_head(1, 5, 49); /* System Time */
-    put(34200, 4);
-    put_head(2, 42, 1); /* Symbol Update: no nanoseconds, symbol 7 */
-    put(0, 4);
-    put(7, 4);
-    put_text("ABC        ");
-    put(0, 1); /* reserved, no test symbol, reserved, lot, opening, closing, market */
-    put_text("N");
-    put(0, 1);
-    put(100, 2);
-    put_text("09:30:0016:00:00H");
-    put_add(3, 500, "B", 10000000, 100);
-    put_add(4, 501, "S", 10020000, 200);
-    put_add(5, 502, "B", 10000000, 50);
+/* The packet behind its length, as a recording. */
+static bool make_recording(void) {
+    uint8_t file[2 + RIMEHEATH_PACKET_MOST];
+    uint64_t length[1];
+    if (refused_at("append_packet", rimeheath_append_packet(RIMEHEATH_EDITION_1_3_B, file, sizeof file, 0, packet, used, length)))
+        return false;
+    printf("written: a packet of %lu bytes, a recording of %" PRIu64 "\n", (unsigned long)used, length[0]);
+    return true;
 }
 
 /* A number of the symbol table, lowest byte first. */
@@ -133,7 +149,8 @@ static bool one_packet(void) {
     uint64_t state[RIMEHEATH_STATE_SIZE], account[RIMEHEATH_ACCOUNT_SIZE], spread[2], updates[1];
     uint8_t other[RIMEHEATH_PACKET_MOST], none[1]; /* no exceptions, but a pointer all the same */
 
-    make_packet();
+    if (!make_packet() || !make_recording() || !write_again()) return false;
+    add(6, 503, 'B', 0, 100); /* no price: nothing is written */
     if (refused("start", rimeheath_start(edition, orders, ORDERS, symbols, SYMBOLS, shelf, sizeof shelf, finder, INDEX, state)))
         return false;
     if (refused_at("receive", rimeheath_receive(orders, ORDERS, symbols, SYMBOLS, shelf, sizeof shelf, finder, INDEX, state, packet, used,
