@@ -27,6 +27,11 @@ impl Edition {
         self.has_security_type().then(|| update[BYTE_20])
     }
 
+    /// Byte 20 of a Symbol Update where it is reserved.
+    pub fn reserved20(self, update: &[u8]) -> Option<u8> {
+        (!self.has_security_type()).then(|| update[BYTE_20])
+    }
+
     /// An edition by its name in the exchange's documents.
     pub fn named(name: &str) -> Option<Edition> {
         match name {

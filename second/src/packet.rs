@@ -131,6 +131,8 @@ pub struct SymbolUpdate {
     pub ticker: [u8; 11],
     /// Of 1.3 alone; in other editions byte 20 is reserved.
     pub security_type: Option<u8>,
+    /// Byte 20 where it is reserved.
+    pub reserved20: Option<u8>,
     pub test: u8,
     pub reserved22: u8,
     pub lot: u16,
@@ -433,6 +435,7 @@ pub fn read_body(edition: Edition, body: &[u8]) -> Result<Message, Refusal> {
                 symbol: u32_at(body, 5),
                 ticker: bytes_at(body, 9),
                 security_type: edition.security_type(body),
+                reserved20: edition.reserved20(body),
                 test: body[21],
                 reserved22: body[22],
                 lot: u16_at(body, 23),
