@@ -1,16 +1,18 @@
-//! Which faults the refused packets of a run had, and where, what searches through an index met, and what became of
-//! what was converted, so that a run can say that it tried them all.
+//! Which faults the refused packets of a run had, and where, what searches through an index met, what became of what
+//! was converted, and what was written or refused to be, so that a run can say that it tried them all.
 
 use crate::book::Search;
 use crate::convert::{Asked, Counts, BY_ID, BY_TICKER, EXCEPTION_BYTES};
 use crate::desk::Desk;
 use crate::edition::Edition;
 use crate::index::*;
-use crate::morning::{mend_field, updates_in};
+use crate::morning::{mend_field, numbers_of_type, updates_in};
 use crate::packet::*;
-use crate::reading::{first_fault, message_name, Fault, JUDGED_FIELDS};
+use crate::reading::{first_fault, judged_fields, message_name, Fault, JUDGED_FIELDS};
 use crate::receiver::Answer;
 use crate::tables::*;
+use crate::write::Fields;
+use std::collections::BTreeMap;
 
 /// Refused packets by number, place and fault. The refusals 2 to 5 alone are counted, which tell an offset.
 #[derive(Clone, Debug, Default, PartialEq, Eq)]
@@ -468,6 +470,301 @@ impl Conversions {
         let seen = CONVERSIONS.iter().zip(self.0);
         seen.map(|(what, count)| (format!("converted, {what}"), count))
             .collect()
+    }
+}
+
+/// What writers were given, and what came of it (docs/WRITE.md).
+const WRITINGS: [&str; 48] = [
+    // A record, refused for the packet so far.
+    "a record, 32 before all",
+    "a record, 32 before all and before another refusal",
+    "a record, 1 of the packet so far",
+    "a record, 2 of the packet so far",
+    "a record, 3 of the packet so far",
+    "a record, 4 of the packet so far",
+    "a record, 5 of the packet so far",
+    "a record, a refusal of the packet so far at 256 or more",
+    "a record, a refusal of the packet so far before its own",
+    // For itself, and before another that applies too.
+    "a record, 5",
+    "a record, 3",
+    "a record, 4",
+    "a record, 1",
+    "a record, 32",
+    "a record, 5 before 3",
+    "a record, 5 before 4",
+    "a record, 5 before 1",
+    "a record, 5 before 32",
+    "a record, 3 before 1",
+    "a record, 3 before 32",
+    "a record, 4 before 1",
+    "a record, 4 before 32",
+    "a record, 1 before 32",
+    "a record that would end at 1,501",
+    "a record that lacks one byte of memory",
+    // Accepted.
+    "a record behind nothing",
+    "a record behind one",
+    "a record behind several",
+    "a packet of 1,500 bytes",
+    "a packet that fills its memory",
+    "a record with number 1",
+    "a record with number 10^12",
+    "a record with numbers or bytes that it does not have",
+    "a record by another edition number",
+    "a refused record by another edition number",
+    // A packet behind a recording so far.
+    "a packet, 32 before all",
+    "a packet, 32 before all and before another refusal",
+    "a packet, 1",
+    "a packet, 2",
+    "a packet, 3",
+    "a packet, 4",
+    "a packet, 5",
+    "a packet, 32",
+    "a packet, its refusal before 32",
+    "a packet behind nothing",
+    "a packet behind others",
+    "a recording that fills its memory",
+    "a packet by another edition number",
+];
+
+#[derive(Clone, Debug, Default, PartialEq, Eq)]
+pub struct Writings {
+    counts: BTreeMap<&'static str, u64>,
+    /// By edition and type: records written.
+    kinds: BTreeMap<(bool, u8), u64>,
+    /// By edition and the places of `JUDGED_FIELDS`: out of range as the record's only fault.
+    alone: BTreeMap<(bool, usize), u64>,
+    /// By edition, type and place: a number too large for its bytes as the record's only fault.
+    too_large: BTreeMap<(bool, u8, usize), u64>,
+}
+
+/// What a writer of a record is given, the edition by its number at the boundary.
+#[derive(Clone, Copy, Debug)]
+pub struct Appended<'a> {
+    pub edition: u64,
+    pub memory: &'a [u8],
+    pub used: usize,
+    pub number: u64,
+    pub fields: &'a Fields,
+}
+
+impl Appended<'_> {
+    fn edition(&self) -> Edition {
+        Edition::of_number(self.edition)
+    }
+
+    /// How long the packet would be; of a type that is none with the shortest record.
+    fn needed(&self) -> usize {
+        let kind = self.fields.kind().unwrap_or(SYSTEM_TIME);
+        let length = length_of_type(kind).expect("a type that there is");
+        self.used.saturating_add(HEADER_BYTES + length)
+    }
+
+    /// How the packet so far is refused, where it is in the memory.
+    fn so_far_refusal(&self) -> Option<Refusal> {
+        let so_far = &self.memory[..self.used];
+        match so_far {
+            [] => None,
+            _ => read_packet(self.edition(), so_far).err(),
+        }
+    }
+
+    /// All that is wrong with the record itself, in the order in which it is told.
+    fn own_refusals(&self) -> Vec<u8> {
+        let bad_number = self.number == 0 || self.number > LAST_NUMBER;
+        let mut refusals = Vec::new();
+        refusals.extend(bad_number.then_some(5));
+        refusals.extend(self.fields.body(self.edition()).err());
+        refusals.extend((self.needed() > MOST_PACKET_BYTES).then_some(1));
+        refusals.extend((self.needed() > self.memory.len()).then_some(32));
+        refusals
+    }
+}
+
+impl Writings {
+    /// Something of `WRITINGS`, by its name, if it was so.
+    fn note(&mut self, what: &str, so: bool) {
+        let place = WRITINGS.iter().position(|known| *known == what);
+        let what = WRITINGS[place.expect("one of WRITINGS")];
+        *self.counts.entry(what).or_default() += u64::from(so);
+    }
+
+    /// A record, and what was answered.
+    pub fn note_record(&mut self, given: &Appended, answer: &Result<usize, Refusal>) {
+        let own = given.own_refusals();
+        let other = given.edition > 1 && answer.is_err();
+        self.note("a refused record by another edition number", other);
+        match answer {
+            Ok(length) => self.note_written(given, *length),
+            Err(_) if given.used > given.memory.len() => {
+                // 32 for the length that is needed is one of its own then, and is not counted.
+                let others = own.iter().any(|number| *number != 32);
+                self.note("a record, 32 before all", true);
+                self.note("a record, 32 before all and before another refusal", others);
+            }
+            Err(refusal) => match given.so_far_refusal() {
+                Some(told) => {
+                    let far = told.offset.is_some_and(|offset| offset >= 256);
+                    let what = format!("a record, {} of the packet so far", refusal.number);
+                    self.note(&what, true);
+                    let at = "a record, a refusal of the packet so far at 256 or more";
+                    self.note(at, far);
+                    let before = "a record, a refusal of the packet so far before its own";
+                    self.note(before, !own.is_empty());
+                }
+                None => self.note_own(given, &own),
+            },
+        }
+    }
+
+    fn note_own(&mut self, given: &Appended, own: &[u8]) {
+        let [first, others @ ..] = own else {
+            return;
+        };
+        self.note(&format!("a record, {first}"), true);
+        for other in others {
+            self.note(&format!("a record, {first} before {other}"), true);
+        }
+        let needed = given.needed();
+        let beyond = own == [1] && needed == MOST_PACKET_BYTES + 1;
+        self.note("a record that would end at 1,501", beyond);
+        let lacks = own == [32] && needed == given.memory.len() + 1;
+        self.note("a record that lacks one byte of memory", lacks);
+        if own == [4] {
+            self.note_field(given.edition(), given.fields);
+        }
+    }
+
+    /// A record that is refused for its fields alone: for one of them, or for more.
+    fn note_field(&mut self, edition: Edition, fields: &Fields) {
+        let kind = fields.kind().expect("a type that there is");
+        let typed = edition.has_security_type();
+        let numbers = numbers_of_type(edition, kind);
+        let large = |(place, bytes): &&(usize, usize)| {
+            *bytes < 8 && fields.numbers[*place] >> (8 * bytes) != 0
+        };
+        let large: Vec<&(usize, usize)> = numbers.iter().filter(large).collect();
+        match large[..] {
+            [] => {
+                let body = fields.laid_out(edition).expect("all numbers fit");
+                if let [only] = bad_fields(edition, &body)[..] {
+                    *self.alone.entry((typed, only)).or_default() += 1;
+                }
+            }
+            [(place, _)] => {
+                // With a good number in its place nothing else is wrong. One of these is good for each.
+                let mut mended = *fields;
+                let good = [0, 1, b'B', b'E', b'H', b'N'].into_iter().any(|number| {
+                    mended.numbers[*place] = number.into();
+                    mended.body(edition).is_ok()
+                });
+                let count = self.too_large.entry((typed, kind, *place)).or_default();
+                *count += u64::from(good);
+            }
+            _ => {}
+        }
+    }
+
+    fn note_written(&mut self, given: &Appended, length: usize) {
+        let records = read_packet(given.edition(), &given.memory[..given.used]);
+        let records = records.map_or(0, |records| records.len());
+        self.note("a record behind nothing", records == 0);
+        self.note("a record behind one", records == 1);
+        self.note("a record behind several", records > 1);
+        self.note("a packet of 1,500 bytes", length == MOST_PACKET_BYTES);
+        self.note(
+            "a packet that fills its memory",
+            length == given.memory.len(),
+        );
+        self.note("a record with number 1", given.number == 1);
+        self.note("a record with number 10^12", given.number == LAST_NUMBER);
+        let more = *given.fields != given.fields.kept(given.edition());
+        self.note("a record with numbers or bytes that it does not have", more);
+        self.note("a record by another edition number", given.edition > 1);
+        let typed = given.edition().has_security_type();
+        let kind = given.fields.kind().expect("a type that there is");
+        *self.kinds.entry((typed, kind)).or_default() += 1;
+    }
+
+    /// A packet behind a recording so far of `used` bytes in so many of memory, and what was answered.
+    pub fn note_packet(
+        &mut self,
+        number: u64,
+        memory: usize,
+        used: usize,
+        packet: &[u8],
+        answer: &Result<usize, Refusal>,
+    ) {
+        self.note("a packet by another edition number", number > 1);
+        let refused = read_packet(Edition::of_number(number), packet).err();
+        let lacks = used.saturating_add(2 + packet.len()) > memory;
+        match answer {
+            Ok(length) => {
+                self.note("a packet behind nothing", used == 0);
+                self.note("a packet behind others", used > 0);
+                self.note("a recording that fills its memory", *length == memory);
+            }
+            Err(_) if used > memory => {
+                let both = refused.is_some();
+                self.note("a packet, 32 before all", true);
+                self.note("a packet, 32 before all and before another refusal", both);
+            }
+            Err(refusal) => {
+                self.note(&format!("a packet, {}", refusal.number), true);
+                let both = refused.is_some() && lacks;
+                self.note("a packet, its refusal before 32", both);
+            }
+        }
+    }
+
+    pub fn add(&mut self, other: &Writings) {
+        add_all(&mut self.counts, &other.counts);
+        add_all(&mut self.kinds, &other.kinds);
+        add_all(&mut self.alone, &other.alone);
+        add_all(&mut self.too_large, &other.too_large);
+    }
+
+    /// All that a long run must have seen, and how often this one has.
+    pub fn seen(&self) -> Vec<(String, u64)> {
+        let mut seen = Vec::new();
+        for what in WRITINGS {
+            let count = self.counts.get(what).copied().unwrap_or(0);
+            seen.push((format!("written, {what}"), count));
+        }
+        for (edition, name) in [(Edition::V1_3, "1.3"), (Edition::V1_3b, "1.3.b")] {
+            let typed = edition.has_security_type();
+            for (kind, _) in TYPES_AND_LENGTHS {
+                let message = message_name(kind);
+                let count = self.kinds.get(&(typed, kind)).copied().unwrap_or(0);
+                seen.push((format!("written in {name}, {message}"), count));
+                for (place, bytes) in numbers_of_type(edition, kind) {
+                    let count = self.too_large.get(&(typed, kind, place));
+                    if bytes < 8 {
+                        let what = format!("unwritten in {name}, {message}, large number {place}");
+                        seen.push((what, count.copied().unwrap_or(0)));
+                    }
+                }
+            }
+            for (place, field) in JUDGED_FIELDS.into_iter().enumerate() {
+                let count = self.alone.get(&(typed, place)).copied().unwrap_or(0);
+                if judged_fields(edition).contains(&field) {
+                    let (message, field) = (message_name(field.0), field.2);
+                    seen.push((
+                        format!("unwritten in {name}, {message}, bad {field}"),
+                        count,
+                    ));
+                }
+            }
+        }
+        seen
+    }
+}
+
+fn add_all<K: Copy + Ord>(sums: &mut BTreeMap<K, u64>, numbers: &BTreeMap<K, u64>) {
+    for (key, number) in numbers {
+        *sums.entry(*key).or_default() += number;
     }
 }
 

@@ -3,7 +3,7 @@
 //!
 //! `dice` is what is drawn from, `messages` has bodies, records, packets and recordings, `lists` makes
 //! lists of well-formed messages, `delivery` their packets, `faults` bad packets, `conversions` what the
-//! other edition is made of, and `damage` alters tables, shelves and states.
+//! other edition is made of, `writings` what a writer is given, and `damage` alters tables, shelves and states.
 
 mod collisions;
 mod conversions;
@@ -13,6 +13,7 @@ mod dice;
 mod faults;
 mod lists;
 mod messages;
+mod writings;
 
 pub use collisions::*;
 pub use conversions::*;
@@ -22,6 +23,7 @@ pub use dice::Dice;
 pub use faults::*;
 pub use lists::*;
 pub use messages::*;
+pub use writings::*;
 
 #[cfg(test)]
 mod tests {
