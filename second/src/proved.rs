@@ -1,6 +1,6 @@
 //! The proved library, called through its C boundary (`include/rimeheath.h`).
 //!
-//! `lent` has its fourteen calls as they are, over memory that the caller lends; `Proved` is a receiver
+//! `lent` has its sixteen calls as they are, over memory that the caller lends; `Proved` is a receiver
 //! with tables of its own, and answers in Rust's forms. All unsafe code of this crate is in `lent`.
 
 use crate::convert::{self, Asked};
@@ -9,13 +9,15 @@ use crate::index::INDEX_NUMBERS;
 use crate::packet::{Refusal, Side};
 use crate::receiver::{Answer, SHELF_BYTES};
 use crate::tables::{ENTRY_BYTES, ROW_NUMBERS};
+use crate::write::Fields;
 
 /// Enough for any sheet ("1,500,000 bytes always hold it whole").
 pub const SHEET_BYTES: usize = 1_500_000;
 
-/// The fourteen calls. Each answers 0 or the number of a refusal, but for `cut`, which answers whether it
-/// is so, and takes any lengths and any bytes. The four that read packets, records and bodies, and the one that
-/// converts a packet, answer 32 bits: the offset of a refusal stands above its number (`taken_apart`).
+/// The sixteen calls. Each answers 0 or the number of a refusal, but for `cut`, which answers whether it
+/// is so, and takes any lengths and any bytes. The four that read packets, records and bodies, the one that
+/// converts a packet and the two that write answer 32 bits: the offset of a refusal stands above its number
+/// (`taken_apart`).
 ///
 /// What the header asks of its callers beyond the types of C holds for all of them by Rust's types:
 /// a slice's pointer is never null and points to as many elements as its length says, an array
@@ -99,6 +101,26 @@ pub mod lent {
             body: *const c_uchar,
             body_len: usize,
             fields: *mut [u64; 8],
+            text: *mut [c_uchar; 28],
+        ) -> u32;
+        fn rimeheath_append(
+            edition: u64,
+            memory: *mut c_uchar,
+            memory_len: usize,
+            used: usize,
+            number: u64,
+            fields: *const [u64; 8],
+            text: *const [c_uchar; 28],
+            length: *mut [u64; 1],
+        ) -> u32;
+        fn rimeheath_append_packet(
+            edition: u64,
+            memory: *mut c_uchar,
+            memory_len: usize,
+            used: usize,
+            packet: *const c_uchar,
+            packet_len: usize,
+            length: *mut [u64; 1],
         ) -> u32;
         fn rimeheath_sheet(
             text: *mut c_uchar,
@@ -269,9 +291,57 @@ pub mod lent {
         unsafe { rimeheath_record(edition, rest.as_ptr(), rest.len(), head) }
     }
 
-    pub fn body(edition: u64, body: &[u8], fields: &mut [u64; 8]) -> u32 {
-        // SAFETY: the pointer comes with its slice's length and is only read; the `&mut` is apart.
-        unsafe { rimeheath_body(edition, body.as_ptr(), body.len(), fields) }
+    pub fn body(edition: u64, body: &[u8], fields: &mut [u64; 8], text: &mut [u8; 28]) -> u32 {
+        // SAFETY: the pointer comes with its slice's length and is only read; the two `&mut` are apart
+        // from it and from each other.
+        unsafe { rimeheath_body(edition, body.as_ptr(), body.len(), fields, text) }
+    }
+
+    pub fn append(
+        edition: u64,
+        memory: &mut [u8],
+        used: usize,
+        number: u64,
+        fields: &[u64; 8],
+        text: &[u8; 28],
+        length: &mut [u64; 1],
+    ) -> u32 {
+        // SAFETY: the memory's pointer comes with its slice's length, beyond which `used` may be; numbers
+        // and text are only read, and the two `&mut` are apart from them and from each other.
+        unsafe {
+            rimeheath_append(
+                edition,
+                memory.as_mut_ptr(),
+                memory.len(),
+                used,
+                number,
+                fields,
+                text,
+                length,
+            )
+        }
+    }
+
+    pub fn append_packet(
+        edition: u64,
+        memory: &mut [u8],
+        used: usize,
+        packet: &[u8],
+        length: &mut [u64; 1],
+    ) -> u32 {
+        // SAFETY: each pointer comes with its own slice's length, beyond which `used` may be; the packet is
+        // only read, and the two `&mut` are apart from it and from each other.
+        unsafe {
+            rimeheath_append_packet(
+                edition,
+                memory.as_mut_ptr(),
+                memory.len(),
+                used,
+                packet.as_ptr(),
+                packet.len(),
+                length,
+            )
+        }
     }
 
     pub fn sheet(
@@ -405,11 +475,7 @@ fn refused(answer: impl Into<u32>) -> Result<(), Refusal> {
     }
 }
 
-/// A good body's type and numbers, as the header lists them.
-#[derive(Clone, Copy, Debug, PartialEq, Eq)]
-pub struct Fields(pub [u64; 8]);
-
-/// The eleven messages with those numbers.
+/// The eleven messages with the numbers and the text of a good body, as the header lists them.
 #[derive(Clone, Copy, Debug, PartialEq, Eq)]
 pub enum Body {
     SystemTime {
@@ -421,11 +487,20 @@ pub enum Body {
         market: u64,
         /// Of 1.3 alone, else 0.
         security_type: u64,
+        nanoseconds: u64,
+        test: u64,
+        reserved22: u64,
+        ticker: [u8; 11],
+        opening: [u8; 8],
+        closing: [u8; 8],
+        /// Byte 20 where it is reserved; in 1.3 it is 0.
+        reserved20: u8,
     },
     SystemState {
         nanoseconds: u64,
         session: u64,
         status: u64,
+        version: [u8; 8],
     },
     TradingStatus {
         nanoseconds: u64,
@@ -488,10 +563,10 @@ pub enum Body {
     },
 }
 
-impl Fields {
+impl Body {
     /// The message that the type decides; none for a type that no good body has.
-    pub fn message(self) -> Option<Body> {
-        let [kind, a, b, c, d, e, f, g] = self.0;
+    pub fn of(fields: &Fields) -> Option<Body> {
+        let [kind, a, b, c, d, e, f, g] = fields.numbers;
         Some(match kind {
             49 => Body::SystemTime { second: a },
             1 => Body::SymbolUpdate {
@@ -499,11 +574,19 @@ impl Fields {
                 lot: b,
                 market: c,
                 security_type: d,
+                nanoseconds: e,
+                test: f,
+                reserved22: g,
+                ticker: letters(&fields.text, 0),
+                opening: letters(&fields.text, 11),
+                closing: letters(&fields.text, 19),
+                reserved20: fields.text[27],
             },
             83 => Body::SystemState {
                 nanoseconds: a,
                 session: b,
                 status: c,
+                version: letters(&fields.text, 0),
             },
             4 => Body::TradingStatus {
                 nanoseconds: a,
@@ -569,6 +652,13 @@ impl Fields {
     }
 }
 
+/// So many bytes of a text from this one on.
+fn letters<const N: usize>(text: &[u8; 28], at: usize) -> [u8; N] {
+    let mut letters = [0; N];
+    letters.copy_from_slice(&text[at..at + N]);
+    letters
+}
+
 /// The first record of what is left of a packet: its number and its body's length.
 #[derive(Clone, Copy, Debug, PartialEq, Eq)]
 pub struct Head {
@@ -600,9 +690,50 @@ pub fn record(edition: Edition, rest: &[u8]) -> Result<Head, Refusal> {
 }
 
 pub fn body(edition: Edition, body: &[u8]) -> Result<Fields, Refusal> {
-    let mut fields = [0; 8];
-    refused(lent::body(edition.number(), body, &mut fields))?;
-    Ok(Fields(fields))
+    let mut fields = Fields::default();
+    let Fields { numbers, text } = &mut fields;
+    refused(lent::body(edition.number(), body, numbers, text))?;
+    Ok(fields)
+}
+
+/// A record behind a packet so far: the packet's new length. What the writer itself refuses has no offset, which the
+/// boundary tells as 0: 5 at 0 is the packet's where it is refused so by itself, and else the number's.
+pub fn append(
+    edition: Edition,
+    memory: &mut [u8],
+    used: usize,
+    number: u64,
+    fields: &Fields,
+) -> Result<usize, Refusal> {
+    let so_far = match memory.get(..used) {
+        None | Some([]) => None,
+        Some(so_far) => packet(edition, so_far).err(),
+    };
+    let Fields { numbers, text } = fields;
+    let (edition, mut length) = (edition.number(), [0]);
+    let answer = lent::append(edition, memory, used, number, numbers, text, &mut length);
+    match refused(answer) {
+        Ok(()) => Ok(length[0] as usize),
+        Err(refusal) if Some(refusal) == so_far => Err(refusal),
+        Err(Refusal {
+            number: number @ 3..=5,
+            offset: Some(0),
+        }) => Err(Refusal::alone(number)),
+        Err(refusal) => Err(refusal),
+    }
+}
+
+/// A packet behind a recording so far: the recording's new length.
+pub fn append_packet(
+    edition: Edition,
+    memory: &mut [u8],
+    used: usize,
+    packet: &[u8],
+) -> Result<usize, Refusal> {
+    let mut length = [0];
+    let answer = lent::append_packet(edition.number(), memory, used, packet, &mut length);
+    refused(answer)?;
+    Ok(length[0] as usize)
 }
 
 /// A packet of one edition made one of another, in place: how many Symbol Updates it has. A field of a packet lies behind

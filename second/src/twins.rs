@@ -10,11 +10,12 @@ use crate::morning::{differ_in_undefined_bits_alone, set_timestamp, Dice};
 use crate::packet::*;
 use crate::proved::{lent, taken_apart, Proved, SHEET_BYTES};
 use crate::receiver::{filled_slot, slot, slot_number, Answer, State, SLOTS, SLOT_BYTES};
-use crate::seen::{add_each, claimed_body, Conversions, Faults, Searches};
-use crate::sheet::sheet;
+use crate::seen::{add_each, claimed_body, Appended, Conversions, Faults, Searches, Writings};
+use crate::sheet::{packets_of, sheet};
 use crate::stream::Stream;
 use crate::tables::*;
 use crate::views::{ladder, live_orders, spread, used_entries};
+use crate::write::{self, Fields};
 use std::fmt::Debug;
 
 /// What two programs answered differently, in words.
@@ -89,6 +90,8 @@ pub struct Tally {
     pub searches: Searches,
     /// What was made the other edition's.
     pub conversions: Conversions,
+    /// What was written, and what was refused to be (request 4).
+    pub writings: Writings,
 }
 
 impl Tally {
@@ -125,6 +128,7 @@ impl Tally {
         add_each(&mut self.widest_spreads, &other.widest_spreads);
         self.searches.add(&other.searches);
         self.conversions.add(&other.conversions);
+        self.writings.add(&other.writings);
     }
 
     /// A call, by its name in `EDITION_CALLS`, that was given this edition number.
@@ -206,6 +210,7 @@ impl Tally {
         }
         seen.extend(self.searches.seen());
         seen.extend(self.conversions.seen());
+        seen.extend(self.writings.seen());
         seen
     }
 }
@@ -782,6 +787,7 @@ impl Twins {
         let wanted_records = wanted.as_ref().map_or(MARK, |records| records.len() as u64);
         same_refusal("packet: number and offset", told, &wanted)?;
         same("packet: records", &records, &[wanted_records])?;
+        self.packet_again(number, packet)?;
         let mut rest = packet;
         loop {
             let mut head = [MARK; 2];
@@ -809,14 +815,162 @@ impl Twins {
     pub fn body(&mut self, number: u64, body: &[u8]) -> Result<(), Difference> {
         let edition = Edition::of_number(number);
         self.tally.bodies += 1;
-        let mut fields = [MARK; 8];
-        let told = lent::body(number, body, &mut fields);
-        let wanted = read_body(edition, body);
-        let wanted_fields = wanted.as_ref().map_or([MARK; 8], fields_of);
-        same_refusal("body: number and offset", told, &wanted)?;
-        same("body: fields", &fields, &wanted_fields)?;
+        let fields = self.fields(number, body)?;
         self.note_timestamp(edition, body);
-        Ok(())
+        match fields {
+            Ok(fields) => self.body_again(number, body, &fields),
+            Err(_) => Ok(()),
+        }
+    }
+
+    /// What both read of a body: its numbers and its text, or its refusal.
+    fn fields(&self, number: u64, body: &[u8]) -> Result<Result<Fields, Refusal>, Difference> {
+        let (mut numbers, mut text) = ([MARK; 8], [MARK_BYTE; 28]);
+        let told = lent::body(number, body, &mut numbers, &mut text);
+        let wanted = Fields::read(Edition::of_number(number), body);
+        let unread = Fields {
+            numbers: [MARK; 8],
+            text: [MARK_BYTE; 28],
+        };
+        let wanted_fields = *wanted.as_ref().unwrap_or(&unread);
+        same_refusal("body: number and offset", told, &wanted)?;
+        same("body: fields", &numbers, &wanted_fields.numbers)?;
+        same("body: text", &text, &wanted_fields.text)?;
+        Ok(wanted)
+    }
+
+    /// Request 4: "writing what was read from a good body gives the same bytes".
+    fn body_again(&mut self, number: u64, body: &[u8], fields: &Fields) -> Result<(), Difference> {
+        let memory = [MARK_BYTE; HEADER_BYTES + 64];
+        let given = Appended {
+            edition: number,
+            memory: &memory,
+            used: 0,
+            number: LAST_NUMBER,
+            fields,
+        };
+        let (_, after) = self.append(&given)?;
+        let record = [&filled_slot(LAST_NUMBER, body)[..HEADER_BYTES], body].concat();
+        let mut wanted = memory.to_vec();
+        wanted[..record.len()].copy_from_slice(&record);
+        same_runs("read then written", "byte", &after, &wanted, 1)
+    }
+
+    /// "a packet that is begun with nothing and written record by record is always a good packet, and every good packet
+    /// can be written so".
+    fn packet_again(&mut self, number: u64, packet: &[u8]) -> Result<(), Difference> {
+        let records = read_packet(Edition::of_number(number), packet).unwrap_or_default();
+        let mut memory = vec![MARK_BYTE; packet.len()];
+        let mut used = 0;
+        for record in &records {
+            let fields = self.fields(number, record.body)?;
+            let fields = fields.map_err(|refusal| format!("both: a good body, {refusal}"))?;
+            let given = Appended {
+                edition: number,
+                memory: &memory,
+                used,
+                number: record.number,
+                fields: &fields,
+            };
+            let (answer, after) = self.append(&given)?;
+            used = answer.map_err(|refusal| format!("both: written again, {refusal}"))?;
+            memory = after;
+        }
+        match records.is_empty() {
+            true => Ok(()),
+            false => same_runs("written again", "byte", &memory, packet, 1),
+        }
+    }
+
+    /// A recording written packet by packet: the same bytes, but for those packets that are refused, and for what is cut
+    /// off at its end.
+    pub fn recording_again(&mut self, number: u64, recording: &[u8]) -> Result<(), Difference> {
+        let mut memory = vec![MARK_BYTE; recording.len()];
+        let (mut used, mut wanted) = (0, Vec::new());
+        for packet in packets_of(recording).0 {
+            let (answer, after) = self.append_packet(number, &memory, used, packet)?;
+            memory = after;
+            if let Ok(length) = answer {
+                used = length;
+                wanted.extend_from_slice(&(packet.len() as u16).to_le_bytes());
+                wanted.extend_from_slice(packet);
+            }
+        }
+        wanted.resize(recording.len(), MARK_BYTE);
+        same_runs("recording written again", "byte", &memory, &wanted, 1)
+    }
+
+    /// A record behind a packet so far, by both: the answer, the new length, every byte of the memory and nothing beside
+    /// it. What was written must be read as what was given. The memory as it is then stands beside the answer.
+    pub fn append(
+        &mut self,
+        given: &Appended,
+    ) -> Result<(Result<usize, Refusal>, Vec<u8>), Difference> {
+        let edition = Edition::of_number(given.edition);
+        let (mut framed, mut length) = (Framed::new(given.memory), [MARK]);
+        let (numbers, text) = (given.fields.numbers, given.fields.text);
+        let told = lent::append(
+            given.edition,
+            framed.bytes(),
+            given.used,
+            given.number,
+            &numbers,
+            &text,
+            &mut length,
+        );
+        let mut after = given.memory.to_vec();
+        let (used, number) = (given.used, given.number);
+        let answer = write::append(edition, &mut after, used, number, given.fields);
+        let wanted_length = answer.as_ref().map_or(MARK, |length| *length as u64);
+        same_refusal("append: number and offset", told, &answer)?;
+        same("append: length", &length, &[wanted_length])?;
+        framed.has("append", "byte", &after)?;
+        let lent = (&numbers, &text);
+        same(
+            "append: fields",
+            &lent,
+            &(&given.fields.numbers, &given.fields.text),
+        )?;
+        if let Ok(length) = answer {
+            let read = self.fields(given.edition, &after[used + HEADER_BYTES..length])?;
+            let kept = Ok(given.fields.kept(edition));
+            same("append: written then read", &read, &kept)?;
+            self.good_packet(given.edition, &after[..length])?;
+        }
+        self.tally.writings.note_record(given, &answer);
+        Ok((answer, after))
+    }
+
+    /// A packet that both must call good.
+    fn good_packet(&self, number: u64, packet: &[u8]) -> Result<(), Difference> {
+        let mut records = [MARK];
+        let told = lent::packet(number, packet, &mut records);
+        let wanted = read_packet(Edition::of_number(number), packet);
+        let wanted = wanted.map_or(MARK, |records| records.len() as u64);
+        same("a packet written: answer", &told, &0)?;
+        same("a packet written: records", &records, &[wanted])
+    }
+
+    /// A packet behind a recording so far, by both.
+    pub fn append_packet(
+        &mut self,
+        number: u64,
+        memory: &[u8],
+        used: usize,
+        packet: &[u8],
+    ) -> Result<(Result<usize, Refusal>, Vec<u8>), Difference> {
+        let edition = Edition::of_number(number);
+        let (mut framed, mut length) = (Framed::new(memory), [MARK]);
+        let told = lent::append_packet(number, framed.bytes(), used, packet, &mut length);
+        let mut after = memory.to_vec();
+        let answer = write::append_packet(edition, &mut after, used, packet);
+        let wanted_length = answer.as_ref().map_or(MARK, |length| *length as u64);
+        same_refusal("append a packet: number and offset", told, &answer)?;
+        same("append a packet: length", &length, &[wanted_length])?;
+        framed.has("append a packet", "byte", &after)?;
+        let seen = &mut self.tally.writings;
+        seen.note_packet(number, memory.len(), used, packet, &answer);
+        Ok((answer, after))
     }
 
     fn note_timestamp(&mut self, edition: Edition, body: &[u8]) {
@@ -1177,14 +1331,6 @@ pub fn account_of(answer: &Answer) -> [u64; 9] {
         answer.highest,
         answer.stop.into(),
     ]
-}
-
-/// A message's type and numbers in the header's order, then zeros.
-pub fn fields_of(message: &Message) -> [u64; 8] {
-    let numbers = message.numbers();
-    let mut fields = [0; 8];
-    fields[..numbers.len()].copy_from_slice(&numbers);
-    fields
 }
 
 /// The number that the boundary answers: 0 where nothing is refused.

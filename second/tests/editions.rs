@@ -17,6 +17,7 @@ use second::reading::{judged_fields, lines_of_packet};
 use second::seen::Faults;
 use second::sheet::{sheet, sheet_of_recording};
 use second::stream::{Stream, LEAST_HOLD};
+use second::write::Fields;
 use std::collections::BTreeMap;
 use std::process::{Command, Output, Stdio};
 
@@ -74,9 +75,7 @@ impl Editions for Desk {
     }
 
     fn body(edition: Edition, body: &[u8]) -> Result<Vec<u64>, Refusal> {
-        let mut numbers = read_body(edition, body)?.numbers();
-        numbers.resize(8, 0);
-        Ok(numbers)
+        Ok(Fields::read(edition, body)?.numbers.to_vec())
     }
 
     fn change_edition(&mut self, edition: Edition) {
@@ -112,7 +111,7 @@ impl Editions for Proved {
     }
 
     fn body(edition: Edition, body: &[u8]) -> Result<Vec<u64>, Refusal> {
-        Ok(proved::body(edition, body)?.0.to_vec())
+        Ok(proved::body(edition, body)?.numbers.to_vec())
     }
 
     fn change_edition(&mut self, edition: Edition) {
@@ -391,12 +390,12 @@ fn a_start_chooses_and_packets_keep_it<R: Editions>() {
     }
 }
 
-/// Symbol, lot and market, and behind them the Security Type where there is one.
+/// Symbol, lot and market, behind them the Security Type where there is one, then nanoseconds, test indicator and byte 22.
 fn the_numbers_of_a_symbol_update<R: Editions>() {
     for byte in [69, 70] {
-        let typed = vec![1, 7, 100, 72, byte.into(), 0, 0, 0];
+        let typed = vec![1, 7, 100, 72, byte.into(), 5, 78, 0];
         assert_eq!(R::body(V1_3, &update(byte)), Ok(typed));
-        let reserved = vec![1, 7, 100, 72, 0, 0, 0, 0];
+        let reserved = vec![1, 7, 100, 72, 0, 5, 78, 0];
         assert_eq!(R::body(V1_3b, &update(byte)), Ok(reserved));
     }
     // No other message has a number more or less.
@@ -738,13 +737,16 @@ mod numbers_at_the_boundary {
         for number in NUMBERS {
             let (body, one) = (update(b' '), record(1, &update(b' ')));
             let refused = |offset: u32| if number == 1 { 4 + 256 * offset } else { 0 };
-            assert_eq!(lent::body(number, &body, &mut [0; 8]), refused(20));
+            let told = lent::body(number, &body, &mut [0; 8], &mut [0; 28]);
+            assert_eq!(told, refused(20));
             assert_eq!(lent::record(number, &one, &mut [0; 2]), refused(30));
             assert_eq!(lent::packet(number, &one, &mut [0]), refused(30));
-            let mut fields = [9; 8];
-            assert_eq!(lent::body(number, &update(b'F'), &mut fields), 0);
-            let typed = if number == 1 { b'F'.into() } else { 0 };
-            assert_eq!(fields, [1, 7, 100, 72, typed, 0, 0, 0]);
+            let (mut fields, mut text) = ([9; 8], [9; 28]);
+            let told = lent::body(number, &update(b'F'), &mut fields, &mut text);
+            let (typed, reserved) = if number == 1 { (70, 0) } else { (0, 70) };
+            assert_eq!((told, fields), (0, [1, 7, 100, 72, typed, 5, 78, 0]));
+            assert_eq!(text[..27], *b"ABC        09:30:0016:00:00");
+            assert_eq!(text[27], reserved);
         }
     }
 }

@@ -12,6 +12,7 @@ use second::packet::*;
 #[cfg(linked)]
 use second::proved::{self, Proved};
 use second::receiver::{filled_slot, slot, slot_mut};
+use second::write::Fields;
 use std::collections::BTreeMap;
 
 /// What these tests do with a receiver of either program.
@@ -52,7 +53,7 @@ trait Tap: Receiver {
 
 impl Tap for Desk {
     fn read(body: &[u8]) -> Result<Vec<u64>, Refusal> {
-        read_body(V1_3b, body).map(|message| message.numbers())
+        Fields::read(V1_3b, body).map(|fields| fields.numbers.to_vec())
     }
 
     fn shelf(&mut self) -> &mut [u8] {
@@ -63,7 +64,7 @@ impl Tap for Desk {
 #[cfg(linked)]
 impl Tap for Proved {
     fn read(body: &[u8]) -> Result<Vec<u64>, Refusal> {
-        Ok(proved::body(V1_3b, body)?.0.to_vec())
+        Ok(proved::body(V1_3b, body)?.numbers.to_vec())
     }
 
     fn shelf(&mut self) -> &mut [u8] {
@@ -126,10 +127,8 @@ fn the_largest_good_value_is_999_999_999<R: Tap>() {
         for body in ten(nanoseconds) {
             let numbers = R::read(&body).expect("a good body");
             assert_eq!(numbers[0], u64::from(body[0]));
-            // The numbers of a Symbol Update are without it.
-            if body[0] != SYMBOL_UPDATE {
-                assert_eq!(numbers[1], u64::from(nanoseconds));
-            }
+            let place = if body[0] == SYMBOL_UPDATE { 5 } else { 1 };
+            assert_eq!(numbers[place], u64::from(nanoseconds));
             R::after_example().takes(&[(6, body)], 7, 0);
         }
     }

@@ -60,7 +60,7 @@ fn each_refusal() {
     assert_eq!(receiver, example().0);
 }
 
-/// The four calls that answer 32 bits: the offset stands above the number's 8, and 0, 1 and 6 have none.
+/// The calls that answer 32 bits: the offset stands above the number's 8, and 0, 1 and 6 have none.
 #[test]
 fn numbers_and_offsets_in_one_answer() {
     for (answer, number, offset) in [
@@ -113,9 +113,10 @@ fn numbers_and_offsets_in_one_answer() {
         256 * 10 + 3
     );
     assert_eq!(lent::record(0, &bad, &mut [0; 2]), 256 * 28 + 4);
-    assert_eq!(lent::body(0, &[], &mut [0; 8]), 3);
-    assert_eq!(lent::body(0, &bad[10..], &mut [0; 8]), 256 * 18 + 4);
-    assert_eq!(lent::body(0, &time(1), &mut [0; 8]), 0);
+    let body = |body: &[u8]| lent::body(0, body, &mut [0; 8], &mut [0; 28]);
+    assert_eq!(body(&[]), 3);
+    assert_eq!(body(&bad[10..]), 256 * 18 + 4);
+    assert_eq!(body(&time(1)), 0);
 }
 
 /// A book that is crossed has a negative spread (P9), and one with an empty side has none.
@@ -274,7 +275,7 @@ fn feed(receiver: &mut Proved, hold: &mut [u8], stream: &mut lent::Stream, chunk
 
 fn message(body: &[u8]) -> Body {
     let fields = proved::body(V1_3b, body).expect("a good body");
-    fields.message().expect("a known type")
+    Body::of(&fields).expect("a known type")
 }
 
 #[test]
@@ -327,29 +328,31 @@ fn messages_of_the_book() {
 
 #[test]
 fn messages_beside_the_book() {
-    let update = Body::SymbolUpdate {
+    let wanted = |security_type: u8, reserved20: u8| Body::SymbolUpdate {
         symbol: 7,
         lot: 100,
         market: b'H'.into(),
-        security_type: 0,
-    };
-    assert_eq!(message(&common::update(7)), update);
-    let typed = Body::SymbolUpdate {
-        symbol: 7,
-        lot: 100,
-        market: b'H'.into(),
-        security_type: b'F'.into(),
+        security_type: security_type.into(),
+        nanoseconds: 0,
+        test: b'N'.into(),
+        reserved22: 0,
+        ticker: *b"ABC        ",
+        opening: *b"09:30:00",
+        closing: *b"16:00:00",
+        reserved20,
     };
     let mut body = common::update(7);
+    assert_eq!(message(&body), wanted(0, 0));
     assert_eq!(proved::body(V1_3, &body), Err(Refusal::at(4, 20)));
     body[20] = b'F';
     let fields = proved::body(V1_3, &body).expect("a good body");
-    assert_eq!(fields.message(), Some(typed));
-    assert_eq!(message(&body), update);
+    assert_eq!(Body::of(&fields), Some(wanted(b'F', 0)));
+    assert_eq!(message(&body), wanted(0, b'F'));
     let state = Body::SystemState {
         nanoseconds: 1,
         session: 2,
         status: b'S'.into(),
+        version: *b"DoM1.3  ",
     };
     assert_eq!(message(&system_state(1, b"DoM1.3  ", 2, b'S')), state);
     let status = Body::TradingStatus {

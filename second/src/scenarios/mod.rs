@@ -10,6 +10,7 @@ mod offsets;
 mod packets;
 mod pieces;
 mod timestamps;
+mod writings;
 
 use crate::edition::Edition;
 use crate::morning::Dice;
@@ -33,7 +34,7 @@ const fn scenario(
     Scenario { name, weight, run }
 }
 
-pub const SCENARIOS: [Scenario; 26] = [
+pub const SCENARIOS: [Scenario; 27] = [
     scenario("morning", 60, mornings::morning),
     scenario("rules", 60, mornings::rules),
     scenario("small-tables", 50, mornings::small_tables),
@@ -53,6 +54,7 @@ pub const SCENARIOS: [Scenario; 26] = [
     scenario("offsets", 20, offsets::offsets),
     scenario("editions", 30, editions::editions),
     scenario("converted", 22, conversions::converted),
+    scenario("written", 15, writings::written),
     scenario("pieces", 40, pieces::pieces),
     scenario("long-pieces", 1, pieces::long_pieces),
     scenario("altered-index", 80, indexes::altered_index),

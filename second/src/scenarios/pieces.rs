@@ -29,6 +29,7 @@ pub(super) fn pieces(dice: &mut Dice, twins: &mut Twins) -> Outcome {
     if dice.chance(300) {
         bytes.truncate(dice.below(bytes.len() as u64 + 1) as usize);
     }
+    twins.recording_again(twins.start_number, &bytes)?;
     twins.open(LEAST_HOLD + dice.pick(&[0, 0, 1, 600]))?;
     let altered = dice.chance(200);
     for chunk in cut(dice, &bytes) {
@@ -57,6 +58,7 @@ pub(super) fn long_pieces(dice: &mut Dice, twins: &mut Twins) -> Outcome {
     for packet in in_packets(&records, 12) {
         bytes.extend(recording(&[packet.clone(), packet]));
     }
+    twins.recording_again(twins.start_number, &bytes)?;
     twins.restart(SHEET_ROWS, MOST_ENTRIES)?;
     twins.open(LEAST_HOLD)?;
     for chunk in cut(dice, &bytes) {
