@@ -6,7 +6,8 @@
 #[macro_use]
 mod common;
 use common::written::{claiming, record, recording};
-use common::{all_seeds, example_file, example_path, seeds, Desk, Edition, V1_3b, EDITIONS, V1_3};
+use common::{all_seeds, example_file, example_recordings, seeds};
+use common::{Desk, Edition, V1_3b, EDITIONS, V1_3};
 use second::answers::answers_of_recording;
 use second::convert::*;
 use second::examples::MORNING_SHEET;
@@ -229,20 +230,6 @@ fn the_example_there_and_back<C: Converter>() {
     assert_eq!(C::piece(&to_later(), &mut bytes), Ok(counts(201, 1, 0, 0)));
     assert_eq!(sheet_text(V1_3b, &bytes), MORNING_SHEET);
     assert!(bytes == example_file("morning.rec"));
-}
-
-/// The names of the recordings in examples/.
-fn example_recordings() -> Vec<String> {
-    let mut names = Vec::new();
-    for entry in std::fs::read_dir(example_path("")).unwrap() {
-        let name = entry.unwrap().file_name().into_string().unwrap();
-        if name.ends_with(".rec") {
-            names.push(name);
-        }
-    }
-    names.sort();
-    assert!(names.len() >= 9, "{names:?}");
-    names
 }
 
 /// Each recording of examples/ as one of either edition, to the other and back. The sheet has the same lines but for

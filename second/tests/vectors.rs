@@ -1,22 +1,10 @@
 //! The packets of tools/vectors.py, and the text that it says a right reader of each edition prints.
 
-use second::edition::Edition::{self, V1_3b, V1_3};
+mod common;
+use common::{vectors, Edition, V1_3b, V1_3};
 use second::packet::*;
 use second::reading::lines_of_packet;
 use std::path::PathBuf;
-use std::process::Command;
-
-/// The output of `python3 tools/vectors.py WORD..`.
-fn vectors(words: &[&str]) -> Vec<u8> {
-    let script = PathBuf::from(env!("CARGO_MANIFEST_DIR")).join("../tools/vectors.py");
-    let output = Command::new("python3")
-        .arg(script)
-        .args(words)
-        .output()
-        .expect("python3 is there");
-    assert!(output.status.success());
-    output.stdout
-}
 
 /// The text that is stated for a reader of an edition; none named is 1.3.b.
 fn stated(words: &[&str]) -> String {

@@ -16,6 +16,7 @@ use second::packet::{read_body, Refusal};
 use second::receiver::{slot_mut, Answer};
 use second::tables::{row, ENTRY_BYTES, ROW_NUMBERS};
 use std::path::PathBuf;
+use std::process::Command;
 
 /// What only tests do with a receiver.
 pub trait Tried: Sized {
@@ -100,6 +101,33 @@ pub fn example_path(name: &str) -> PathBuf {
 
 pub fn example_file(name: &str) -> Vec<u8> {
     std::fs::read(example_path(name)).expect(name)
+}
+
+/// The output of `python3 tools/vectors.py WORD..`.
+pub fn vectors(words: &[&str]) -> Vec<u8> {
+    let script = PathBuf::from(env!("CARGO_MANIFEST_DIR")).join("../tools/vectors.py");
+    let output = Command::new("python3")
+        .arg(script)
+        .args(words)
+        .output()
+        .expect("python3 is there");
+    assert!(output.status.success());
+    output.stdout
+}
+
+/// The names of the recordings in examples/.
+pub fn example_recordings() -> Vec<String> {
+    let mut names = Vec::new();
+    for entry in std::fs::read_dir(example_path("")).expect("examples/") {
+        let name = entry.expect("a file").file_name();
+        let name = name.into_string().expect("a name in UTF-8");
+        if name.ends_with(".rec") {
+            names.push(name);
+        }
+    }
+    names.sort();
+    assert!(names.len() >= 9, "{names:?}");
+    names
 }
 
 /// Whether a list is one of those that demand 3 speaks of: "any list of well-formed messages", read per edition.
