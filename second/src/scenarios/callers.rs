@@ -353,6 +353,23 @@ pub(super) fn largest(dice: &mut Dice, twins: &mut Twins) -> Outcome {
         give(dice, twins, &packet)?;
         whole_view(dice, twins, symbol)?;
     }
+    widest(twins, symbol)
+}
+
+/// A bid and an offer at the two ends of all prices, both ways round: what is drawn comes to them too seldom.
+fn widest(twins: &mut Twins, symbol: u32) -> Outcome {
+    let rows = rows_in(&twins.second().orders);
+    for prices in [[1, HIGHEST_PRICE], [HIGHEST_PRICE, 1]] {
+        twins.alter(|desk| {
+            desk.orders.fill(0);
+            for (side, price) in prices.into_iter().enumerate().take(rows) {
+                let key = u64::from(symbol) * 2 + side as u64;
+                let row = [side as u64, key, price, 1, 1];
+                row_mut(&mut desk.orders, side).copy_from_slice(&row);
+            }
+        });
+        twins.spread(symbol)?;
+    }
     Ok(())
 }
 
