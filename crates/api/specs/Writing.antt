@@ -1,5 +1,5 @@
 -- What the two calls that write answer: a number, the memory after it, and the new length (docs/WRITE.md).
-use Prim.Native.Nat.{ℕ}
+use Prim.Native.Nat.{ℕ, _<_}
 use mathlib.Core.List.{List, [], _∷_}
 use Rattle.body.specs.Read.{withOffset}
 use Rattle.writer.specs.declared.Wrote.{Wrote}
@@ -20,3 +20,9 @@ lengthTold (Wrote.Bad f) l = l
 
 unfoldable pub writeAnswer : Writing → List ℕ → FillCall
 writeAnswer x l = fillCall (wroteCode (x .answer)) (lengthTold (x .answer) l) (x .memory)
+
+-- ---- inside: an offset that 32 bits hold above the number
+abbrev pub Small : Wrote → Type 0
+Small (Wrote.Length n) = Unit {0}
+Small (Wrote.Refused r) = Unit {0}
+Small (Wrote.Bad f) = f .at < 65536

@@ -16,7 +16,7 @@ ghost use Rattle.retype.specs.Retyped.{asked};
 ghost use Rattle.conversion.specs.Packet.{converted};
 ghost use Rattle.conversion.specs.Piece.{turnedTo};
 ghost use Rattle.writer.specs.Append.{numbersAppended, packetAppended};
-ghost use Rattle.api.specs.Writing.{writeAnswer};
+ghost use Rattle.api.specs.Writing.{wroteCode, lengthTold, writeAnswer, Small};
 ghost use Rattle.api.specs.Conversions.{convertCall, convertAnswer, pieceAnswer};
 ghost use Rattle.api.specs.Calls.{stateIn, accountNumbers, sideAsked, startCall, startAnswer, receiveCall, receiveAnswer, fillCall, ladderAnswer, call, bitsOf, spreadAnswer, countsAnswer, packetAnswer, recordAnswer, wordOf, sheetAnswer};
 ghost use Rattle.api.specs.Streams.{streamNumbers, streamFrom, openAnswer, feedCall, feedAnswer};
@@ -450,6 +450,21 @@ pub extern "C" fn rimeheath_convert_piece(
     }
 }
 
+// What was written, as C is told it: the new length, or a refusal, with its offset where reading has one.
+fn length_told(w: Wrote, length: &mut [u64; 1]) -> u32
+    requires { ⌜ Small w ⌝ }
+    ensures { λ r. ⌜ call r (now (length .exit)) ≡ call (wroteCode w) (lengthTold w (now (length .entry))) ⌝ }
+{
+    match w {
+        Wrote::Refused(r) => r.number as u32,
+        Wrote::Bad(f) => with_offset(f),
+        Wrote::Length(n) => {
+            *length = [n as u64];
+            0
+        }
+    }
+}
+
 // Writes a record behind the packet so far, from the numbers and the text in which rimeheath_body gives a message: the packet's new length.
 #[no_mangle]
 pub extern "C" fn rimeheath_append(
@@ -464,14 +479,8 @@ pub extern "C" fn rimeheath_append(
     ensures { λ r. ⌜ fillCall r (now (length .exit)) (now (memory .exit)) ≡ writeAnswer (numbersAppended (editionOf edition) (now (memory .entry)) used number (now (fields .entry)) (now (text .entry))) (now (length .entry)) ⌝ }
 {
     let e = editions::edition_of(edition);
-    match writer::append_numbers(e, memory, used, number, fields, text) {
-        Wrote::Refused(r) => r.number as u32,
-        Wrote::Bad(f) => with_offset(f),
-        Wrote::Length(n) => {
-            *length = [n as u64];
-            0
-        }
-    }
+    let w = writer::append_numbers(e, memory, used, number, fields, text);
+    length_told(w, length)
 }
 
 // Writes a packet, behind its length, behind the recording so far: the recording's new length.
@@ -486,12 +495,6 @@ pub extern "C" fn rimeheath_append_packet(
     ensures { λ r. ⌜ fillCall r (now (length .exit)) (now (memory .exit)) ≡ writeAnswer (packetAppended (editionOf edition) (now (memory .entry)) used (now (p .entry))) (now (length .entry)) ⌝ }
 {
     let e = editions::edition_of(edition);
-    match writer::append_packet(e, memory, used, p) {
-        Wrote::Refused(r) => r.number as u32,
-        Wrote::Bad(f) => with_offset(f),
-        Wrote::Length(n) => {
-            *length = [n as u64];
-            0
-        }
-    }
+    let w = writer::append_packet(e, memory, used, p);
+    length_told(w, length)
 }

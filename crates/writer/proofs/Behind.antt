@@ -175,6 +175,22 @@ record-by-record ed p cs m h e l =
     let all = all-written ed cs m 0 [] none g most room in
     all ∙ rw (is, zero-add (length p)) (ap (writing (Wrote.Length (length p))) (sets-eq p m 0 (omega arith) ∙ rw (zero-add (length p)) refl))
 
+-- ---- "and writes nothing": whatever goes behind what is there, a record or a packet, an answer that is no length leaves every byte
+pub refusal-keeps : (r : Packet) (k : ℕ) (m : List ℕ) (at : ℕ) (s : List ℕ) → ((l : ℕ) → behind r k m at s .answer ≡ Wrote.Length l → ⊥) → behind r k m at s .memory ≡ m
+unfolding behind whereRead put
+refusal-keeps r k m at s = pick-ind Kept (leb at (length m)) (whereRead r m (put k m at s)) (refusedBy 32 m) (λ _. by-read r) (λ _ h. refl)
+  where
+    Kept : Writing → Type 0
+    Kept w = ((l : ℕ) → w .answer ≡ Wrote.Length l → ⊥) → w .memory ≡ m
+
+    by-put : Kept (put k m at s)
+    by-put = pick-ind Kept (eqb k 0) (writing (Wrote.Length (at + length s)) (sets m at s)) (refusedBy k m) (λ _ h. absurd (h (at + length s) refl)) (λ _ h. refl)
+
+    by-read : (q : Packet) → Kept (whereRead q m (put k m at s))
+    by-read (Packet.Good n) h = by-put h
+    by-read (Packet.Refused x) h = refl
+    by-read (Packet.Bad f) h = refl
+
 -- ---- where an offset is told, it is the reader's, of the packet so far or of the packet
 bad-read : (r : Packet) (k : ℕ) (m : List ℕ) (at : ℕ) (s : List ℕ) (f : Fault) → behind r k m at s .answer ≡ Wrote.Bad f → r ≡ Packet.Bad f
 unfolding behind whereRead put
