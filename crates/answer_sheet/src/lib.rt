@@ -1,4 +1,6 @@
 // The sheet of a receiver: key=value lines, written into lent memory as far as it reaches.
+#![tactic(auto)]
+
 ghost use Rattle.std.specs.Prelude.{◌≡◌, true, ◌+◌, ◌*◌, ◌^◌, ◌≤◌, ◌<◌, min, length, get_or, []};
 ghost use Rattle.body.specs.Shown.{security_in};
 ghost use Rattle.rows.specs.Rows.{rows};
@@ -25,14 +27,14 @@ const LEVELS_SHOWN: usize = 10;
 const RUN_SIZE: usize = 3 * LEVELS_SHOWN;
 
 // A recording that ends inside a length or packet is cut.
-#[derive(Drop)]
+#[derive(Clone, Copy)]
 pub enum Recording {
     Whole,
     Cut,
 }
 
 // How many bytes the whole sheet has, written or not.
-#[derive(Drop)]
+#[derive(Clone, Copy)]
 pub enum SheetAnswer {
     Length(usize),
     Refused(Refusal),

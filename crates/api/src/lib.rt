@@ -1,6 +1,8 @@
 // The library for other languages: thin functions over numbers, slices and arrays of numbers (include/rimeheath.h). Each but rimeheath_cut,
 // which answers yes or no, answers 0 or document 01's number of the refusal, and a refusal changes no lent byte. Where packets, records and
 // bodies are read, the answer has the offset of the first byte at fault above the number's 8 bits.
+#![tactic(auto)]
+
 ghost use Rattle.std.specs.Prelude.{◌≡◌, ◌<◌};
 ghost use Rattle.editions.specs.Editions.{edition_of};
 ghost use Rattle.receiver.specs.Lent.{state_numbers, lent, received, started};

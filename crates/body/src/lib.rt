@@ -1,4 +1,6 @@
 // Judges one message body and reads it, in two calls: the table frames it and the ranges of its edition judge it; a good one is decoded.
+#![tactic(auto)]
+
 ghost use Rattle.std.specs.Prelude.{◌≡◌, ◌+◌, leb};
 ghost use Rattle.facts.specs.Pick.{pick, both};
 ghost use Rattle.wire.specs.Le.{field};
@@ -12,14 +14,14 @@ use fields::{Body, Fault};
 use kinds::Kind;
 
 // What byte 20 of a Symbol Update is in an edition: its Security Type, or reserved.
-#[derive(Drop)]
+#[derive(Clone, Copy)]
 pub enum Security {
     Type(u8),
     Reserved,
 }
 
 // A good body of a kind, or why and where it is bad.
-#[derive(Drop)]
+#[derive(Clone, Copy)]
 pub enum Judged {
     Good(Kind),
     Bad(Fault),

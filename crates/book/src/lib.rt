@@ -1,6 +1,8 @@
 // One message applied to a book, or the rule that it breaks, with nothing changed. A message is planned first: each kind has one function from
 // what the searches found to a plan by value. Then the plan is committed, by one call a table. Every function answers for tables of any length
 // and content, and for any index; sizes are judged by those who lend them (6).
+#![tactic(auto)]
+
 ghost use Rattle.std.specs.Prelude.{ℕ, ◌≡◌, true, false, List};
 ghost use Rattle.fields.specs.Fields.{decoded};
 ghost use Rattle.rows.specs.Rows.{rows};
@@ -21,13 +23,13 @@ use rows::{Held, Row};
 use symbols::EntryWork;
 
 // What a book has by value: the current second.
-#[derive(Drop)]
+#[derive(Clone, Copy)]
 pub struct Clock {
     pub second: u32,
 }
 
 // What a message does: the clock after it, and the work on each table.
-#[derive(Drop)]
+#[derive(Clone, Copy)]
 pub struct Works {
     pub clock: Clock,
     pub orders: RowWork,
@@ -35,21 +37,21 @@ pub struct Works {
 }
 
 // The rule that a message breaks, or what it does.
-#[derive(Drop)]
+#[derive(Clone, Copy)]
 pub enum Plan {
     Stop(u8),
     Go(Works),
 }
 
 // The row that a message names, or the rule that it breaks.
-#[derive(Drop)]
+#[derive(Clone, Copy)]
 pub enum Target {
     Order(usize, Row),
     Rule(u8),
 }
 
 // What became of a message: the rule that it breaks, 0 where it applied, and the clock after it.
-#[derive(Drop)]
+#[derive(Clone, Copy)]
 pub struct Applied {
     pub rule: u8,
     pub clock: Clock,

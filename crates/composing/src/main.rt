@@ -1,4 +1,6 @@
 // The shortest program that writes a recording: document 01's example, numbers 1 to 5 in one packet behind its length, on standard output.
+#![tactic(auto)]
+
 use editions::Edition;
 use fields::{AddOrder, Symbol, SymbolUpdate};
 use libc::STDOUT_FILENO;

@@ -1,4 +1,6 @@
 // A packet of one edition made one of the other, in place: byte 20 of each Symbol Update changes, and nothing else. And so a recording, piece by piece, with its bad packets kept bad.
+#![tactic(auto)]
+
 ghost use Rattle.std.specs.Prelude.{◌≡◌, ◌≤◌};
 ghost use Rattle.facts.specs.Limits.{packet_most};
 ghost use Rattle.wire.specs.Records.{bad};
@@ -12,7 +14,7 @@ use fields::{Fault, Refusal};
 use packet::Packet;
 
 // How many Symbol Updates were rewritten; else a number alone (6, 4, 1), or why and at which of its bytes the packet is bad.
-#[derive(Drop)]
+#[derive(Clone, Copy)]
 pub enum Converted {
     Updates(usize),
     Refused(Refusal),
@@ -20,7 +22,7 @@ pub enum Converted {
 }
 
 // What became of a packet of a recording: rewritten, with so many Symbol Updates; passed on as it is, since it is refused before and after; or barred, since its own edition alone refuses it.
-#[derive(Drop)]
+#[derive(Clone, Copy)]
 pub enum Passed {
     Rewritten(usize),
     Unread,
@@ -28,7 +30,7 @@ pub enum Passed {
 }
 
 // Symbol Updates rewritten, packets passed on unread, packets barred.
-#[derive(Drop)]
+#[derive(Clone, Copy)]
 pub struct Tally {
     pub updates: usize,
     pub unread: usize,
@@ -36,7 +38,7 @@ pub struct Tally {
 }
 
 // How many bytes of a piece are whole packets, and what was counted of them; or a number alone (6, 4).
-#[derive(Drop)]
+#[derive(Clone, Copy)]
 pub enum Pieced {
     Done(usize, Tally),
     Refused(Refusal),

@@ -1,5 +1,7 @@
 // Makes of a recording on standard input one of the other edition on standard output, in constant memory. Nothing that matters lives here: packets are
 // rewritten by `conversion`, and what a type's word means stands in `words`.
+#![tactic(auto)]
+
 use conversion::{Pieced, Tally};
 use editions::Edition;
 use libc::{STDERR_FILENO, STDIN_FILENO, STDOUT_FILENO};

@@ -1,9 +1,11 @@
 // The editions of the feed's specification by which a recording is read (document 02, No. 10). One is chosen at a receiver's start.
+#![tactic(auto)]
+
 ghost use Rattle.std.specs.Prelude.{◌≡◌};
 ghost use Rattle.editions.specs.Editions.{number_of, edition_of};
 
 // 1.3, of 2020; and 1.3.a with 1.3.b, which are read alike.
-#[derive(Drop)]
+#[derive(Clone, Copy)]
 pub enum Edition {
     V13,
     V13b,

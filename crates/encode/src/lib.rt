@@ -1,4 +1,6 @@
 // Writes messages: the fields of each, into the bytes of its body, by value. Writing judges nothing; any fields have bytes.
+#![tactic(auto)]
+
 ghost use Rattle.std.specs.Prelude.{◌≡◌, set};
 ghost use Rattle.std.proofs.lemmas.List.Edits.{sets};
 ghost use Rattle.wire.specs.Le.{to_le};

@@ -1,5 +1,7 @@
 // The searches of a message, through the index or, where none is lent, row by row and entry by entry; and what a message's work leaves of the index.
 // Each function answers for tables and an index of any length and content.
+#![tactic(auto)]
+
 ghost use Rattle.std.specs.Prelude.{◌≡◌};
 ghost use Rattle.rows.specs.Rows.{rows};
 ghost use Rattle.symbols.specs.Entries.{entries};

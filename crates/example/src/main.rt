@@ -1,5 +1,7 @@
 // The shortest way from a recording to its sheet, to start from: lend tables, start a receiver, feed it, print.
 // It reads no more than 4,096 bytes and takes a read error for the end; the program `sheet` does neither.
+#![tactic(auto)]
+
 use answer_sheet::{Recording, SheetAnswer};
 use editions::Edition;
 use libc::{STDIN_FILENO, STDOUT_FILENO};

@@ -1,7 +1,8 @@
 // Laws only: choosing by a test, tests that the checker computes, searches and lists. No code runs from here.
+#![tactic(auto)]
 
 // Where a search of a list ended.
-#[derive(Drop)]
+#[derive(Clone, Copy)]
 pub enum Found {
     At(usize),
     Nothing,

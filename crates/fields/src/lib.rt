@@ -1,11 +1,13 @@
 // The eleven messages as values: what stands where in a body (docs/MESSAGES.md). Decoding judges nothing; any bytes have fields.
+#![tactic(auto)]
+
 ghost use Rattle.std.specs.Prelude.{◌≡◌};
 ghost use Rattle.fields.specs.Fields.{status_of, clear_of, add_of, modify_of, delete_of, execution_of, trade_of, cancel_of, symbol_of, security_of, update_of, state_of, decoded};
 
 use kinds::Kind;
 
 // Security Trading Status (4.4).
-#[derive(Drop)]
+#[derive(Clone, Copy)]
 pub struct TradingStatus {
     pub nanos: u32,
     pub symbol: u32,
@@ -15,14 +17,14 @@ pub struct TradingStatus {
 }
 
 // Symbol Clear (4.5).
-#[derive(Drop)]
+#[derive(Clone, Copy)]
 pub struct SymbolClear {
     pub nanos: u32,
     pub symbol: u32,
 }
 
 // Add Order (4.6); the attributable ID is its four letters read as one number.
-#[derive(Drop)]
+#[derive(Clone, Copy)]
 pub struct AddOrder {
     pub nanos: u32,
     pub symbol: u32,
@@ -34,7 +36,7 @@ pub struct AddOrder {
 }
 
 // Modify Order (4.7).
-#[derive(Drop)]
+#[derive(Clone, Copy)]
 pub struct ModifyOrder {
     pub nanos: u32,
     pub symbol: u32,
@@ -45,7 +47,7 @@ pub struct ModifyOrder {
 }
 
 // Delete Order (4.8).
-#[derive(Drop)]
+#[derive(Clone, Copy)]
 pub struct DeleteOrder {
     pub nanos: u32,
     pub symbol: u32,
@@ -53,7 +55,7 @@ pub struct DeleteOrder {
 }
 
 // Order Execution (4.9).
-#[derive(Drop)]
+#[derive(Clone, Copy)]
 pub struct OrderExecution {
     pub nanos: u32,
     pub symbol: u32,
@@ -65,7 +67,7 @@ pub struct OrderExecution {
 }
 
 // Trade (4.10).
-#[derive(Drop)]
+#[derive(Clone, Copy)]
 pub struct Trade {
     pub nanos: u32,
     pub symbol: u32,
@@ -77,7 +79,7 @@ pub struct Trade {
 }
 
 // Trade Cancel (4.11).
-#[derive(Drop)]
+#[derive(Clone, Copy)]
 pub struct TradeCancel {
     pub nanos: u32,
     pub symbol: u32,
@@ -88,7 +90,7 @@ pub struct TradeCancel {
 }
 
 // Symbol Update (4.2), what the table and the sheet show of it. All of its fields are in SymbolUpdate.
-#[derive(Drop)]
+#[derive(Clone, Copy)]
 pub struct Symbol {
     pub id: u32,
     pub ticker: [u8; 11],
@@ -99,7 +101,7 @@ pub struct Symbol {
 }
 
 // Symbol Update (4.2), every field of it: byte 20 is the Security Type of 1.3 and reserved from 1.3.a on, byte 22 is reserved.
-#[derive(Drop)]
+#[derive(Clone, Copy)]
 pub struct SymbolUpdate {
     pub nanos: u32,
     pub symbol: Symbol,
@@ -109,7 +111,7 @@ pub struct SymbolUpdate {
 }
 
 // System State (4.3).
-#[derive(Drop)]
+#[derive(Clone, Copy)]
 pub struct SystemState {
     pub nanos: u32,
     pub version: [u8; 8],
@@ -118,14 +120,14 @@ pub struct SystemState {
 }
 
 // Why something is refused: document 01's number.
-#[derive(Drop)]
+#[derive(Clone, Copy)]
 pub struct Refusal {
     pub number: u8,
 }
 
 // Why bytes that were read are refused: the number, 2 to 5, and the offset of the first byte at fault in what was read. A stream keeps
 // its last refusal so too, with offset 0 where the number stands alone.
-#[derive(Drop)]
+#[derive(Clone, Copy)]
 pub struct Fault {
     pub number: u8,
     pub at: usize,
@@ -133,7 +135,7 @@ pub struct Fault {
 
 // What a body says, or why it is refused. An enum holds no array, so the fields of a Symbol Update and of a System State stand
 // beside it: update_of and state_of.
-#[derive(Drop)]
+#[derive(Clone, Copy)]
 pub enum Body {
     SystemTime(u32),
     SymbolUpdate,

@@ -1,10 +1,12 @@
 // Numbers, prices and times of a line, read and written (docs/TEXT.md).
+#![tactic(auto)]
+
 ghost use Rattle.std.specs.Prelude.{◌≡◌, length};
 ghost use Rattle.text.specs.Text.{Wrote};
 ghost use Rattle.figures.specs.Figures.{AtMost, number_in, places_of, millionths_in, priced, price_in, price_text, timed, coloned, hours_in, clock_in, hours_text, clock_text};
 
 // A number that was read, or none.
-#[derive(Drop)]
+#[derive(Clone, Copy)]
 pub enum Figure {
     Is(u64),
     Not,

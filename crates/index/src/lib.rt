@@ -1,6 +1,8 @@
 // An index of the order table in further lent memory (docs/INDEX.md): 32,768 slots, how many of them were used, the free rows of each block of 64 rows,
 // and hints of symbols.
 // Each function answers for any memory and any table. A slot is filled once and stays until the next rebuild: what it names is tested at each search.
+#![tactic(auto)]
+
 ghost use Rattle.std.specs.Prelude.{ℕ, ◌+◌, ◌-◌, ◌≤◌, ◌<◌, ◌≡◌, true, get_or, set};
 ghost use Rattle.rows.specs.Rows.{rows};
 ghost use Rattle.index.specs.Index.{slots, blocks, tag_of, hash, packed, fits, looked, vacant, placed, taken, freed, block_from, lowest_free, entered, each_row, front, zeroed, built, roomy, came, hint_at, hint_of};

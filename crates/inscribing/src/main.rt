@@ -1,5 +1,7 @@
 // Makes of a morning's text on standard input a recording on standard output (docs/TEXT.md), in constant memory. Nothing that matters lives here: lines are
 // read by `line_in`, and records and packets are written by `writer`. That all was composed it tells in its last line on standard error.
+#![tactic(auto)]
+
 use editions::Edition;
 use keys::Form;
 use kinds::Kind;

@@ -1,4 +1,6 @@
 // The names of the messages, the keys of their fields, and what a field that is left out has (docs/TEXT.md).
+#![tactic(auto)]
+
 ghost use Rattle.std.specs.Prelude.{◌≡◌, ◌∷◌, length, get_or};
 ghost use Rattle.facts.specs.Same.{same_bytes};
 ghost use Rattle.text.specs.Text.{Wrote, trim_of};
@@ -11,7 +13,7 @@ use kinds::Kind;
 use styles::Style;
 
 // Where a field lies in its body, how its value is written, and whether it has to be.
-#[derive(Drop)]
+#[derive(Clone, Copy)]
 pub struct Form {
     pub at: usize,
     pub width: usize,
@@ -20,7 +22,7 @@ pub struct Form {
 }
 
 // A field: its key, its first byte in the body, how many bytes it has, how its value is written, and whether it has to be.
-#[derive(Drop)]
+#[derive(Clone, Copy)]
 pub struct Row(pub [u8; 12], pub usize, pub usize, pub Style, pub bool);
 
 // "A field without a default has to be written", any other may be left out.

@@ -1,9 +1,11 @@
 // The eleven messages: which of them a type byte decides, and how long each is (docs/MESSAGES.md).
+#![tactic(auto)]
+
 ghost use Rattle.std.specs.Prelude.{◌≡◌};
 ghost use Rattle.kinds.specs.Table.{length_of, kind_of};
 
 // The kind of a message; Unknown is refusal 3 (`refusal_of` of specs/; `type_refused` of body says that reading goes by it).
-#[derive(Drop)]
+#[derive(Clone, Copy)]
 pub enum Kind {
     SystemTime,
     SymbolUpdate,
@@ -19,7 +21,7 @@ pub enum Kind {
     Unknown,
 }
 
-#[derive(Drop)]
+#[derive(Clone, Copy)]
 pub struct Pair {
     pub code: u8,
     pub len: u8,

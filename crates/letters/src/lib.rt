@@ -1,4 +1,6 @@
 // Text of a line, and bytes that are no text in hex, read and written (docs/TEXT.md).
+#![tactic(auto)]
+
 ghost use Rattle.std.specs.Prelude.{◌≡◌, true, [], ◌∷◌, ◌+◌, ◌*◌, ◌/◌, ◌%◌, ◌<◌, ◌≤◌, length, replicate};
 ghost use Rattle.text.specs.Text.{Wrote};
 ghost use Rattle.letters.specs.Letters.{hex_digit, all_hex, unhex, hex_char, hex_of, is_plain, is_hex, text_in, text_of, lettered, got_into, plain_in, hex_in};

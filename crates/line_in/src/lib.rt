@@ -1,4 +1,6 @@
 // Reads a line of a morning's text: a record, or at which column it is wrong and what was expected there (docs/TEXT.md).
+#![tactic(auto)]
+
 ghost use Rattle.std.specs.Prelude.{◌≡◌, ◌+◌, ◌-◌, ◌≤◌, ◌<◌, length, take, drop, eqb};
 ghost use Rattle.facts.specs.Limits.{last_number};
 ghost use Rattle.facts.specs.Pick.{both};
@@ -14,7 +16,7 @@ use figures::Figure;
 use kinds::Kind;
 
 // What was expected where a line is wrong.
-#[derive(Drop)]
+#[derive(Clone, Copy)]
 pub enum Expected {
     Shorter,
     Number,
@@ -27,7 +29,7 @@ pub enum Expected {
 }
 
 // Where a line is wrong, from 1, and what was expected there: of which message and field, where there is one.
-#[derive(Drop)]
+#[derive(Clone, Copy)]
 pub struct Slip {
     pub column: usize,
     pub expected: Expected,
@@ -36,7 +38,7 @@ pub struct Slip {
 }
 
 // What a line is: of a record its number and its body's length.
-#[derive(Drop)]
+#[derive(Clone, Copy)]
 pub enum Line {
     Blank,
     Comment,
@@ -45,7 +47,7 @@ pub enum Line {
 }
 
 // What became of words.
-#[derive(Drop)]
+#[derive(Clone, Copy)]
 pub enum Took {
     Well,
     Wrong(Slip),

@@ -1,4 +1,6 @@
 // Writes the line of a record (docs/TEXT.md).
+#![tactic(auto)]
+
 ghost use Rattle.std.specs.Prelude.{◌≡◌, ◌∷◌, ◌++◌, ◌+◌, ◌≤◌, length};
 ghost use Rattle.text.specs.Text.{Wrote, first_texts};
 ghost use Rattle.values.specs.Values.{value_text};

@@ -1,4 +1,6 @@
 // A message as eight numbers and 28 bytes of text, as C has it (docs/WRITE.md), both ways: read into them, and written from them.
+#![tactic(auto)]
+
 ghost use Rattle.std.specs.Prelude.{◌≡◌, [], ◌∷◌, ◌++◌, length, get_or};
 ghost use Rattle.body.specs.Shown.{security_in};
 ghost use Rattle.fields.specs.Fields.{update_of, state_of, decoded};
@@ -19,7 +21,7 @@ use fields::{
 use kinds::Kind;
 
 // A body from numbers and text: why there is none, or 0; its length; its bytes, with zeros behind them.
-#[derive(Drop)]
+#[derive(Clone, Copy)]
 pub struct Draft {
     pub why: u8,
     pub len: usize,

@@ -1,5 +1,7 @@
 // What is done with the order table: nothing, one row put, or every live row of a symbol made free; and what becomes of a row. What a
 // message wants done is planned above. Each function answers for a table of any length and content.
+#![tactic(auto)]
+
 ghost use Rattle.std.specs.Prelude.{◌≡◌, get_or};
 ghost use Rattle.rows.specs.Rows.{rows, put_row, zero_row};
 ghost use Rattle.orders.specs.Work.{moves, remade, reduced, wiped, cleared, committed};
@@ -7,7 +9,7 @@ ghost use Rattle.orders.specs.Work.{moves, remade, reduced, wiped, cleared, comm
 use rows::Row;
 
 // The work of a message on the order table: a row at its place, or the symbol whose rows go.
-#[derive(Drop)]
+#[derive(Clone, Copy)]
 pub enum RowWork {
     Keep,
     Put(usize, Row),

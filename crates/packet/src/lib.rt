@@ -1,4 +1,6 @@
 // Reads a packet: records back to back, each judged by 2, 5, 3, 4 from the front, before anything is done with any of them.
+#![tactic(auto)]
+
 ghost use Rattle.std.specs.Prelude.{◌≡◌, drop};
 ghost use Rattle.packet.specs.Record.{number_ok, head_of, body_of, read_record};
 ghost use Rattle.packet.specs.Packet.{read_packet};
@@ -7,21 +9,21 @@ use editions::Edition;
 use fields::{Fault, Refusal};
 
 // What the ten header bytes of a record say.
-#[derive(Drop)]
+#[derive(Clone, Copy)]
 pub struct Head {
     pub number: u64,
     pub len: usize,
 }
 
 // The first record of what is left of a packet, or why and at which of its bytes it is bad.
-#[derive(Drop)]
+#[derive(Clone, Copy)]
 pub enum Record {
     Good(Head),
     Bad(Fault),
 }
 
 // A whole packet: how many records it holds; else its number alone (1), or why and at which of its bytes it is bad.
-#[derive(Drop)]
+#[derive(Clone, Copy)]
 pub enum Packet {
     Good(usize),
     Refused(Refusal),

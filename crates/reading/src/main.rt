@@ -1,4 +1,6 @@
 // Reads packets behind two-byte lengths from standard input and prints what the readers find: the vectors of tools/vectors.py.
+#![tactic(auto)]
+
 use body::Security;
 use editions::Edition;
 use fields::{

@@ -1,4 +1,6 @@
 // The receiver: starts, takes packets of lines A, B and the gap fills in any order, and applies the messages by their numbers.
+#![tactic(auto)]
+
 ghost use Rattle.std.specs.Prelude.{◌≡◌, ◌+◌, ◌≤◌, ◌%◌, true, length};
 ghost use Rattle.facts.specs.Limits.{last_number, packet_most, shelf_size};
 ghost use Rattle.body.specs.Read.{good_body};
@@ -24,7 +26,7 @@ const MOST_NEXT: u64 = LAST_NUMBER + 1;
 
 // What a receiver keeps between packets: the next number, what the book has by value, the stop of the last accepted packet, and the edition
 // that was chosen at its start.
-#[derive(Drop)]
+#[derive(Clone, Copy)]
 pub struct State {
     pub next: u64,
     pub clock: Clock,
@@ -33,7 +35,7 @@ pub struct State {
 }
 
 // How a record is answered: 10 to 14.
-#[derive(Drop)]
+#[derive(Clone, Copy)]
 pub enum Answer {
     Taken,
     Old,
@@ -43,7 +45,7 @@ pub enum Answer {
 }
 
 // The answer to an accepted packet.
-#[derive(Drop)]
+#[derive(Clone, Copy)]
 pub struct Account {
     pub counts: Counts,
     pub next: u64,
@@ -53,46 +55,46 @@ pub struct Account {
 }
 
 // The answer to a packet; a refused one gives its number alone (6, 1), or number and offset in the packet (2 to 5).
-#[derive(Drop)]
+#[derive(Clone, Copy)]
 pub enum Received {
     Accepted(Account),
     Refused(Refusal),
     Bad(Fault),
 }
 
-#[derive(Drop)]
+#[derive(Clone, Copy)]
 pub struct Reply {
     pub answer: Received,
     pub state: State,
 }
 
-#[derive(Drop)]
+#[derive(Clone, Copy)]
 pub enum Started {
     Ready(State),
     Refused(Refusal),
 }
 
-#[derive(Drop)]
+#[derive(Clone, Copy)]
 pub struct Turned {
     pub on: bool,
     pub at: Place,
 }
 
 // Where the work stands: the next number, and what the book has by value.
-#[derive(Drop)]
+#[derive(Clone, Copy)]
 pub struct Place {
     pub next: u64,
     pub clock: Clock,
 }
 
 // Where the drain begins, and how many turns it has.
-#[derive(Drop)]
+#[derive(Clone, Copy)]
 pub struct Laid {
     pub at: Place,
     pub turns: usize,
 }
 
-#[derive(Drop)]
+#[derive(Clone, Copy)]
 pub struct Worked {
     pub at: Place,
     pub counts: Counts,

@@ -1,5 +1,7 @@
 // Plays a recording from standard input packet by packet, prints each answer, and then the tables and the views: what the second
 // program prints of the same recording (second/src/bin/answers.rs).
+#![tactic(auto)]
+
 use editions::Edition;
 use libc::{STDERR_FILENO, STDIN_FILENO, STDOUT_FILENO};
 use receiver::{Account, Received, Started, State};

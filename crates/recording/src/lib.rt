@@ -1,4 +1,6 @@
 // A recording in pieces: packets, each behind its length in two bytes, carved out of chunks of any size and given to a receiver.
+#![tactic(auto)]
+
 ghost use Rattle.std.specs.Prelude.{◌≡◌, ◌++◌, ◌+◌, ◌-◌, ◌≤◌, ◌<◌, length, take, drop, set, replicate};
 ghost use Rattle.facts.specs.Limits.{packet_most, hold_least};
 ghost use Rattle.recording.specs.Stream.{more as at_most, added, heard, standing_of, hearing_of, opened, cut, feedable, feeding, fed};
@@ -11,7 +13,7 @@ use receiver::{Received, State};
 
 // What a stream keeps between chunks, beside its buffer: the receiver, how many bytes of an unfinished packet are in the buffer, how many
 // of an over-long one are still to come, how many packets were refused and why the last of them was (0 and 0 before the first), and the counts.
-#[derive(Drop)]
+#[derive(Clone, Copy)]
 pub struct Stream {
     pub receiver: State,
     pub held: usize,
@@ -21,13 +23,13 @@ pub struct Stream {
     pub totals: Counts,
 }
 
-#[derive(Drop)]
+#[derive(Clone, Copy)]
 pub enum Fed {
     Took(Stream),
     Refused(Refusal),
 }
 
-#[derive(Drop)]
+#[derive(Clone, Copy)]
 pub struct Moved {
     pub at: usize,
     pub stream: Stream,

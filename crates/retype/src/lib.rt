@@ -1,4 +1,6 @@
 // Which Security Type a symbol gets where a recording is made one of 1.3, and byte 20 of a Symbol Update as another edition has it.
+#![tactic(auto)]
+
 ghost use Rattle.std.specs.Prelude.{◌<◌, ◌≡◌, [], length, get_or};
 ghost use Rattle.facts.specs.Search.{first};
 ghost use Rattle.retype.specs.Types.{exceptions, whole_exceptions, names as names_symbol, type_for, bad_type, types_ok};

@@ -1,4 +1,6 @@
 // The order table: five numbers to a row. Each function answers for any table, any place and any row; only `row_in` and `put_row` know where a number lies.
+#![tactic(auto)]
+
 ghost use Rattle.std.specs.Prelude.{◌≡◌, ◌<◌, length, get_or, drop, replicate};
 ghost use Rattle.facts.specs.Search.{first};
 ghost use Rattle.rows.specs.Keys.{key_for, symbol_in, side_in, side_of};
@@ -11,7 +13,7 @@ use facts::Found;
 pub const ROW_SIZE: usize = 5;
 
 // key: the symbol and the side, by `key_for`.
-#[derive(Drop)]
+#[derive(Clone, Copy)]
 pub struct Row {
     pub order: u64,
     pub key: u64,
@@ -21,7 +23,7 @@ pub struct Row {
 }
 
 // What stands under an order ID: the place of its row and the row, or nothing.
-#[derive(Drop)]
+#[derive(Clone, Copy)]
 pub enum Held {
     Live(usize, Row),
     Nowhere,

@@ -1,5 +1,7 @@
 // Reads a recording from standard input and prints its answer sheet on standard output. Nothing that matters lives here: packets are
 // carved out by `recording`, and the sheet is what `answer_sheet` writes.
+#![tactic(auto)]
+
 use answer_sheet::{Recording, SheetAnswer};
 use editions::Edition;
 use libc::{STDERR_FILENO, STDIN_FILENO, STDOUT_FILENO};

@@ -1,5 +1,7 @@
 // The shelf: 64 slots of 74 bytes, each a number, a length and a body padded with zeros to 64 bytes; message n lies in slot n mod 64, and number 0 marks an empty slot.
 // Each function answers for a slice of any length, any slot and any body; a slot that is not there reads as an empty one and is not written.
+#![tactic(auto)]
+
 ghost use Rattle.std.specs.Prelude.{◌+◌, ◌≤◌, max, ◌≡◌, [], length, get_or};
 ghost use Rattle.facts.specs.Pieces.{pieces};
 ghost use Rattle.wire.specs.Le.{padded};

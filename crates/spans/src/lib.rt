@@ -1,4 +1,6 @@
 // The words of a line: where one starts, where it ends, and where a byte stands in it (docs/TEXT.md).
+#![tactic(auto)]
+
 ghost use Rattle.std.specs.Prelude.{◌≡◌, ◌+◌, drop};
 ghost use Rattle.spans.specs.Spans.{blank, blanks, filled, place_of};
 

@@ -1,7 +1,8 @@
 // How the value of a field is written (docs/TEXT.md, "Forms").
+#![tactic(auto)]
 
 // The form of a field's value.
-#[derive(Drop)]
+#[derive(Clone, Copy)]
 pub enum Style {
     Number,
     Price,

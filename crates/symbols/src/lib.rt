@@ -1,5 +1,7 @@
 // The symbol table: entries of 42 bytes, each a Symbol Update body. Each function answers for any table, any place and any body;
 // only `entry_count`, `entry_in` and `put_entry` know where an entry lies.
+#![tactic(auto)]
+
 ghost use Rattle.std.specs.Prelude.{◌≡◌, ◌<◌, length, get_or, []};
 ghost use Rattle.fields.specs.Fields.{symbol_of};
 ghost use Rattle.symbols.specs.Entries.{good_entries, entries, put_entry, used, free_entry};
@@ -16,7 +18,7 @@ const USED: u8 = 1;
 const FREE: u8 = 0;
 
 // The work of a message on the symbol table: the entry that its body becomes.
-#[derive(Drop)]
+#[derive(Clone, Copy)]
 pub enum EntryWork {
     Keep,
     Put(usize),

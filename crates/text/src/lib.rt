@@ -1,5 +1,7 @@
 // Appends to a lent buffer. Each writes from `at` on as far as the buffer reaches and answers the place behind all of its text, written or not, so that the next
 // append goes there and the last one tells how long the whole is.
+#![tactic(auto)]
+
 ghost use Rattle.std.specs.Prelude.{◌≡◌, [], ◌∷◌, map, ◌+◌, ◌%◌, ◌≤◌, length, take, nat_abs};
 ghost use Rattle.text.specs.Text.{Wrote, decimal_of, signed_of, trim_of, shown_of, ticker_of, line_of};
 

@@ -1,4 +1,6 @@
 // The value of a field by its form: read into the field's bytes, and written from them (docs/TEXT.md).
+#![tactic(auto)]
+
 ghost use Rattle.std.specs.Prelude.{◌≡◌, ◌+◌, ◌≤◌, length};
 ghost use Rattle.text.specs.Text.{Wrote};
 ghost use Rattle.letters.specs.Letters.{lettered, text_in};

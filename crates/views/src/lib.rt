@@ -1,4 +1,6 @@
 // Views of the book: the price ladder, the signed spread and the counts. Each answers for any tables, any symbol and any run.
+#![tactic(auto)]
+
 ghost use Rattle.std.specs.Prelude.{◌≡◌, true, ◌≤◌, length, pos, ◌-ℤ◌};
 ghost use Rattle.facts.specs.Limits.{most_price};
 ghost use Rattle.rows.specs.Rows.{rows, good_rows};
@@ -14,13 +16,13 @@ use rows::Row;
 // Farther than any price lies from the best.
 const BEYOND: u64 = facts::MOST_PRICE + 1;
 
-#[derive(Drop)]
+#[derive(Clone, Copy)]
 pub enum Side {
     Buy,
     Sell,
 }
 
-#[derive(Drop)]
+#[derive(Clone, Copy)]
 pub struct Level {
     pub price: u64,
     pub shares: u64,
@@ -28,27 +30,27 @@ pub struct Level {
 }
 
 // The number of all levels, written or not.
-#[derive(Drop)]
+#[derive(Clone, Copy)]
 pub enum LadderAnswer {
     Levels(usize),
     Refused(Refusal),
 }
 
 // Live orders and used entries.
-#[derive(Drop)]
+#[derive(Clone, Copy)]
 pub struct Sizes {
     pub orders: usize,
     pub symbols: usize,
 }
 
-#[derive(Drop)]
+#[derive(Clone, Copy)]
 pub enum CountsAnswer {
     Are(Sizes),
     Refused(Refusal),
 }
 
 // Best offer less best bid; Empty where a side has no order.
-#[derive(Drop)]
+#[derive(Clone, Copy)]
 pub enum SpreadAnswer {
     Of(i64),
     Empty,

@@ -1,5 +1,7 @@
 // Little-endian numbers at fixed places of a run of bytes, read and written, and copies of its bytes by value.
 // A byte past the end counts as 0 and is not stored, so that every function here answers for any slice and any place.
+#![tactic(auto)]
+
 ghost use Rattle.std.specs.Prelude.{◌≡◌, ◌+◌, ◌≤◌, ◌<◌, length, get_or, set, replicate, leb};
 ghost use Rattle.std.proofs.lemmas.List.Edits.{sets};
 ghost use Rattle.wire.specs.Le.{to_le, field, padded};

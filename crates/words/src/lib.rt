@@ -1,11 +1,13 @@
 // The words that the programs take to choose an edition: none, or --edition and its name (document 02, No. 10); and what convert's --type means (docs/CONVERT.md).
+#![tactic(auto)]
+
 ghost use Rattle.std.specs.Prelude.{◌-◌, ◌≤◌, ◌<◌, min, ◌≡◌, [], length};
 ghost use Rattle.words.specs.Words.{edition_named, edition_asked};
 ghost use Rattle.words.specs.Types.{all_from, decimal_from, by_id, by_ticker, asking, id_asked, exception_asked, type_asked};
 
 use editions::Edition;
 
-#[derive(Drop)]
+#[derive(Clone, Copy)]
 pub enum Named {
     Known(Edition),
     Unknown,
@@ -44,7 +46,7 @@ pub fn edition_asked(count: usize, first: &[u8], second: &[u8]) -> Named
 }
 
 // What the word behind --type asks for: a type for all symbols, an exception, or nothing that is known.
-#[derive(Drop)]
+#[derive(Clone, Copy)]
 pub enum TypeWord {
     All(u8),
     Exception,

@@ -1,5 +1,7 @@
 // Writes recordings into lent memory: a record behind a packet so far, a packet behind a recording so far (docs/WRITE.md). What refuses
 // leaves every byte as it was.
+#![tactic(auto)]
+
 ghost use Rattle.std.specs.Prelude.{◌≡◌, ◌+◌, ◌≤◌, length, take, leb};
 ghost use Rattle.std.proofs.lemmas.List.Edits.{sets};
 ghost use Rattle.trips.specs.Records.{record_bytes, length_first};
@@ -10,7 +12,7 @@ use fields::{Fault, Refusal};
 use packet::Packet;
 
 // The new length of the packet or recording; else a refusal by its number alone, or why and at which byte what was read is bad.
-#[derive(Drop)]
+#[derive(Clone, Copy)]
 pub enum Wrote {
     Length(usize),
     Refused(Refusal),

@@ -1,0 +1,21 @@
+-- Three appends, each where the one before ended, with the counts that were handed in.
+-- Assumes nothing.
+use Rattle.text.proofs.Laws.{wrote_as}
+use Rattle.answer_sheet.specs.Sheet.{lines_of, sheet_of}
+use Rattle.answer_sheet.proofs.Lines.{lines_then}
+use Rattle.answer_sheet.proofs.Exits.{sizes_good, sizes_lines}
+use borrow.Author.Rules.{rules}
+use Rattle.answer_sheet.proofs.all_lines.Goals as goal
+
+pub all_entries-requires : goal.all_entries-requires
+all_entries-requires c = let a = c.args in sizes_good a.orders.now a.symbols.now a.sizes c.requires
+
+pub returns : goal.returns
+unfolding sheet_of lines_of
+returns c =
+    let summed = c.before in
+    let first = summed.before.before.before.before in
+    let start = first.before.before.before.before.before.before in
+    let a = start.args in
+    let e = sizes_lines a.orders.now a.symbols.now _ a.sizes start.requires in
+    (lines_then _ _ first.head.ensures.0 (lines_then _ _ (wrote_as e summed.table-lines.ensures.0) c.all_entries.ensures), first.head.ensures.1, summed.table-lines.ensures.1)

@@ -1,0 +1,37 @@
+-- A bad size or next number is refused with the buffer as it was; else the whole text is stored as far as the buffer reaches.
+-- Assumes nothing.
+use mathlib.Core.Path.{sym, ◌∙◌}
+use borrow.Author.Tests.{not-true, not-false}
+use native.Mathlib.Omega.{arith}
+use Rattle.answer_sheet.proofs.Bound.{Machine}
+use Rattle.answer_sheet.proofs.Exits.{sizes_good, sizes_bad, sizes_refused, next_refused, sheet_stored}
+use borrow.Author.Rules.{rules}
+use Rattle.answer_sheet.proofs.sheet.Goals as goal
+
+pub returns-in_default : goal.returns-in_default
+returns-in_default c =
+    let a = c.args in
+    sizes_refused a.word a.bad a.state a.orders.now a.symbols.now a.buf.now (sizes_bad a.orders.now a.symbols.now _ (sym c.in_default.is ∙ c.counts-c.ensures))
+
+pub returns-then-not-next_ok : goal.returns-then-not-next_ok
+returns-then-not-next_ok c =
+    let told = c.before in
+    let a = told.before.before.before.before.before.before.args in
+    let g = sizes_good a.orders.now a.symbols.now _ (sym told.c.given.1 ∙ told.before.before.counts.ensures) in
+    next_refused a.word a.bad a.state a.orders.now a.symbols.now a.buf.now g (sym c.next_ok.ensures ∙ not-true _ c.if-not-next_ok.true-raw)
+
+pub all_lines-requires : goal.all_lines-requires
+all_lines-requires c =
+    let told = c.before in
+    sym told.c.given.1 ∙ told.before.before.counts.ensures
+
+pub returns : goal.returns
+returns c =
+    let tried = c.before in
+    let told = tried.before.before.before in
+    let a = told.before.before.before.before.before.before.args in
+    let g = sizes_good a.orders.now a.symbols.now _ (sym told.c.given.1 ∙ told.before.before.counts.ensures) in
+    let n = sym tried.before.next-ok.ensures ∙ not-false _ tried.if1.false in
+    let wrote = c.all_lines.ensures in
+    let m : Machine a.bad a.state a.symbols.now = record { bad_fits = search rules; second_fits = wrote.2; stop_fits = wrote.1; bytes = λ i. omega (arith, told.before.before.before.shared-slice-known2.given i) } in
+    sheet_stored a.word a.bad a.state a.orders.now a.symbols.now a.buf.now g n m _ _ wrote.0

@@ -1,0 +1,18 @@
+-- In 1.3 three appends, each where the one before ended; later nothing is written.
+-- Assumes nothing.
+use Rattle.facts.specs.Pieces.{join}
+use Rattle.text.specs.Text.{line_of}
+use Rattle.text.proofs.Laws.{wrote_then, wrote_last, wrote_none}
+use Rattle.answer_sheet.specs.Keys.{type_key}
+use Rattle.answer_sheet.specs.Lines.{plain, line_text, text_of}
+use Rattle.answer_sheet.specs.Sheet.{type_lines}
+use borrow.Author.Rules.{rules}
+use Rattle.answer_sheet.proofs.type_lines.Goals as goal
+
+pub returns-in-Type : goal.returns-in-Type
+unfolding type_lines text_of line_text plain line_of join type_key
+returns-in-Type c = rw (c.in-Type.is, ← c.shown.ensures) (wrote_last (wrote_then c.bytes-o.ensures (wrote_then c.byte-p.ensures c.byte.ensures)))
+
+pub returns-in-Reserved : goal.returns-in-Reserved
+unfolding type_lines text_of join
+returns-in-Reserved c = rw c.in-Reserved.is (wrote_none (search rules))

@@ -1,0 +1,19 @@
+-- Case by case what the definitions tell of it (told_case), and of a bad packet what with_offset told (told_bad).
+-- Assumes nothing.
+use mathlib.Core.Path.{subst}
+use Rattle.api.specs.Writing.{Small}
+use Rattle.api.proofs.Writing.{told_case, told_bad}
+use borrow.Author.Rules.{rules}
+use Rattle.api.proofs.length_told.Goals as goal
+
+pub with_offset-requires : goal.with_offset-requires
+with_offset-requires c = subst Small c.in-Bad.is c.requires
+
+pub returns-in-Refused : goal.returns-in-Refused
+returns-in-Refused c = told_case _ _ c.in-Refused.is _
+
+pub returns-in-Bad : goal.returns-in-Bad
+returns-in-Bad c = told_bad _ _ c.in-Bad.is _ _ c.with_offset.ensures
+
+pub returns-in-Length : goal.returns-in-Length
+returns-in-Length c = told_case _ _ c.in-Length.is c.args.length.now

@@ -1,0 +1,15 @@
+-- Both answers of the counts are handed on.
+-- Assumes nothing.
+use Rattle.views.specs.Views.{counts_number}
+use Rattle.api.specs.Calls.{counts_answer}
+use Rattle.api.proofs.Handing.{counts_handed}
+use borrow.Author.Rules.{rules}
+use Rattle.api.proofs.rimeheath_counts.Goals as goal
+
+pub returns-in-Refused : goal.returns-in-Refused
+unfolding counts_answer counts_number
+returns-in-Refused c = counts_handed _ _ _ c.in-Refused.is c.counts.ensures c.args.counts.now
+
+pub returns-in-Are : goal.returns-in-Are
+unfolding counts_answer counts_number
+returns-in-Are c = counts_handed _ _ _ c.in-Are.is c.counts.ensures c.args.counts.now

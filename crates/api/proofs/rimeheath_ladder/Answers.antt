@@ -1,0 +1,15 @@
+-- Both answers of the ladder are handed on, and the run is the ladder's.
+-- Assumes nothing.
+use Rattle.views.specs.Views.{ladder_number}
+use Rattle.api.specs.Calls.{ladder_answer}
+use Rattle.api.proofs.Handing.{ladder_handed}
+use borrow.Author.Rules.{rules}
+use Rattle.api.proofs.rimeheath_ladder.Goals as goal
+
+pub returns-in-Refused : goal.returns-in-Refused
+unfolding ladder_answer ladder_number
+returns-in-Refused c = ladder_handed _ _ c.in-Refused.is _ _ (rw c.side_asked.ensures at c.ladder.ensures) c.args.levels.now
+
+pub returns-in-Levels : goal.returns-in-Levels
+unfolding ladder_answer ladder_number
+returns-in-Levels c = ladder_handed _ _ c.in-Levels.is _ _ (rw c.side_asked.ensures at c.ladder.ensures) c.args.levels.now

@@ -1,0 +1,15 @@
+-- What the judge says is told, or decoded as the kind that it tells.
+-- Assumes nothing.
+use mathlib.Core.Path.{sym, ap, ◌∙◌}
+use Rattle.body.specs.Read.{message, read_body}
+use Rattle.body.specs.declared.Judged.{Judged}
+use borrow.Author.Rules.{rules}
+use Rattle.body.proofs.read_body.Goals as goal
+
+pub returns-in-Bad : goal.returns-in-Bad
+unfolding read_body message
+returns-in-Bad c = ap (λ (x : Judged). message x c.args.b.now) (sym c.in-Bad.is ∙ c.judge_body.ensures)
+
+pub returns-in-Good : goal.returns-in-Good
+unfolding read_body message
+returns-in-Good c = c.decode.ensures ∙ ap (λ (x : Judged). message x c.args.b.now) (sym c.in-Good.is ∙ c.judge_body.ensures)

@@ -1,0 +1,7 @@
+-- The calls' answers in a row are the definition.
+-- Assumes nothing.
+use borrow.Author.Rules.{rules}
+use Rattle.body.proofs.stamp_fault.Goals as goal
+
+pub returns : goal.returns
+returns c = rw (← c.u32_at.ensures, ← c.nanos_ok.ensures) c.fault_at.ensures

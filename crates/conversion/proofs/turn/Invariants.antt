@@ -1,0 +1,18 @@
+-- The loop keeps: the packets before `at` are passed on, what follows is as it was, and both together come to the whole (Went); no count is above `at` (Few).
+-- Assumes nothing.
+use Prim.Native.Nat.{◌+◌, ◌-◌, ◌≤◌, ◌<◌}
+use mathlib.Core.Path.{◌≡◌, refl, sym, subst, ◌∙◌}
+use native.Mathlib.Omega.{arith}
+use borrow.Author.Rules.{rules}
+use lib.ListN.{length, drop, length-drop}
+use Rattle.wire.specs.Le.{field}
+use Rattle.conversion.specs.Piece.{tally_of, plus}
+use Rattle.retype.specs.Retyped.{asked}
+use Rattle.conversion.proofs.Pieces.{Few, few_plus, few_countable, Went, went_none, went_end, went_few, went_more, went_size}
+use Rattle.conversion.proofs.turn.Given as goal
+
+abbrev pub invariant-loop-b : goal.invariant-loop-b
+invariant-loop-b l = (l.at ≤ length l.b) × (length l.b ≡ length l.initial.b) × Few l.t l.at × Went l.from (asked l.to l.all l.others) l.initial.b l.b l.at l.t
+
+abbrev pub decreases-loop-b : goal.decreases-loop-b
+decreases-loop-b l = length l.b - l.at

@@ -1,0 +1,9 @@
+-- Each call stores its fields behind those before it, so that what stands there in the end is the message written (body_written).
+-- Assumes nothing.
+use Rattle.fields.specs.Messages.{modify_order}
+use Rattle.encode.proofs.Laws.{body_written}
+use borrow.Author.Rules.{rules}
+use Rattle.encode.proofs.modify_body.Goals as goal
+
+pub returns : goal.returns
+returns c = rw (c.put_byte.ensures, c.put_four.ensures, c.put_le.ensures, c.front_id.ensures) (body_written modify_order c.args.m (search rules))

@@ -1,0 +1,19 @@
+-- The search from slot p on, with the steps that are left, gives what the whole search gives.
+-- Assumes nothing.
+use borrow.Author.Rules.{rules}
+use mathlib.Core.Path.{◌≡◌, refl, sym, ap, ◌∙◌}
+use mathlib.Core.Bool.{true, false}
+use Prim.Native.Nat.{ℕ, ◌+◌, ◌-◌, ◌%◌, ◌≤◌, ◌<◌}
+use native.Mathlib.Omega.{arith}
+use lib.ListN.{get_or}
+use Rattle.facts.specs.declared.Found.TheVariants.{At, Nothing}
+use Rattle.rows.specs.Rows.{rows}
+use Rattle.index.specs.Index.{slots, fits, probe, looked}
+use Rattle.index.proofs.Cases.{hash_below, look_start, look_stop, look_hit, look_on, look_end}
+use Rattle.index.proofs.find.Given as goal
+
+abbrev pub invariant-loop-n : goal.invariant-loop-n
+invariant-loop-n l = (l.n ≤ 32768) × (l.p < 32768) × (looked l.ix (rows l.t) l.id ≡ probe (slots - l.n) l.ix (rows l.t) l.id l.p)
+
+abbrev pub decreases-loop-n : goal.decreases-loop-n
+decreases-loop-n l = 32768 - l.n

@@ -1,0 +1,16 @@
+-- The search from slot p on, with the steps that are left, gives what the whole search gives.
+-- Assumes nothing.
+use borrow.Author.Rules.{rules}
+use mathlib.Core.Path.{◌≡◌, refl, sym, ap, ◌∙◌}
+use Prim.Native.Nat.{ℕ, ◌+◌, ◌-◌, ◌%◌, ◌≤◌, ◌<◌}
+use native.Mathlib.Omega.{arith}
+use lib.ListN.{get_or}
+use Rattle.index.specs.Index.{slots, vacant, hash}
+use Rattle.index.proofs.Cases.{hash_below, vacant_start, vacant_stop, vacant_on, vacant_end}
+use Rattle.index.proofs.find_vacant.Given as goal
+
+abbrev pub invariant-loop-n : goal.invariant-loop-n
+invariant-loop-n l = (l.n ≤ 32768) × (l.p < 32768) × (vacant slots l.ix (hash l.id) ≡ vacant (slots - l.n) l.ix l.p)
+
+abbrev pub decreases-loop-n : goal.decreases-loop-n
+decreases-loop-n l = 32768 - l.n

@@ -1,0 +1,15 @@
+-- The search from block b on gives what the whole search gives.
+-- Assumes nothing.
+use mathlib.Core.Path.{◌≡◌, refl, sym, ap, ◌∙◌}
+use Prim.Native.Nat.{ℕ, ◌+◌, ◌-◌, ◌≤◌, ◌<◌}
+use native.Mathlib.Omega.{arith}
+use borrow.Author.Rules.{rules}
+use Rattle.index.specs.Index.{blocks, block_from, count_of}
+use Rattle.index.proofs.Cases.{block_hit, block_on, block_end}
+use Rattle.index.proofs.first_block.Given as goal
+
+abbrev pub invariant-loop-b : goal.invariant-loop-b
+invariant-loop-b l = (l.b ≤ 250) × (block_from blocks l.ix 0 ≡ block_from (blocks - l.b) l.ix l.b)
+
+abbrev pub decreases-loop-b : goal.decreases-loop-b
+decreases-loop-b l = 250 - l.b

@@ -1,0 +1,18 @@
+-- The loop keeps: what the search from field i on finds is what the whole search finds.
+-- Assumes nothing.
+use borrow.Author.Rules.{rules}
+use Prim.Native.Nat.{◌-◌, ◌≤◌, ◌<◌}
+use mathlib.Core.Path.{◌≡◌, refl, sym, ◌∙◌}
+use native.Mathlib.Omega.{arith}
+use lib.ListN.{length, drop}
+use Rattle.facts.specs.Same.{same_bytes}
+use Rattle.facts.specs.Search.{first}
+use Rattle.facts.proofs.Searches.{first_hit, first_miss, first_end}
+use Rattle.keys.specs.Keys.{entries_of, no_entry, key_named}
+use Rattle.keys.proofs.key_named.Given as goal
+
+abbrev pub invariant-loop-i : goal.invariant-loop-i
+invariant-loop-i l = (l.i ≤ l.n) × (first (λ f. same_bytes l.w f.key) l.i (drop l.i (entries_of l.e l.k)) ≡ key_named l.e l.k l.w)
+
+abbrev pub decreases-loop-i : goal.decreases-loop-i
+decreases-loop-i l = l.n - l.i

@@ -1,0 +1,18 @@
+-- Where a number does not fit, the draft is refused with 4; else the body is there, and its judgement is the draft's.
+-- Assumes nothing.
+use mathlib.Core.Path.{ap, ◌∙◌, sym}
+use borrow.Author.Tests.{not-true, not-false}
+use Rattle.numbers.specs.Drafts.{held_draft, draft_from}
+use Rattle.numbers.proofs.Drafts.{draft_fit}
+use Rattle.numbers.proofs.Held.{unfit, held}
+use borrow.Author.Rules.{rules}
+use Rattle.numbers.proofs.draft_of.Goals as goal
+
+pub returns-then-not-fits : goal.returns-then-not-fits
+returns-then-not-fits c = c.refused.ensures ∙ (unfit c.args.e c.kind_in-k.result c.args.n.now c.args.t.now (sym c.fits2.ensures ∙ not-true _ c.if-not-fits.true-raw) ∙ ap (λ k. draft_from c.args.e k c.args.n.now c.args.t.now) c.kind_in-k.ensures)
+
+pub body_from-requires : goal.body_from-requires
+body_from-requires c = draft_fit c.args.e c.kind_in-k.result c.args.n.now c.args.t.now (sym c.fits2.ensures ∙ not-false _ c.if-not-fits.false-raw)
+
+pub returns : goal.returns
+returns c = c.judged.ensures ∙ (ap (held_draft c.args.e) c.body_from.ensures ∙ (held c.args.e c.kind_in-k.result c.args.n.now c.args.t.now (sym c.fits2.ensures ∙ not-false _ c.if-not-fits.false-raw) ∙ ap (λ k. draft_from c.args.e k c.args.n.now c.args.t.now) c.kind_in-k.ensures))

@@ -1,0 +1,19 @@
+-- The loop keeps: the first i rows are wiped, the others and the rest as they were; a table is its rows and the rest.
+-- Assumes nothing.
+use mathlib.Core.Path.{◌≡◌, refl, sym, ap, ◌∙◌}
+use Prim.Native.Nat.{◌≤◌, ◌-◌}
+use native.Mathlib.Omega.{arith}
+use lib.ListN.{length}
+use borrow.Author.Rules.{rules}
+use Rattle.facts.proofs.Lists.{map_to, map_none}
+use Rattle.rows.specs.Rows.{rows, row_count, rest}
+use Rattle.rows.proofs.Tables.{length_put_row, rest_put_row, flat_rest}
+use Rattle.rows.proofs.Walks.{map_row, map_past}
+use Rattle.orders.specs.Work.{wiped, cleared}
+use Rattle.orders.proofs.clear.Given as goal
+
+abbrev pub invariant-loop-i : goal.invariant-loop-i
+invariant-loop-i l = (l.i ≤ l.n) × (l.n ≡ row_count l.initial.t) × (length l.t ≡ length l.initial.t) × (rest l.t ≡ rest l.initial.t) × (rows l.t ≡ map_to (wiped l.symbol) l.i (rows l.initial.t))
+
+abbrev pub decreases-loop-i : goal.decreases-loop-i
+decreases-loop-i l = l.n - l.i

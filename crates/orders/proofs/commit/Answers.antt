@@ -1,0 +1,18 @@
+-- Each work is one call, and that call ensures its case of the definition.
+-- Assumes nothing.
+use mathlib.Core.Path.{refl}
+use borrow.Author.Rules.{rules}
+use Rattle.orders.specs.Work.{committed}
+use Rattle.orders.proofs.commit.Goals as goal
+
+pub returns-in-Keep : goal.returns-in-Keep
+unfolding committed
+returns-in-Keep c = rw c.in-Keep.is refl
+
+pub returns-in-Put : goal.returns-in-Put
+unfolding committed
+returns-in-Put c = rw c.in-Put.is c.put_row.ensures
+
+pub returns-in-Clear : goal.returns-in-Clear
+unfolding committed
+returns-in-Clear c = rw c.in-Clear.is c.clear.ensures

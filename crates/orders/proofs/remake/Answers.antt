@@ -1,0 +1,13 @@
+-- The bit decides which rank the new row has; all else is the same record.
+-- Assumes nothing.
+use Rattle.facts.specs.Pick.{pick}
+use Rattle.orders.specs.Work.{remade}
+use Rattle.orders.proofs.remake.Goals as goal
+
+pub returns-then-moved : goal.returns-then-moved
+unfolding remade pick
+returns-then-moved c = rw c.if-moved.true
+
+pub returns : goal.returns
+unfolding remade pick
+returns c = rw c.if-moved.false

@@ -1,0 +1,40 @@
+-- The loop keeps: the answer to the whole is the answer to what is left from `at` on, with the records and bytes so far before it.
+-- Assumes nothing.
+use mathlib.Core.Path.{◌≡◌, sym, ◌∙◌}
+use Prim.Native.Nat.{◌-◌, ◌≤◌}
+use native.Mathlib.Omega.{arith}
+use borrow.Author.Rules.{rules}
+use lib.ListN.{length, drop}
+use Rattle.packet.specs.Packet.{frames_from, told}
+use Rattle.packet.proofs.Laws.{more, more_none, at_good, at_bad, at_end, packet_is, packet_empty, packet_long}
+use Rattle.packet.proofs.read_packet.Goals as goal
+
+pub returns-then-p-lt1 : goal.returns-then-p-lt1
+returns-then-p-lt1 c = packet_empty c.args.e c.args.p.now (omega arith)
+
+pub returns-then-p-gt-PACKET_MOST : goal.returns-then-p-gt-PACKET_MOST
+returns-then-p-gt-PACKET_MOST c = packet_long c.args.e c.args.p.now c.if-p-gt-PACKET_MOST.true
+
+pub loop-at-init : goal.loop-at-init
+loop-at-init c = (omega arith, omega arith, more_none (told (frames_from c.args.e (length c.args.p.now) c.args.p.now)))
+
+pub overflow_add-fault : goal.overflow_add-fault
+overflow_add-fault c = let g = at_bad c.args.e c.args.p.now c.loop-at.at c.loop-at.records c.read_record.result c.loop-at-test.true c.read_record.ensures _ c.in-Bad.is in omega (arith, g.0)
+
+pub returns-in-Bad : goal.returns-in-Bad
+returns-in-Bad c = let g = at_bad c.args.e c.args.p.now c.loop-at.at c.loop-at.records c.read_record.result c.loop-at-test.true c.read_record.ensures _ c.in-Bad.is in sym (packet_is c.args.e c.args.p.now (omega arith) c.if-p-gt-PACKET_MOST.false ∙ c.loop-at.invariant.2 ∙ g.1)
+
+pub overflow_add-at : goal.overflow_add-at
+overflow_add-at c = let g = at_good c.args.e c.args.p.now c.loop-at.at c.loop-at.records c.read_record.result c.loop-at-test.true c.read_record.ensures _ c.in-Good.is in omega (arith, g.0)
+
+pub overflow_add-at-in-Good : goal.overflow_add-at-in-Good
+overflow_add-at-in-Good c = let g = at_good c.args.e c.args.p.now c.loop-at.at c.loop-at.records c.read_record.result c.loop-at-test.true c.read_record.ensures _ c.in-Good.is in omega (arith, g.0)
+
+pub loop-at-smaller : goal.loop-at-smaller
+loop-at-smaller c = let g = at_good c.args.e c.args.p.now c.loop-at.at c.loop-at.records c.read_record.result c.loop-at-test.true c.read_record.ensures _ c.in-Good.is in omega (arith, g.0)
+
+pub loop-at-preserved : goal.loop-at-preserved
+loop-at-preserved c = let g = at_good c.args.e c.args.p.now c.loop-at.at c.loop-at.records c.read_record.result c.loop-at-test.true c.read_record.ensures _ c.in-Good.is in (g.0, omega arith, c.loop-at.invariant.2 ∙ g.1)
+
+pub returns : goal.returns
+returns c = sym (packet_is c.args.e c.args.p.now (omega arith) c.if-p-gt-PACKET_MOST.false ∙ c.loop-at.invariant.2 ∙ at_end c.args.e c.args.p.now c.loop-at.at c.loop-at.records c.loop-at-test.false)

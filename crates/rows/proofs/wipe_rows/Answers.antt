@@ -1,0 +1,20 @@
+-- The loop keeps: each number below i is 0; a list of zeros at every place is the list of that many zeros.
+-- Assumes nothing.
+use mathlib.Core.Path.{◌≡◌, refl, ap, ◌∙◌}
+use Prim.Native.Nat.{ℕ, ◌≤◌, ◌<◌, ◌-◌}
+use native.Mathlib.Omega.{arith}
+use lib.ListN.{length, get_or, replicate, length-set}
+use borrow.Author.Rules.{rules}
+use Rattle.facts.proofs.Lists.{write_more}
+use Rattle.facts.proofs.PieceLaws.{is_replicate}
+use Rattle.rows.proofs.wipe_rows.Goals as goal
+
+pub loop-i-preserved : goal.loop-i-preserved
+loop-i-preserved c =
+    let l = c.loop-i in
+    (omega arith, refl, simp length-set l.invariant.2, write_more l.t (λ k. 0) l.i 0 (omega arith) refl l.invariant.3)
+
+pub returns : goal.returns
+returns c =
+    let l = c.loop-i in
+    is_replicate 0 0 l.t (λ k h. l.invariant.3 k (omega arith)) ∙ ap (λ (n : ℕ). replicate n 0) l.invariant.2

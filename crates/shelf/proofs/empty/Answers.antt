@@ -1,0 +1,17 @@
+-- A part of 74 bytes that comes back zeroed is an empty slot put (part_put); without such a slot nothing changes.
+-- Assumes nothing.
+use mathlib.Core.Path.{refl}
+use borrow.Author.Rules.{rules}
+use Rattle.arbitration.specs.Slots.{empty_slot}
+use Rattle.shelf.proofs.Laws.{part_put, put_past, empty_part}
+use Rattle.shelf.proofs.empty.Goals as goal
+
+pub returns-then-s-i : goal.returns-then-s-i
+returns-then-s-i c = let a = c.args in put_past a.s.now a.i empty_slot c.if-s-i.true
+
+pub returns : goal.returns
+returns c =
+    let a = c.args in
+    let w = c.wipe in
+    let h = c.if-s-i.false in
+    part_put a.s.now a.i empty_slot w.new.0 h (empty_part a.s.now a.i w.new.0 h w.ensures) refl

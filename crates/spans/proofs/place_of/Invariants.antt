@@ -1,0 +1,16 @@
+-- The first x of the whole is that of the bytes from i on, i places further; each turn takes one off.
+-- Assumes nothing.
+use mathlib.Core.Path.{◌≡◌, refl, sym, ◌∙◌}
+use Prim.Native.Nat.{◌+◌, ◌-◌}
+use native.Mathlib.Omega.{arith}
+use lib.ListN.{length, drop}
+use borrow.Author.Rules.{rules}
+use Rattle.spans.specs.Spans.{place_of}
+use Rattle.spans.proofs.Laws.{place_more, place_stop, place_end}
+use Rattle.spans.proofs.place_of.Given as goal
+
+abbrev pub invariant-loop-i : goal.invariant-loop-i
+invariant-loop-i l = place_of l.x l.s ≡ l.i + place_of l.x (drop l.i l.s)
+
+abbrev pub decreases-loop-i : goal.decreases-loop-i
+decreases-loop-i l = length l.s - l.i

@@ -1,0 +1,47 @@
+-- The search from entry i on, over the entries left, gives what the whole search gives; each turn takes one entry off.
+-- Assumes nothing.
+use mathlib.Core.Path.{◌≡◌, refl, sym, ◌∙◌}
+use mathlib.Core.List.{[]}
+use mathlib.Core.Bool.{true, false}
+use Prim.Native.Nat.{◌≤◌, ◌-◌}
+use native.Mathlib.Omega.{arith}
+use lib.ListN.{length, get_or, drop}
+use borrow.Author.Rules.{rules}
+use Rattle.facts.specs.Search.{first}
+use Rattle.facts.proofs.Searches.{first_hit, first_miss, first_end}
+use Rattle.symbols.specs.Entries.{entries, free_entry}
+use Rattle.symbols.specs.Find.{find_free_entry}
+use Rattle.symbols.proofs.find_free_entry.Goals as goal
+
+pub loop-i-init : goal.loop-i-init
+unfolding find_free_entry
+loop-i-init c = (omega arith, c.entry_count-end.ensures, refl)
+
+pub entry_in-requires : goal.entry_in-requires
+entry_in-requires c = omega arith
+
+pub returns-then-is_free : goal.returns-then-is_free
+returns-then-is_free c =
+    let es = entries c.args.t.now in
+    let l = c.loop-i in
+    let e : free_entry (get_or es l.i []) ≡ true = cc in
+    sym (l.invariant.2 ∙ first_hit free_entry es l.i [] (omega arith) e)
+
+pub overflow_add-i : goal.overflow_add-i
+overflow_add-i c = omega arith
+
+pub loop-i-smaller : goal.loop-i-smaller
+loop-i-smaller c = omega arith
+
+pub loop-i-preserved : goal.loop-i-preserved
+loop-i-preserved c =
+    let es = entries c.args.t.now in
+    let l = c.loop-i in
+    let e : free_entry (get_or es l.i []) ≡ false = cc in
+    (omega arith, l.invariant.1, l.invariant.2 ∙ first_miss free_entry es l.i [] (omega arith) e)
+
+pub returns : goal.returns
+returns c =
+    let es = entries c.args.t.now in
+    let l = c.loop-i in
+    sym (l.invariant.2 ∙ first_end free_entry es l.i (omega arith))

@@ -1,0 +1,17 @@
+-- The symbol's own entry where the search finds it (place_own), else the lowest free one (place_fresh).
+-- Assumes nothing.
+use mathlib.Core.Path.{sym, ◌∙◌}
+use borrow.Author.Rules.{rules}
+use Rattle.symbols.specs.Entries.{entries}
+use Rattle.symbols.proofs.FindLaws.{place_own, place_fresh}
+use Rattle.symbols.proofs.find_place.Goals as goal
+
+pub returns-in-At : goal.returns-in-At
+returns-in-At c =
+    let a = c.args in
+    sym (place_own a.id (entries a.t.now) c.in-At.i (sym c.find_symbol-own.ensures ∙ c.in-At.is))
+
+pub returns-in-Nothing : goal.returns-in-Nothing
+returns-in-Nothing c =
+    let a = c.args in
+    c.find_free_entry.ensures ∙ sym (place_fresh a.id (entries a.t.now) (sym c.find_symbol-own.ensures ∙ c.in-Nothing.is))

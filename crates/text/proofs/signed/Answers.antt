@@ -1,0 +1,17 @@
+-- A minus sign and the magnitude below 0, else the magnitude alone.
+-- Assumes nothing.
+use borrow.Author.Rules.{rules}
+use Rattle.text.proofs.Laws.{wrote_as, wrote_then}
+use Rattle.text.proofs.SignedLaws.{shows_neg, shows_pos}
+use Rattle.text.proofs.signed.Goals as goal
+
+pub returns-then-n-lt0 : goal.returns-then-n-lt0
+returns-then-n-lt0 c =
+    let d = c.before in
+    wrote_as (shows_neg _ _ d.before.before.before.ranges.n d.before.magnitude.ensures d.if1.true)
+    (wrote_then c.byte-o.ensures c.decimal.ensures)
+
+pub returns : goal.returns
+returns c =
+    let d = c.before in
+    wrote_as (shows_pos _ _ d.before.before.before.ranges.n d.before.magnitude.ensures d.if1.false) c.decimal-2.ensures

@@ -1,0 +1,11 @@
+-- Two halves are the field (field_split).
+-- Assumes nothing.
+use native.Mathlib.Omega.{arith}
+use Rattle.wire.proofs.Laws.{field_split}
+use borrow.Author.Rules.{rules}
+use Rattle.wire.proofs.eight_in.Goals as goal
+
+pub returns : goal.returns
+returns c =
+    let a = c.args in
+    omega (arith, field_split a.b.now a.at 4 4)

@@ -1,0 +1,17 @@
+-- Where two bytes are there they are the field; else they are read in a padded copy (field_copied).
+-- Assumes nothing.
+use mathlib.Core.Path.{sym, ap, ◌∙◌}
+use Prim.Native.Nat.{◌+◌}
+use native.Mathlib.Omega.{arith}
+use lib.ListN.{length}
+use borrow.Author.Tests.{leb-true}
+use Rattle.wire.specs.Le.{field}
+use Rattle.wire.proofs.Laws.{field_copied}
+use borrow.Author.Rules.{rules}
+use Rattle.wire.proofs.u16_at.Goals as goal
+
+pub two_in-requires : goal.two_in-requires
+two_in-requires c = leb-true (c.args.at + 2) (length c.args.b.now) (sym c.has.ensures ∙ c.if-has.true)
+
+pub returns : goal.returns
+returns c = c.two_in-2.ensures ∙ (ap (λ q. field q 0 2) c.eight_at-p.ensures ∙ field_copied c.args.b.now c.args.at 8 2 (omega arith))

@@ -1,0 +1,17 @@
+-- Where four bytes are there they are the field; else they are read in a padded copy (field_copied).
+-- Assumes nothing.
+use mathlib.Core.Path.{sym, ap, ◌∙◌}
+use Prim.Native.Nat.{◌+◌}
+use native.Mathlib.Omega.{arith}
+use lib.ListN.{length}
+use borrow.Author.Tests.{leb-true}
+use Rattle.wire.specs.Le.{field}
+use Rattle.wire.proofs.Laws.{field_copied}
+use borrow.Author.Rules.{rules}
+use Rattle.wire.proofs.u32_at.Goals as goal
+
+pub four_in-requires : goal.four_in-requires
+four_in-requires c = leb-true (c.args.at + 4) (length c.args.b.now) (sym c.has.ensures ∙ c.if-has.true)
+
+pub returns : goal.returns
+returns c = c.four_in-2.ensures ∙ (ap (λ q. field q 0 4) c.eight_at-p.ensures ∙ field_copied c.args.b.now c.args.at 8 4 (omega arith))

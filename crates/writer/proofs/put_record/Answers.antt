@@ -1,0 +1,9 @@
+-- Number, length and body, stored one behind the other, are the record's bytes (record_put).
+-- Assumes nothing.
+use mathlib.Core.Path.{ap, ◌∙◌}
+use Rattle.writer.proofs.Laws.{record_put}
+use borrow.Author.Rules.{rules}
+use Rattle.writer.proofs.put_record.Goals as goal
+
+pub returns : goal.returns
+returns c = rw (c.put_at.ensures, c.put_le-2.ensures, c.put_le.ensures) (record_put c.args.memory.now c.args.body.now c.args.at c.args.number)
