@@ -219,12 +219,16 @@ module _ (S : Store) (E F : Engine) (R : E.Book → F.Book → Type 0) (L : Stor
   pub run_close : {r : State S E} {q : State S F} (bs cs : List Rec) → Meant E F R bs cs → Every Bounded bs → Every Bounded cs → Close S E F R r q → Close S E F R (run S E bs r) (run S F cs q)
   unfolding run
   run_close [] [] none hb hc d = d
-  run_close (x ∷ bs) (y ∷ cs) (more n {b = b} {c = c} m ms) hb hc d = run_close bs cs ms hb.1 hc.1 (after_close n b c hb.0 hc.0 m d)
+  run_close [] (y ∷ cs) m hb hc d = elim m [ ]
+  run_close (x ∷ bs) [] m hb hc d = elim m [ ]
+  run_close {r = r} {q = q} (x ∷ bs) (y ∷ cs) (more n {b = b} {c = c} m ms) hb hc d = run_close {r = after S E (rec n b) r} {q = after S F (rec n c) q} bs cs ms hb.1 hc.1 (after_close n b c hb.0 hc.0 m d)
 
   pub said_close : {r : State S E} {q : State S F} (bs cs : List Rec) → Meant E F R bs cs → Every Bounded bs → Every Bounded cs → Close S E F R r q → SaidAlike (said S E bs r) (said S F cs q)
   unfolding said
   said_close [] [] none hb hc d = none_said
-  said_close (x ∷ bs) (y ∷ cs) (more n {b = b} {c = c} m ms) hb hc d = more_said n (judged_close S E F R n b c d) (said_close bs cs ms hb.1 hc.1 (after_close n b c hb.0 hc.0 m d))
+  said_close [] (y ∷ cs) m hb hc d = elim m [ ]
+  said_close (x ∷ bs) [] m hb hc d = elim m [ ]
+  said_close {r = r} {q = q} (x ∷ bs) (y ∷ cs) (more n {b = b} {c = c} m ms) hb hc d = more_said n (judged_close S E F R n b c d) (said_close {r = after S E (rec n b) r} {q = after S F (rec n c) q} bs cs ms hb.1 hc.1 (after_close n b c hb.0 hc.0 m d))
 
   pub counts_close : {r : State S E} {q : State S F} (bs cs : List Rec) → Meant E F R bs cs → Every Bounded bs → Every Bounded cs → Close S E F R r q → CountsAlike (counts_of (said S E bs r)) (counts_of (said S F cs q))
   counts_close bs cs m hb hc d = counts_alike (said_close bs cs m hb hc d)

@@ -142,6 +142,7 @@ module _ (S : Store) (E : Engine) (L : Laws S E) where
 
     answered_e_kept : (n : ℕ) (a : Base S E) (es : List (Event S E)) (r : State S E) → 1 ≤ n → Fair S E ms es r → Ready S E ms a.at a.of r → AnsweredE S E n es r → Lasts S E n (run_e S E es r)
     unfolding run_e after_e Follows
+    answered_e_kept n a es r p end y x = elim x [ ]
     answered_e_kept n a es r p (copy {c = c} {es = fs} h t) y (here e w) =
         run_e_kept n fs (after S E c r) p t
         (subst (λ (m : ℕ). Lasts S E m (after S E c r)) e (here_kept S E L c r y.follows.1.ok_shelf (copy_fits S E L ms wf c h) w))

@@ -4,12 +4,12 @@
 use Prim.Native.Nat.{ℕ, zero, suc, ◌+◌, ◌%◌, ◌≤◌, ◌<◌}
 use mathlib.Core.Path.{◌≡◌, refl, sym, ap, subst, ◌∙◌}
 use mathlib.Core.Logic.{◌≢◌, ◌⊎◌, inl, inr}
-use mathlib.Core.List.{List, ◌∷◌}
+use mathlib.Core.List.{List, [], ◌∷◌}
 use native.Mathlib.Omega.{arith}
 use Rattle.wire.specs.Records.{Rec}
 use Rattle.arbitration.specs.Slots.{Slot, empty_slot, slot_for, Fits}
 use Rattle.arbitration.specs.Engine.{Engine, Store, Laws}
-use Rattle.arbitration.specs.Receive.{Answer, taken, old, repeated, Try, nothing, stuck, goes, State, slot_of, try, turned, drain, shelved, judged, after, run, said}
+use Rattle.arbitration.specs.Receive.{Answer, taken, old, too_far, repeated, differing, Try, nothing, stuck, goes, State, slot_of, try, turned, drain, shelved, judged, after, run, said}
 use Rattle.arbitration.specs.Lists.{Every, Arrived, by_taken, by_old, by_repeated, here, later, Answered}
 use Rattle.arbitration.proofs.Window.{slot_lt, slot_wrap}
 use Rattle.arbitration.proofs.SlotLaws.{empty_fits, same_number, put_at}
@@ -134,6 +134,8 @@ module _ (S : Store) (E : Engine) (L : Laws S E) where
       go : (a : Answer) → judged S E c r ≡ a → Arrived a → Lasts S E c.number (after S E c r)
       go taken e by_taken = taken_lasts (λ s. s.number ≡ c.number) c r (λ s q. q) fit o e refl
       go old e by_old = rw (after_of S E c r old e) (o, inl (shows r.next (slot_of S E r c.number) c old e))
+      go too_far e x = elim x [ ]
+      go differing e x = elim x [ ]
       go repeated e by_repeated = rw (after_of S E c r repeated e) (o, inr (same_number _ _ (shows r.next (slot_of S E r c.number) c repeated e).2))
 
   -- ---- a run of records that fit their slots, whatever their bodies say
@@ -145,6 +147,7 @@ module _ (S : Store) (E : Engine) (L : Laws S E) where
 
   pub answered_kept : (n : ℕ) (cs : List Rec) (r : State S E) → 1 ≤ n → Every Fitting cs → S.Ok r.shelf → Answered S E n cs r → Lasts S E n (run S E cs r)
   unfolding run said Lasts Held
+  answered_kept n [] r p h o x = elim x [ ]
   answered_kept n (c ∷ cs) r p h o (here e w) =
       run_lasts (λ s. s.number ≡ n) n (λ s q. q) cs (after S E c r) p h.1
       (subst (λ (m : ℕ). Lasts S E m (after S E c r)) e (here_kept c r o h.0 w))

@@ -13,9 +13,6 @@ all_entries-requires c = let a = c.args in sizes_good a.orders.now a.symbols.now
 pub returns : goal.returns
 unfolding sheet_of lines_of
 returns c =
-    let summed = c.before in
-    let first = summed.before.before.before.before in
-    let start = first.before.before.before.before.before.before in
-    let a = start.args in
-    let e = sizes_lines a.orders.now a.symbols.now _ a.sizes start.requires in
-    (lines_then _ _ first.head.ensures.0 (lines_then _ _ (wrote_as e summed.table-lines.ensures.0) c.all_entries.ensures), first.head.ensures.1, summed.table-lines.ensures.1)
+    let a = c.args in
+    let e = sizes_lines a.orders.now a.symbols.now _ a.sizes c.requires in
+    (lines_then _ _ c.head-o.ensures.0 (lines_then _ _ (wrote_as e c.table_lines-p.ensures.0) c.all_entries.ensures), c.head-o.ensures.1, c.table_lines-p.ensures.1)

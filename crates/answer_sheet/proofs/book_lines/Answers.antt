@@ -27,12 +27,9 @@ side_lines-requires c = (search rules, refl)
 pub returns : goal.returns
 unfolding book_lines line_text plain
 returns c =
-    let bids = c.before in
-    let top = bids.before.before.before.before.before in
-    let start = top.before.before.before.before.before.before in
-    let a = start.args in
+    let a = c.args in
     let rs = rows a.orders.now in
-    let e = top.before.spread.ensures ∙ sym (spread_shown a.id a.orders.now a.symbols.now start.requires) in
+    let e = c.spread.ensures ∙ sym (spread_shown a.id a.orders.now a.symbols.now c.requires) in
     lines_first (plain spread_key (spread_word (spread_of a.id rs))) (side_lines Side.Buy a.id rs ++ side_lines Side.Sell a.id rs)
-    (wrote_as (ap (λ (x : SpreadAnswer). line_of spread_key (spread_word x)) e) top.Spread-Line.ensures)
-    (lines_then (side_lines Side.Buy a.id rs) (side_lines Side.Sell a.id rs) bids.side-lines.ensures c.side_lines.ensures)
+    (wrote_as (ap (λ (x : SpreadAnswer). line_of spread_key (spread_word x)) e) c.spread_line-o.ensures)
+    (lines_then (side_lines Side.Buy a.id rs) (side_lines Side.Sell a.id rs) c.side_lines-p.ensures c.side_lines.ensures)

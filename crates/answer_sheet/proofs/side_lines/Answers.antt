@@ -8,14 +8,10 @@ use Rattle.answer_sheet.proofs.side_lines.Goals as goal
 
 pub levels-requires : goal.levels-requires
 levels-requires c =
-    let laid = c.before in
-    let start = laid.before.before.before.before.before.before in
-    let a = start.args in
-    run_fits a.side a.id a.orders.now a.symbols.now _ start.requires.0 _ _ laid.ladder.ensures _ refl c.levels_shown.ensures
+    let a = c.args in
+    run_fits a.side a.id a.orders.now a.symbols.now _ c.requires.0 _ _ c.ladder-a.ensures _ refl c.levels_shown.ensures
 
 pub returns : goal.returns
 returns c =
-    let laid = c.before in
-    let start = laid.before.before.before.before.before.before in
-    let a = start.args in
-    wrote_as (ladder_lines a.side a.id a.orders.now a.symbols.now _ start.requires.0 _ _ laid.ladder.ensures a.key.now start.requires.1 _ refl c.levels_shown.ensures) c.levels.ensures
+    let a = c.args in
+    wrote_as (ladder_lines a.side a.id a.orders.now a.symbols.now _ c.requires.0 _ _ c.ladder-a.ensures a.key.now c.requires.1 _ refl c.levels_shown.ensures) c.levels.ensures

@@ -12,6 +12,7 @@ use lib.ListN.{length, drop}
 use Rattle.wire.specs.Le.{field}
 use Rattle.retype.specs.Retyped.{asked}
 use Rattle.conversion.proofs.rewrite.Goals as goal
+use Rattle.conversion.proofs.rewrite.Goals.{then-retype_body, else-retype_body}
 
 pub loop-at-init : goal.loop-at-init
 loop-at-init c = (omega arith, omega arith, omega arith, walk_none (asked c.args.to c.args.all c.args.others.now) c.args.p.now, count_none c.args.p.now)
@@ -37,7 +38,7 @@ loop-at-preserved c =
     let m_is : m ≡ n = omega arith in
     let f : at + 10 + n ≤ length p = omega (arith, i) in
     let size = walk_size a p₀ p s at n m u w n_is m_is f c.retype_body.ensures in
-    let k = count_turn p₀ at n c.loop-at.updates c.if-retype_body.updates u (omega arith) c.loop-at.invariant.4 n_was (update_is a p₀ p s at n m u w n_is m_is f c.retype_body.ensures) (⊎_elim (λ y. inl (y.0.taken, y.1)) (λ y. inr (y.0.left, y.1)) c.if-retype_body.branch) in
+    let k = count_turn p₀ at n c.loop-at.updates c.if-retype_body.updates u (omega arith) c.loop-at.invariant.4 n_was (update_is a p₀ p s at n m u w n_is m_is f c.retype_body.ensures) (elim c.if-retype_body.branch [ then-retype_body y ↦ inl (y.if-retype_body.true, y.updates-is) | else-retype_body y ↦ inr (y.if-retype_body.false, y.updates-is) ]) in
     (omega (arith, i, size), size ∙ c.loop-at.invariant.1, omega (arith, k.1), walk_more a p₀ p s at n m u w n_is m_is f c.retype_body.ensures, k.0)
 
 pub returns : goal.returns

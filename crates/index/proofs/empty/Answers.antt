@@ -12,10 +12,11 @@ use borrow.Author.Rules.{rules}
 use Rattle.index.specs.Index.{front, zeroed}
 use Rattle.index.proofs.Cases.{front_is, zeroed_none, zeroed_more, zeroed_end}
 use Rattle.index.proofs.empty.Goals as goal
+use Rattle.index.proofs.empty.Goals.{then-all-ge-HINTS, else-all-ge-HINTS}
 
 pub loop-i-init : goal.loop-i-init
 loop-i-init c =
-    let z = zeroed_end c.args.ix.now c.if-all-ge-HINTS.end (⊎_elim (λ w. inl (w.0.taken, w.1)) (λ w. inr (w.0.left, w.1)) c.if-all-ge-HINTS.branch) in
+    let z = zeroed_end c.args.ix.now c.if-all-ge-HINTS.end (elim c.if-all-ge-HINTS.branch [ then-all-ge-HINTS w ↦ inl (w.if-all-ge-HINTS.true, w.end-is) | else-all-ge-HINTS w ↦ inr (w.if-all-ge-HINTS.false, w.end-is) ]) in
     (omega arith, z.0, refl, sym (zeroed_none c.args.ix.now), z.1)
 
 pub overflow_add-i : goal.overflow_add-i

@@ -13,7 +13,7 @@ use Rattle.index.proofs.Cases.{hash_below, look_start, look_stop, look_hit, look
 use Rattle.index.proofs.find.Goals as goal
 
 pub loop-n-init : goal.loop-n-init
-loop-n-init c = (omega arith, omega (arith, c.start_of_lem.ensures, hash_below c.args.id), look_start c.args.ix.now (rows c.args.t.now) c.args.id _ c.start_of_lem.ensures)
+loop-n-init c = (omega arith, omega (arith, c.start_of-p.ensures, hash_below c.args.id), look_start c.args.ix.now (rows c.args.t.now) c.args.id _ c.start_of-p.ensures)
 
 pub returns-then-s-eq0 : goal.returns-then-s-eq0
 returns-then-s-eq0 c =

@@ -10,7 +10,7 @@ use Rattle.index.proofs.Cases.{hash_below, vacant_start, vacant_stop, vacant_on,
 use Rattle.index.proofs.find_vacant.Goals as goal
 
 pub loop-n-init : goal.loop-n-init
-loop-n-init c = (omega arith, omega (arith, c.start_of_lem.ensures, hash_below c.args.id), vacant_start c.args.ix.now c.args.id _ c.start_of_lem.ensures)
+loop-n-init c = (omega arith, omega (arith, c.start_of-p.ensures, hash_below c.args.id), vacant_start c.args.ix.now c.args.id _ c.start_of-p.ensures)
 
 pub returns-then-word-eq0 : goal.returns-then-word-eq0
 returns-then-word-eq0 c =

@@ -23,10 +23,10 @@ pub loop-i-preserved : goal.loop-i-preserved
 loop-i-preserved c =
     let r : Rx = (rx c.loop-i.at.next c.loop-i.at.clock c.loop-i.orders c.loop-i.symbols c.loop-i.shelf c.loop-i.index) in
     let next : c.turn-t.result.at.next ≤ c.loop-i.at.next + 1 = omega (arith, ap (λ (x : Rx). x.next) c.turn-t.ensures.0, (turn_next shelf_store (ledger_engine c.args.e) r).1) in (
-      c.turn-t.auto.symbols ∙ c.loop-i.invariant.0,
-      c.turn-t.auto.shelf ∙ c.loop-i.invariant.1,
-      c.turn-t.auto.index ∙ c.loop-i.invariant.2,
-      c.turn-t.auto.1.1.1.1.0 ∙ c.loop-i.invariant.3,
+      c.turn-t.auto.orders ∙ c.loop-i.invariant.0,
+      c.turn-t.auto.symbols ∙ c.loop-i.invariant.1,
+      c.turn-t.auto.shelf ∙ c.loop-i.invariant.2,
+      c.turn-t.auto.index ∙ c.loop-i.invariant.3,
       omega arith,
       omega arith,
       loop_step shelf_store (ledger_engine c.args.e) c.args.turns c.loop-i.i r _ _ c.loop-i-test.true c.loop-i.invariant.6 c.turn-t.ensures.0 (sym c.turn-t.ensures.1 ∙ not-false c.turn-t.result.on c.if-not-t.false),

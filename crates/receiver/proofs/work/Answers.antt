@@ -35,10 +35,10 @@ loop-at-smaller c = omega (arith, next_inside c.args.e c.args.p.now c.loop-at.at
 pub loop-at-preserved : goal.loop-at-preserved
 loop-at-preserved c =
     let b = worked_bounds shelf_store (ledger_engine c.args.e) _ (working_of c.args.e c.loop-at.w.at c.loop-at.w.counts c.loop-at.orders c.loop-at.symbols c.loop-at.shelf c.loop-at.index) _ (c.offer-w.ensures ∙ ap (λ (x : Rec). working shelf_store (ledger_engine c.args.e) x (working_of c.args.e c.loop-at.w.at c.loop-at.w.counts c.loop-at.orders c.loop-at.symbols c.loop-at.shelf c.loop-at.index)) (same_record c.args.p.now c.loop-at.at c.head_at-h.result _ c.head_at-h.ensures c.body_at.ensures)) in (
-      c.offer-w.auto.symbols ∙ c.loop-at.invariant.0,
-      c.offer-w.auto.shelf ∙ c.loop-at.invariant.1,
-      c.offer-w.auto.index ∙ c.loop-at.invariant.2,
-      c.offer-w.auto.1.1.1.1.0 ∙ c.loop-at.invariant.3,
+      c.offer-w.auto.orders ∙ c.loop-at.invariant.0,
+      c.offer-w.auto.symbols ∙ c.loop-at.invariant.1,
+      c.offer-w.auto.shelf ∙ c.loop-at.invariant.2,
+      c.offer-w.auto.index ∙ c.loop-at.invariant.3,
       next_inside c.args.e c.args.p.now c.loop-at.at c.head_at-h.result.len c.loop-at-test.true (ap (λ (h : Head). h.len) c.head_at-h.ensures) c.loop-at.invariant.7,
       omega (arith, b.0),
       omega (arith, b.1),

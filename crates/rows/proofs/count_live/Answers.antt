@@ -12,6 +12,7 @@ use Rattle.rows.specs.Rows.{rows, row_count, zero_row, live}
 use Rattle.rows.specs.Find.{count_live}
 use Rattle.rows.proofs.Walks.{count_yes, count_no, count_past}
 use Rattle.rows.proofs.count_live.Goals as goal
+use Rattle.rows.proofs.count_live.Goals.{then-is_live, else-is_live}
 
 pub loop-i-init : goal.loop-i-init
 unfolding count_live
@@ -33,16 +34,16 @@ pub loop-i-preserved : goal.loop-i-preserved
 loop-i-preserved c =
     let a = c.args in
     let l = c.loop-i in
-    ⊎_elim
-    (λ w.
-    let e : live (get_or (rows a.t.now) l.i zero_row) ≡ true = cc w.0.taken in
+    elim c.if-is_live.branch [
+    then-is_live w ↦
+    let e : live (get_or (rows a.t.now) l.i zero_row) ≡ true = cc w.if-is_live.true in
     let n = count_yes live a.t.now l.i (omega arith) e in
-    (omega arith, omega arith, omega arith, omega (arith, l.invariant.3)))
-    (λ w.
-    let e : live (get_or (rows a.t.now) l.i zero_row) ≡ false = cc w.0.left in
+    (omega arith, omega arith, omega arith, omega (arith, l.invariant.3))
+    | else-is_live w ↦
+    let e : live (get_or (rows a.t.now) l.i zero_row) ≡ false = cc w.if-is_live.false in
     let n = count_no live a.t.now l.i (omega arith) e in
-    (omega arith, omega arith, omega arith, omega (arith, l.invariant.3)))
-    c.if-is_live.branch
+    (omega arith, omega arith, omega arith, omega (arith, l.invariant.3))
+    ]
 
 pub returns : goal.returns
 returns c =

@@ -14,4 +14,4 @@ returns c =
     let a = c.args in
     let w = c.wipe in
     let h = c.if-s-i.false in
-    part_put a.s.now a.i empty_slot w.new.0 h (empty_part a.s.now a.i w.new.0 h w.ensures) refl
+    part_put a.s.now a.i empty_slot w.new.t h (empty_part a.s.now a.i w.new.t h w.ensures) refl

@@ -13,4 +13,4 @@ pub returns : goal.returns
 returns c =
     let a = c.args in
     let f = c.fill in
-    part_put a.s.now a.i (slot_for a.number a.body.now) f.new.0 c.if-s-i.false f.ensures (length_padded a.body.now 0 64)
+    part_put a.s.now a.i (slot_for a.number a.body.now) f.new.x c.if-s-i.false f.ensures (length_padded a.body.now 0 64)

@@ -13,6 +13,7 @@ use Rattle.facts.proofs.CountLaws.{count_yes, count_no, count_end}
 use Rattle.symbols.specs.Entries.{entries, used}
 use Rattle.symbols.specs.Find.{count_used}
 use Rattle.symbols.proofs.count_used.Goals as goal
+use Rattle.symbols.proofs.count_used.Goals.{then-is_used, else-is_used}
 
 pub loop-i-init : goal.loop-i-init
 unfolding count_used
@@ -34,16 +35,16 @@ pub loop-i-preserved : goal.loop-i-preserved
 loop-i-preserved c =
     let es = entries c.args.t.now in
     let l = c.loop-i in
-    ⊎_elim
-    (λ w.
-    let e : used (get_or es l.i []) ≡ true = cc w.0.taken in
+    elim c.if-is_used.branch [
+    then-is_used w ↦
+    let e : used (get_or es l.i []) ≡ true = cc w.if-is_used.true in
     let n = count_yes used es l.i [] (omega arith) e in
-    (omega arith, l.invariant.1, omega arith, omega (arith, l.invariant.3)))
-    (λ w.
-    let e : used (get_or es l.i []) ≡ false = cc w.0.left in
+    (omega arith, l.invariant.1, omega arith, omega (arith, l.invariant.3))
+    | else-is_used w ↦
+    let e : used (get_or es l.i []) ≡ false = cc w.if-is_used.false in
     let n = count_no used es l.i [] (omega arith) e in
-    (omega arith, l.invariant.1, omega arith, omega (arith, l.invariant.3)))
-    c.if-is_used.branch
+    (omega arith, l.invariant.1, omega arith, omega (arith, l.invariant.3))
+    ]
 
 pub returns : goal.returns
 returns c =

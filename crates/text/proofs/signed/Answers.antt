@@ -7,11 +7,9 @@ use Rattle.text.proofs.signed.Goals as goal
 
 pub returns-then-n-lt0 : goal.returns-then-n-lt0
 returns-then-n-lt0 c =
-    let d = c.before in
-    wrote_as (shows_neg _ _ d.before.before.before.ranges.n d.before.magnitude.ensures d.if1.true)
+    wrote_as (shows_neg _ _ c.ranges.n c.magnitude-m.ensures c.if-n-lt0.true)
     (wrote_then c.byte-o.ensures c.decimal.ensures)
 
 pub returns : goal.returns
 returns c =
-    let d = c.before in
-    wrote_as (shows_pos _ _ d.before.before.before.ranges.n d.before.magnitude.ensures d.if1.false) c.decimal-2.ensures
+    wrote_as (shows_pos _ _ c.ranges.n c.magnitude-m.ensures c.if-n-lt0.false) c.decimal-2.ensures

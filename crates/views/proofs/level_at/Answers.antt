@@ -15,6 +15,7 @@ use Rattle.rows.proofs.Walks.{sum_row, sum_past, count_yes, count_no, count_past
 use Rattle.views.specs.Ladder.{at_price, size_at, level_of}
 use Rattle.views.proofs.Laws.{shares_fit, orders_fit}
 use Rattle.views.proofs.level_at.Goals as goal
+use Rattle.views.proofs.level_at.Goals.{then-at_price, else-at_price}
 
 pub loop-i-init : goal.loop-i-init
 loop-i-init c = (omega arith, omega arith, omega arith, omega arith)
@@ -50,16 +51,16 @@ loop-i-preserved c =
     let r = get_or (rows a.t.now) l.i zero_row in
     let z : c.row_at-r.result.size ≡ r.size = ap (λ (r : Row). r.size) c.row_at-r.ensures in
     let s = sum_row (size_at a.key a.price) a.t.now l.i (omega arith) in
-    ⊎_elim
-    (λ w.
-    let y : p r ≡ true = ap p (sym c.row_at-r.ensures) ∙ (sym c.at_price.ensures ∙ w.0.taken) in
+    elim c.if-at_price.branch [
+    then-at_price w ↦
+    let y : p r ≡ true = ap p (sym c.row_at-r.ensures) ∙ (sym c.at_price.ensures ∙ w.if-at_price.true) in
     let o = only_yes p (λ r. r.size) r y in
-    (omega arith, omega arith, omega (arith, l.invariant.2), omega (arith, l.invariant.3, count_yes p a.t.now l.i (omega arith) y)))
-    (λ w.
-    let y : p r ≡ false = ap p (sym c.row_at-r.ensures) ∙ (sym c.at_price.ensures ∙ w.0.left) in
+    (omega arith, omega arith, omega (arith, l.invariant.2), omega (arith, l.invariant.3, count_yes p a.t.now l.i (omega arith) y))
+    | else-at_price w ↦
+    let y : p r ≡ false = ap p (sym c.row_at-r.ensures) ∙ (sym c.at_price.ensures ∙ w.if-at_price.false) in
     let o = only_no p (λ r. r.size) r y in
-    (omega arith, omega arith, omega (arith, l.invariant.2), omega (arith, l.invariant.3, count_no p a.t.now l.i (omega arith) y)))
-    c.if-at_price.branch
+    (omega arith, omega arith, omega (arith, l.invariant.2), omega (arith, l.invariant.3, count_no p a.t.now l.i (omega arith) y))
+    ]
 
 pub returns : goal.returns
 unfolding level_of
