@@ -23,6 +23,13 @@ use Rattle.book.proofs.Theorems.{row_live, add_entered, modify_done, modify_live
 
 module _ (ed : Edition) (n : ℕ) (b : List ℕ) (k : Book) (ranked : 1 ≤ n) (bytes : Bytes b) where
   sane_by : (m : Body) (s : ℕ) → Names m s → read_body ed b ≡ m → (applied ed n b k).rule ≡ 0 → (j : ℕ) → Sane (row k.orders j) → Sane (row (applied ed n b k).after.orders j)
+  sane_by (Body.SystemTime _) s x e z j h = elim x [ ]
+  sane_by Body.SymbolUpdate s x e z j h = elim x [ ]
+  sane_by Body.SystemState s x e z j h = elim x [ ]
+  sane_by (Body.TradingStatus _) s x e z j h = elim x [ ]
+  sane_by (Body.Trade _) s x e z j h = elim x [ ]
+  sane_by (Body.TradeCancel _) s x e z j h = elim x [ ]
+  sane_by (Body.Bad _) s x e z j h = elim x [ ]
   sane_by (Body.SymbolClear m) s x e z j h = subst (λ t. Sane (row t j)) (sym (clear_done ed m n b k e z)) (clear_sane k.orders j h m.symbol)
   sane_by (Body.Add m) s x e z j h = add_sane k.orders j h (row_for m n) (applied ed n b k).after.orders (add_entered ed m n b k e z) (row_live ed m n b bytes ranked (rw e at (read_sound ed b)))
   sane_by (Body.Modify m) s x e z j h =

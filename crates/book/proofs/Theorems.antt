@@ -276,6 +276,13 @@ module _ (ed : Edition) (n : ℕ) (b : List ℕ) (k : Book) where
 
   -- ---- live order IDs stay unique
   unique_by : (m : Body) (s : ℕ) → Names m s → read_body ed b ≡ m → (applied ed n b k).rule ≡ 0 → Unique (rows k.orders) → Unique (rows (applied ed n b k).after.orders)
+  unique_by (Body.SystemTime _) s h e z v = elim h [ ]
+  unique_by Body.SymbolUpdate s h e z v = elim h [ ]
+  unique_by Body.SystemState s h e z v = elim h [ ]
+  unique_by (Body.TradingStatus _) s h e z v = elim h [ ]
+  unique_by (Body.Trade _) s h e z v = elim h [ ]
+  unique_by (Body.TradeCancel _) s h e z v = elim h [ ]
+  unique_by (Body.Bad _) s h e z v = elim h [ ]
   unique_by (Body.SymbolClear m) s h e z v = rw (clear_done ed m n b k e z) (clear_unique k.orders v m.symbol)
   unique_by (Body.Add m) s h e z v = add_unique k.orders v (row_for m n) (applied ed n b k).after.orders (add_entered ed m n b k e z)
   unique_by (Body.Modify m) s h e z v = modify_unique k.orders v m.order m.symbol m.price m.size (moves m.flags) n (applied ed n b k).after.orders (modify_done ed m n b k e z)

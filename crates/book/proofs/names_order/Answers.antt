@@ -4,6 +4,7 @@ use mathlib.Core.Path.{sym, ap}
 use Rattle.book.specs.Ledger.{names_order}
 use Rattle.book.proofs.Rest.{rest_unnamed}
 use borrow.Author.Rules.{rules}
+use borrow.Enum.Refused.{opened}
 use Rattle.book.proofs.names_order.Goals as goal
 
 pub returns-in-Add : goal.returns-in-Add
@@ -23,4 +24,4 @@ unfolding names_order
 returns-in-Execution c = ap names_order (sym c.in-Execution.is)
 
 pub returns-in_default : goal.returns-in_default
-returns-in_default c = rest_unnamed c.args.k c.in_default.in_default-own.keys5
+returns-in_default c = rest_unnamed c.args.k (opened c.in_default.in_default-own.keys5)

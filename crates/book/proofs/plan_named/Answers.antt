@@ -12,6 +12,7 @@ use Rattle.book.specs.Ledger.{order_for, looks, ledger}
 use Rattle.book.proofs.Laws.{kind_plan}
 use Rattle.book.proofs.Rest.{rest_execution}
 use borrow.Author.Rules.{rules}
+use borrow.Enum.Refused.{opened}
 use Rattle.book.proofs.plan_named.Goals as goal
 
 pub returns-in-Add : goal.returns-in-Add
@@ -28,4 +29,4 @@ returns-in-Delete c = c.delete_plan.ensures ∙ (λ i. delete_plan c.args.clock 
 
 pub returns-in_default : goal.returns-in_default
 unfolding plan_by decoded
-returns-in_default c = c.execution_plan.ensures ∙ (λ i. execution_plan c.args.clock (c.execution_of.ensures i) ((c.find_entry-entry.ensures ∙ ap (λ (s : ℕ). entry_by c.args.index.now s (entries c.args.symbols.now)) c.u32_at.ensures) i) ((c.order_in-order.ensures ∙ ap (λ (o : ℕ). order_for c.args.index.now o c.args.orders.now) c.u64_at.ensures) i)) ∙ kind_plan c.args.k _ c.args.number c.args.body.now c.args.clock (looks (ledger (book c.args.orders.now c.args.symbols.now c.args.clock) c.args.index.now)) (rest_execution c.args.k c.requires c.in_default.in_default-own.keys4)
+returns-in_default c = c.execution_plan.ensures ∙ (λ i. execution_plan c.args.clock (c.execution_of.ensures i) ((c.find_entry-entry.ensures ∙ ap (λ (s : ℕ). entry_by c.args.index.now s (entries c.args.symbols.now)) c.u32_at.ensures) i) ((c.order_in-order.ensures ∙ ap (λ (o : ℕ). order_for c.args.index.now o c.args.orders.now) c.u64_at.ensures) i)) ∙ kind_plan c.args.k _ c.args.number c.args.body.now c.args.clock (looks (ledger (book c.args.orders.now c.args.symbols.now c.args.clock) c.args.index.now)) (rest_execution c.args.k c.requires (opened c.in_default.in_default-own.keys4))

@@ -12,6 +12,7 @@ use Rattle.book.specs.Ledger.{looks, ledger}
 use Rattle.book.proofs.Laws.{kind_plan}
 use Rattle.book.proofs.Rest.{rest_idle}
 use borrow.Author.Rules.{rules}
+use borrow.Enum.Refused.{opened}
 use Rattle.book.proofs.plan_other.Goals as goal
 
 pub returns-in-SystemTime : goal.returns-in-SystemTime
@@ -31,4 +32,4 @@ unfolding plan_by decoded
 returns-in-Unknown c = λ o n. kind_plan c.args.k _ n c.args.body.now c.args.clock (looks (ledger (book o c.args.symbols.now c.args.clock) c.args.index.now)) c.in-Unknown.is
 
 pub returns-in_default : goal.returns-in_default
-returns-in_default c = λ o n. c.at_rest-in_default.ensures ∙ rest_idle c.args.k n c.args.body.now c.args.clock (looks (ledger (book o c.args.symbols.now c.args.clock) c.args.index.now)) c.requires c.in_default.in_default-own.keys5
+returns-in_default c = λ o n. c.at_rest-in_default.ensures ∙ rest_idle c.args.k n c.args.body.now c.args.clock (looks (ledger (book o c.args.symbols.now c.args.clock) c.args.index.now)) c.requires (opened c.in_default.in_default-own.keys5)
