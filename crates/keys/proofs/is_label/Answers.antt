@@ -15,4 +15,4 @@ pub returns : goal.returns
 returns c =
     let w = c.args.w.now in
     let n = c.trimmed-n.result in
-    sym (same_told c.same.result w (take n c.args.t2) c.same.ensures.0 c.same.ensures.1) ∙ ap (same_bytes w) c.trimmed-n.ensures.1
+    sym (same_told c.same.result w (take n c.args.l) c.same.ensures.0 c.same.ensures.1) ∙ ap (same_bytes w) c.trimmed-n.ensures.1

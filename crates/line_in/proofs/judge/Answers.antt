@@ -16,7 +16,7 @@ pub slice_bounds-judge-end : goal.slice_bounds-judge-end
 slice_bounds-judge-end c = rw length-take (omega arith)
 
 pub returns-then-c-ne0 : goal.returns-then-c-ne0
-returns-then-c-ne0 c = judged_wrong c.args.e c.args.n c.args.k c.args.end c.args.t6 c.args.given.now c.args.out.now c.judge-c.result (c.judge-c.ensures ∙ ap (λ (m : ℕ). judged_code (judge_body c.args.e (take m c.args.t6))) c.requires.0) c.out_of_range.result c.out_of_range.ensures c.if-c-ne0.true
+returns-then-c-ne0 c = judged_wrong c.args.e c.args.n c.args.k c.args.end c.args.body c.args.given.now c.args.out.now c.judge-c.result (c.judge-c.ensures ∙ ap (λ (m : ℕ). judged_code (judge_body c.args.e (take m c.args.body))) c.requires.0) c.out_of_range.result c.out_of_range.ensures c.if-c-ne0.true
 
 pub returns : goal.returns
-returns c = ap (λ (m : ℕ). reading (Line.Record c.args.n m) c.args.t6) c.requires.0 ∙ judged_well c.args.e c.args.n c.args.k c.args.end c.args.t6 c.args.given.now c.args.out.now c.judge-c.result (c.judge-c.ensures ∙ ap (λ (m : ℕ). judged_code (judge_body c.args.e (take m c.args.t6))) c.requires.0) c.if-c-ne0.false
+returns c = ap (λ (m : ℕ). reading (Line.Record c.args.n m) c.args.body) c.requires.0 ∙ judged_well c.args.e c.args.n c.args.k c.args.end c.args.body c.args.given.now c.args.out.now c.judge-c.result (c.judge-c.ensures ∙ ap (λ (m : ℕ). judged_code (judge_body c.args.e (take m c.args.body))) c.requires.0) c.if-c-ne0.false

@@ -10,16 +10,16 @@ use Rattle.numbers.proofs.judged.Goals as goal
 
 pub slice_bounds-bytes-end : goal.slice_bounds-bytes-end
 slice_bounds-bytes-end c =
-    let whole : length c.args.t2 ≡ 42 = search rules in
-    omega (arith, c.length_of-len.ensures, length_most (get_or c.args.t2 0 0))
+    let whole : length c.args.bytes ≡ 42 = search rules in
+    omega (arith, c.length_of-len.ensures, length_most (get_or c.args.bytes 0 0))
 
 pub slice_bounds-judge-end : goal.slice_bounds-judge-end
 slice_bounds-judge-end c =
-    let whole : length c.args.t2 ≡ 42 = search rules in
-    sym (length-take-le _ c.args.t2 (omega (arith, c.length_of-len.ensures, length_most (get_or c.args.t2 0 0))))
+    let whole : length c.args.bytes ≡ 42 = search rules in
+    sym (length-take-le _ c.args.bytes (omega (arith, c.length_of-len.ensures, length_most (get_or c.args.bytes 0 0))))
 
 pub returns-then-c-ne0 : goal.returns-then-c-ne0
-returns-then-c-ne0 c = held_refused c.args.e c.args.t2 _ c.length_of-len.ensures _ c.judge-c.ensures c.if-c-ne0.true c.refused.ensures
+returns-then-c-ne0 c = held_refused c.args.e c.args.bytes _ c.length_of-len.ensures _ c.judge-c.ensures c.if-c-ne0.true c.refused.ensures
 
 pub returns : goal.returns
-returns c = held_good c.args.e c.args.t2 _ c.length_of-len.ensures _ c.judge-c.ensures c.if-c-ne0.false
+returns c = held_good c.args.e c.args.bytes _ c.length_of-len.ensures _ c.judge-c.ensures c.if-c-ne0.false
