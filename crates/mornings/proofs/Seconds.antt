@@ -218,13 +218,13 @@ module _ (f : List ℕ → List ℕ) (short : StaysShort f) (S : Store) (E F : E
     pub run_to : {r : State S E} {q : State S F} (cs : List Rec) → Meant E F R cs (recs_by f cs) → Every Numbered cs → Every Bounded cs → Firm f S E F R r q → Firm f S E F R (run S E cs r) (run S F (recs_by f cs) q)
     unfolding run
     run_to [] m v w d = d
-    run_to (c ∷ cs) m v w d = run_to cs (meant_rest E F R m) v.1 w.1 (after_to c v.0 w.0 (meant_first E F R m) d)
+    run_to {r = r} {q = q} (c ∷ cs) m v w d = run_to {r = after S E c r} {q = after S F (rec_by f c) q} cs (meant_rest E F R m) v.1 w.1 (after_to c v.0 w.0 (meant_first E F R m) d)
 
     -- every answer
     pub said_to : {r : State S E} {q : State S F} (cs : List Rec) → Meant E F R cs (recs_by f cs) → Every Numbered cs → Every Bounded cs → Firm f S E F R r q → SaidTo f S E r cs (said S E cs r) (said S F (recs_by f cs) q)
     unfolding said
     said_to {r} [] m v w d = nothing_said r
-    said_to {r} {q} (c ∷ cs) m v w d = said_next r c (judged_to c w.0.short d) (said_to cs (meant_rest E F R m) v.1 w.1 (after_to c v.0 w.0 (meant_first E F R m) d))
+    said_to {r} {q} (c ∷ cs) m v w d = said_next r c (judged_to c w.0.short d) (said_to {r = after S E c r} {q = after S F (rec_by f c) q} cs (meant_rest E F R m) v.1 w.1 (after_to c v.0 w.0 (meant_first E F R m) d))
 
     -- and how many got each: a repeat before is one after
     pub said_counts : {r : State S E} {q : State S F} (cs : List Rec) → Meant E F R cs (recs_by f cs) → Every Numbered cs → Every Bounded cs → Firm f S E F R r q → CountsTo (counts_of (said S E cs r)) (counts_of (said S F (recs_by f cs) q))
