@@ -163,5 +163,16 @@ def main(names):
     return 0
 
 
+# Ended from outside, it ends what it started.
+def end_with_signals():
+    for number in (signal.SIGTERM, signal.SIGHUP):
+        if signal.getsignal(number) == signal.SIG_DFL:
+            signal.signal(number, lambda n, _: sys.exit(128 + n))
+
+
 if __name__ == "__main__":
-    sys.exit(main(sys.argv[1:]))
+    end_with_signals()
+    try:
+        sys.exit(main(sys.argv[1:]))
+    except KeyboardInterrupt:
+        sys.exit(130)

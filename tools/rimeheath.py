@@ -12,7 +12,7 @@ import threading
 import time
 
 sys.dont_write_bytecode = True
-from programs import NotBuilt, make_ready, tell  # noqa: E402
+from programs import NotBuilt, end_with_signals, make_ready, tell  # noqa: E402
 
 ROOT = os.path.dirname(os.path.dirname(os.path.realpath(__file__)))
 # The program `sheet` says the same of itself; tools/try-command holds them to each other.
@@ -404,10 +404,7 @@ def main(words):
         put(iter(lambda: held.read(BLOCK), b""))
 
 
-# Ended from outside, it ends what it started.
-for number in (signal.SIGTERM, signal.SIGHUP):
-    if signal.getsignal(number) == signal.SIG_DFL:
-        signal.signal(number, lambda n, _: sys.exit(128 + n))
+end_with_signals()
 try:
     main(sys.argv[1:])
 except KeyboardInterrupt:
