@@ -1,10 +1,8 @@
-# The command ./rimeheath: reads the words, sees that the proved program behind them is built, and feeds it a recording.
+# The command ./rimeheath: reads the words, sees that the proved program behind them is built (programs.py), and feeds it a recording.
 # What is printed of a recording is the proved program's output, byte for byte, and none of it before the recording was read to its end.
 import fcntl
-import hashlib
 import os
 import re
-import shutil
 import signal
 import stat
 import subprocess
@@ -12,6 +10,9 @@ import sys
 import tempfile
 import threading
 import time
+
+sys.dont_write_bytecode = True
+from programs import NotBuilt, end_with_signals, make_ready, tell  # noqa: E402
 
 ROOT = os.path.dirname(os.path.dirname(os.path.realpath(__file__)))
 # The program `sheet` says the same of itself; tools/try-command holds them to each other.
@@ -126,13 +127,6 @@ COMMANDS = {
 }
 
 
-def tell(text):
-    try:
-        os.write(2, text.encode(errors="backslashreplace"))
-    except OSError:
-        pass
-
-
 def fail(text, status=1):
     tell(f"rimeheath: {text}\n")
     sys.exit(status)
@@ -182,127 +176,6 @@ def put(blocks):
         if isinstance(e, OSError):
             fail(f"standard output: {e.strerror}")
         raise
-
-
-# ---- the program behind a command
-
-
-# The crates of this repository that the program is made of, itself last.
-def crates_of(program):
-    needs = {}
-    with open(f"{ROOT}/crates.txt") as f:
-        for line in f:
-            name, colon, rest = line.split("#")[0].partition(":")
-            if colon:
-                needs[name.strip()] = rest.split()
-    reached, todo = set(), [program]
-    while todo:
-        name = todo.pop()
-        if name in needs and name not in reached:
-            reached.add(name)
-            todo += needs[name]
-    return [name for name in needs if name in reached]
-
-
-def sum_of_file(path):
-    with open(path, "rb") as f:
-        return hashlib.sha256(f.read()).hexdigest()
-
-
-# A sum over all that is proved and compiled: contents, so that a file put back with an old time counts too.
-def sum_of_sources(crates):
-    files = [f"{ROOT}/crates.txt"]
-    for crate in crates:
-        for part in ("src", "specs", "proofs"):
-            for folder, _, names in os.walk(f"{ROOT}/crates/{crate}/{part}"):
-                files += [f"{folder}/{n}" for n in names if n.endswith((".rt", ".antt"))]
-    lines = [f"{sum_of_file(f)} {os.path.relpath(f, ROOT)}" for f in sorted(files) if os.path.isfile(f)]
-    return hashlib.sha256("\n".join(lines).encode(errors="surrogateescape")).hexdigest()
-
-
-# What stands in target/rimeheath/PROGRAM after a build: the sources from before it, and the program that came of it.
-def record_of(program, sources):
-    return f"{sources} {sum_of_file(f'{ROOT}/target/bin/{program}')}\n"
-
-
-def is_built(program, sources):
-    try:
-        with open(f"{ROOT}/target/rimeheath/{program}") as f:
-            return f.read() == record_of(program, sources)
-    except OSError:
-        return False
-
-
-def make_ready(program):
-    crates = crates_of(program)
-    if is_built(program, sum_of_sources(crates)):
-        return
-    if not shutil.which("rt"):
-        fail("no rt on the path, which proves and builds the program")
-    os.makedirs(f"{ROOT}/target/rimeheath", exist_ok=True)
-    with open(f"{ROOT}/target/rimeheath/lock", "w") as lock:
-        try:
-            fcntl.flock(lock, fcntl.LOCK_EX | fcntl.LOCK_NB)
-        except BlockingIOError:
-            tell("rimeheath: waiting for another rimeheath, which is building\n")
-            fcntl.flock(lock, fcntl.LOCK_EX)
-        sources = sum_of_sources(crates)
-        if not is_built(program, sources):
-            build(program, crates)
-            path = f"{ROOT}/target/rimeheath/{program}"
-            with open(path + ".new", "w") as f:
-                f.write(record_of(program, sources))
-            os.replace(path + ".new", path)
-
-
-def changed(path):
-    try:
-        return os.stat(path).st_mtime_ns
-    except OSError:
-        return None
-
-
-# Has rt prove and build the program, and tells each crate that is being proved, in the order in which rt comes to them, and how long those
-# took that it has proved since the line before. rt opens target/log/NAME.out when it comes to a crate, and NAME.say where it has to prove
-# it; how long it took stands in what rt says.
-def build(program, crates):
-    began = time.monotonic()
-    log = f"{ROOT}/target/log"
-    old = {c: (changed(f"{log}/{c}.out"), changed(f"{log}/{c}.say")) for c in crates}
-    number, told, timed = {}, set(), set()
-
-    def took():
-        new = [c for c in re.findall(rb"(?m)^rt: (\w+) proved \((\d+) s\)$", os.pread(said.fileno(), 1 << 26, 0)) if c[0] not in timed]
-        timed.update(name for name, _ in new)
-        return "".join(f"; {name.decode()} took {seconds.decode()} s" for name, seconds in new)
-
-    def look():
-        for c in crates:
-            if c not in number and changed(f"{log}/{c}.out") != old[c][0]:
-                number[c] = len(number) + 1
-            if c in number and c not in told and changed(f"{log}/{c}.say") != old[c][1]:
-                if not told:
-                    tell(f"rimeheath: the program {program} has to be proved and built first; this takes some minutes\n")
-                told.add(c)
-                tell(f"rimeheath: proving {c} ({number[c]} of {len(crates)}), {time.monotonic() - began:.0f} s so far{took()}\n")
-
-    with tempfile.TemporaryFile() as said:
-        words = ["rt", "check", program]
-        rt = subprocess.Popen(words, cwd=ROOT, stdin=subprocess.DEVNULL, stdout=said, stderr=said, start_new_session=True)
-        try:
-            while rt.poll() is None:
-                time.sleep(0.2)
-                look()
-        finally:
-            if rt.returncode is None:
-                os.killpg(rt.pid, signal.SIGTERM)  # its provers too
-        look()
-        if rt.returncode != 0 or not os.access(f"{ROOT}/target/bin/{program}", os.X_OK):
-            said.seek(0)
-            tell("".join(line.decode(errors="replace") for line in said.readlines()[-20:]))
-            fail(f"the program {program} could not be built")
-        if told:
-            tell(f"rimeheath: proved and built, {time.monotonic() - began:.0f} s{took()}\n")
 
 
 # ---- feeding it
@@ -516,7 +389,10 @@ def main(words):
     fd, name, size = open_recording(path, closed)
     if prints == AS_MUCH and is_output(fd):
         fail("the output is the recording itself")
-    make_ready(program)
+    try:
+        make_ready(program)
+    except NotBuilt as why:
+        fail(why)
     progress = Progress(asked, size)
     with tempfile.SpooledTemporaryFile(IN_MEMORY) as held:
         run(program, passed, fd, name, progress, held)
@@ -528,10 +404,7 @@ def main(words):
         put(iter(lambda: held.read(BLOCK), b""))
 
 
-# Ended from outside, it ends what it started.
-for number in (signal.SIGTERM, signal.SIGHUP):
-    if signal.getsignal(number) == signal.SIG_DFL:
-        signal.signal(number, lambda n, _: sys.exit(128 + n))
+end_with_signals()
 try:
     main(sys.argv[1:])
 except KeyboardInterrupt:
