@@ -285,10 +285,8 @@ fn end_line(rt: &impl Print) -> io::Result<()> {
 }
 
 fn also_each(rt: &impl Print, b: &[u8]) -> io::Result<()> {
-    let mut i = 0;
-    while i < b.len() {
-        also(rt, wire::u8_at(b, i) as u64)?;
-        i = i + 1;
+    for x in b {
+        also(rt, *x as u64)?;
     }
     Ok(())
 }

@@ -195,11 +195,8 @@ fn show_tables(
 }
 
 fn show_rows(rt: &impl Print, orders: &[u64]) -> io::Result<()> {
-    let n = rows::row_count(orders);
-    let mut i = 0;
-    while i < n {
+    for i in 0..rows::row_count(orders) {
         show_row(rt, i, rows::row_at(orders, i))?;
-        i = i + 1;
     }
     Ok(())
 }
@@ -219,11 +216,8 @@ fn show_row(rt: &impl Print, i: usize, r: Row) -> io::Result<()> {
 }
 
 fn show_entries(rt: &impl Print, symbols: &[u8]) -> io::Result<()> {
-    let n = symbols::entry_count(symbols);
-    let mut i = 0;
-    while i < n {
+    for i in 0..symbols::entry_count(symbols) {
         show_entry(rt, i, symbols::entry_bytes(symbols, i))?;
-        i = i + 1;
     }
     Ok(())
 }
@@ -234,10 +228,8 @@ fn show_entry(rt: &impl Print, i: usize, e: &[u8]) -> io::Result<()> {
     }
     rt.print("entry")?;
     also(rt, i as u64)?;
-    let mut k = 0;
-    while k < e.len() {
-        also(rt, wire::u8_at(e, k) as u64)?;
-        k = k + 1;
+    for x in e {
+        also(rt, *x as u64)?;
     }
     end_line(rt)
 }
@@ -248,11 +240,8 @@ fn show_views(
     symbols: &[u8],
     levels: &mut [u64],
 ) -> io::Result<()> {
-    let n = symbols::entry_count(symbols);
-    let mut i = 0;
-    while i < n {
+    for i in 0..symbols::entry_count(symbols) {
         show_used(rt, orders, symbols, levels, i)?;
-        i = i + 1;
     }
     Ok(())
 }
@@ -326,19 +315,13 @@ fn show_side(
 }
 
 fn show_levels(rt: &impl Print, levels: &[u64], n: usize, key: &str) -> io::Result<()> {
-    let all = levels.len() / 3;
-    let mut i = 0;
-    while i < all {
-        if n <= i {
-            return Ok(());
-        }
+    for i in 0..n.min(levels.len() / 3) {
         rt.print(key)?;
         let b = 3 * i;
         also(rt, levels[b])?;
         also(rt, levels[b + 1])?;
         also(rt, levels[b + 2])?;
         end_line(rt)?;
-        i = i + 1;
     }
     Ok(())
 }
