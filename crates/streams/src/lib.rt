@@ -79,3 +79,106 @@ pub fn word(rt: &impl Env, i: usize, buf: &mut [u8]) -> usize
         Err(_) => 0,
     }
 }
+
+#[cfg(test)]
+mod tests {
+    use super::*;
+    use std::io::Error;
+    use std::test::Fail;
+
+    // Gives one byte at a time, and a signal breaks off every other read. Then it ends, or it fails.
+    #[derive(Drop)]
+    struct Slow {
+        reads: u8,
+        left: u8,
+        fails: bool,
+    }
+
+    impl Read for Slow {
+        fn read(&mut self, buf: &mut [u8]) -> io::Result<usize> {
+            self.reads = self.reads.wrapping_add(1);
+            if self.reads % 2 == 1 {
+                return Err(Error::from(ErrorKind::Interrupted));
+            }
+            if self.left == 0 && self.fails {
+                return Err(Error::from(ErrorKind::BrokenPipe));
+            }
+            if self.left == 0 || buf.is_empty() {
+                return Ok(0);
+            }
+            buf[0] = self.left;
+            self.left -= 1;
+            Ok(1)
+        }
+    }
+
+    fn reader_of(left: u8, fails: bool) -> Slow {
+        Slow {
+            reads: 0,
+            left,
+            fails,
+        }
+    }
+
+    #[test]
+    fn reads_until_full(rt: HostRuntime) -> Result<(), Fail> {
+        let mut from = reader_of(5, false);
+        let mut buf = [0u8; 3];
+        assert_eq!(rt; read_full(&mut from, &mut buf)?, 3);
+        assert_eq!(rt; buf, [5, 4, 3]);
+        assert_eq!(rt; read_full(&mut from, &mut buf)?, 2);
+        assert_eq!(rt; buf, [2, 1, 3]);
+        assert_eq!(rt; read_full(&mut from, &mut buf)?, 0);
+        Ok(())
+    }
+
+    // A failure in mid-stream is told at that call, and is no end.
+    #[test]
+    fn tells_of_a_failure(rt: HostRuntime) {
+        let mut from = reader_of(2, true);
+        let mut buf = [0u8; 3];
+        match read_full(&mut from, &mut buf) {
+            Ok(_) => assert!(rt; false, "a failure was taken for the end"),
+            Err(e) => assert_eq!(rt; e.kind(), ErrorKind::BrokenPipe),
+        }
+        assert!(rt; read_once(&mut from, &mut buf).is_err());
+    }
+
+    // The words of a program: its name, an empty one and a long one.
+    struct Three;
+
+    impl Env for Three {
+        fn arg(&self, i: usize, buf: &mut [u8]) -> Result<usize, FillError> {
+            if i > 2 {
+                return Err(FillError::NotPresent);
+            }
+            if i == 1 {
+                return Ok(0);
+            }
+            if buf.len() < 4 {
+                return Err(FillError::TooLong);
+            }
+            buf[0] = b'n';
+            Ok(4)
+        }
+
+        fn var(&self, _name: &str, _buf: &mut [u8]) -> Result<usize, FillError> {
+            Err(FillError::NotPresent)
+        }
+
+        fn var_at(&self, _i: usize, _buf: &mut [u8]) -> Result<usize, FillError> {
+            Err(FillError::NotPresent)
+        }
+    }
+
+    #[test]
+    fn takes_words(rt: HostRuntime) {
+        let mut buf = [0u8; 5];
+        assert_eq!(rt; word_count(&Three), 3);
+        assert_eq!(rt; word(&Three, 0, &mut buf), 4);
+        assert_eq!(rt; word(&Three, 1, &mut buf), 0);
+        assert_eq!(rt; word(&Three, 3, &mut buf), 0);
+        let mut small = [0u8; 3];
+        assert_eq!(rt; word(&Three, 0, &mut small), 0);
+    }
+}
