@@ -3,15 +3,15 @@
 
 use editions::Edition;
 use fields::{AddOrder, Symbol, SymbolUpdate};
-use libc::STDOUT_FILENO;
+use std::io;
 use writer::Wrote;
 
-fn main() {
+fn main(rt: HostRuntime) -> io::Result<()> {
     let mut packet = [0u8; 256];
     let n = compose(&mut packet);
     let mut recording = [0u8; 256];
     let l = enclose(&packet, n, &mut recording);
-    print(&recording, l);
+    print(&rt, &recording, l)
 }
 
 // The new length; where something is refused, one beyond any memory, so that all that follows is refused with 32 and nothing is printed.
@@ -56,10 +56,11 @@ fn enclose(packet: &[u8], n: usize, recording: &mut [u8]) -> usize {
     length_of(writer::append_packet(Edition::V13b, recording, 0, &packet[..n]))
 }
 
-fn print(recording: &[u8], n: usize) {
+fn print(rt: &impl Print, recording: &[u8], n: usize) -> io::Result<()> {
     if n <= recording.len() {
-        io::write_all(STDOUT_FILENO, &recording[..n]);
+        rt.write_all(&recording[..n])?;
     }
+    Ok(())
 }
 
 // A limit order of symbol 7, without an attribution: four spaces.

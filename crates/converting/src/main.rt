@@ -4,7 +4,9 @@
 
 use conversion::{Pieced, Tally};
 use editions::Edition;
-use libc::{STDERR_FILENO, STDIN_FILENO, STDOUT_FILENO};
+use std::env::Env;
+use std::io;
+use std::io::{ErrorKind, Read};
 use words::{Named, TypeWord};
 
 // What is held at a time: a packet has at most 65,537 bytes with its length, so a full piece has a whole one.
@@ -25,7 +27,7 @@ pub struct Asked {
 }
 
 // A conversion that the words ask for.
-#[derive(Drop)]
+#[derive(Clone, Copy)]
 pub struct Order {
     pub from: Edition,
     pub to: Edition,
@@ -40,7 +42,7 @@ pub enum Task {
 }
 
 // What was counted of all pieces.
-#[derive(Drop)]
+#[derive(Clone, Copy)]
 pub struct Counts {
     pub updates: u64,
     pub unread: u64,
@@ -48,7 +50,7 @@ pub struct Counts {
 }
 
 // How many bytes stand at the front of the piece and are not handed on yet.
-#[derive(Drop)]
+#[derive(Clone, Copy)]
 pub struct Flow {
     pub held: usize,
     pub counts: Counts,
@@ -59,54 +61,64 @@ pub struct Flow {
 pub enum Outcome {
     More(Flow),
     End(Flow),
-    Failed,
-    Unwritten,
+    Failed(io::Error),
+    Unwritten(io::Error),
     Refused,
 }
 
 // Each array is lent once, and no element of one is read or stored here.
-fn main() {
+fn main(rt: HostRuntime) {
     let mut piece = [0u8; PIECE];
     let mut others = [0u8; OTHERS];
-    lend(&mut piece, &mut others);
+    lend(&rt, &mut piece, &mut others);
 }
 
 // The arrays become slices here: at an array's reference no length is asked, however long it is.
-fn lend(piece: &mut [u8; PIECE], others: &mut [u8; OTHERS]) {
-    answer(piece, others);
+fn lend(
+    rt: &(impl Env + Input + Print + Eprint),
+    piece: &mut [u8; PIECE],
+    others: &mut [u8; OTHERS],
+) {
+    answer(rt, piece, others);
 }
 
-fn answer(piece: &mut [u8], others: &mut [u8]) {
-    let a = take_words(others);
+fn answer(rt: &(impl Env + Input + Print + Eprint), piece: &mut [u8], others: &mut [u8]) {
+    let a = take_words(rt, others);
     match task_of(a) {
-        Task::Convert(o) => work(o, others, piece),
-        Task::Wrong => wrong_words(),
+        Task::Convert(o) => work(rt, o, others, piece),
+        Task::Wrong => wrong_words(rt),
     }
 }
 
-fn wrong_words() {
+fn wrong_words(rt: &impl Eprint) {
     say(
-        b"rimeheath: convert takes --to with 1.3, 1.3.a or 1.3.b, --edition with one of these, and for 1.3 --type with E or F, once, ",
+        rt,
+        "convert takes --to with 1.3, 1.3.a or 1.3.b, --edition with one of these, and for 1.3 --type with E or F, once, and with NAME=E or NAME=F, 1,000 times at most; the recording comes on standard input",
     );
-    say(b"and with NAME=E or NAME=F, 1,000 times at most; the recording comes on standard input\n");
 }
 
-fn say(words: &[u8]) {
-    io::write_all(STDERR_FILENO, words);
+// A line on standard error, which is the last place where anything could be told.
+fn say(rt: &impl Eprint, words: &str) {
+    let _ = eprintln!(rt; "rimeheath: {words}");
+}
+
+// What the system refused, and why.
+fn fail(rt: &impl Eprint, what: &str, e: io::Error) {
+    let _ = eprintln!(rt; "rimeheath: {what}: {e}");
 }
 
 // ---- the words
 
 // Words come in twos; one that is left alone is none of ours.
-fn take_words(others: &mut [u8]) -> Asked {
-    let count = os::arg_count();
+fn take_words(rt: &impl Env, others: &mut [u8]) -> Asked {
+    let count = streams::word_count(rt);
     let mut a = nothing_asked();
     let mut i: usize = 1;
     while i < count {
         if count - i < 2 {
             return wrong(a);
         }
-        a = take_two(i, i + 1, others, a);
+        a = take_two(rt, i, i + 1, others, a);
         i = i + 2;
     }
     a
@@ -130,11 +142,11 @@ fn wrong(a: Asked) -> Asked {
 }
 
 // A word that is too long for its array is an empty one, and wrong like that.
-fn take_two(first: usize, second: usize, others: &mut [u8], a: Asked) -> Asked {
+fn take_two(rt: &impl Env, first: usize, second: usize, others: &mut [u8], a: Asked) -> Asked {
     let mut word = [0u8; 16];
     let mut value = [0u8; 16];
-    let n = os::arg(first, &mut word);
-    let m = os::arg(second, &mut value);
+    let n = streams::word(rt, first, &mut word);
+    let m = streams::word(rt, second, &mut value);
     take(&word[..n], &value[..m], others, a)
 }
 
@@ -288,11 +300,11 @@ fn other_than(e: Edition) -> Edition {
 // ---- the recording
 
 // Types are judged before anything is read, so that a wrong one is told of any recording.
-fn work(o: Order, others: &[u8], piece: &mut [u8]) {
+fn work(rt: &(impl Input + Print + Eprint), o: Order, others: &[u8], piece: &mut [u8]) {
     let n = o.others;
     let to = o.to;
     if !retype::types_ok(to, o.all, text::front(others, n)) {
-        return wrong_words();
+        return wrong_words(rt);
     }
     let start = Flow {
         held: 0,
@@ -302,49 +314,72 @@ fn work(o: Order, others: &[u8], piece: &mut [u8]) {
             barred: 0,
         },
     };
-    let end = read_all(o, text::front(others, n), piece, start);
-    finish(piece, end);
+    let end = read_all(
+        rt,
+        &mut rt.reader(),
+        o,
+        text::front(others, n),
+        piece,
+        start,
+    );
+    finish(rt, piece, end);
 }
 
 // A proved loop has to end, so it counts its pieces up to a number that no recording reaches.
-fn read_all(o: Order, others: &[u8], piece: &mut [u8], start: Flow) -> Outcome {
+fn read_all(
+    rt: &impl Print,
+    from: &mut impl Read,
+    o: Order,
+    others: &[u8],
+    piece: &mut [u8],
+    start: Flow,
+) -> Outcome {
     let mut f = start;
-    let mut turns: u64 = 0;
-    while turns < u64::MAX {
-        let t = turn(o, others, piece, f);
+    for _ in 0..u64::MAX {
+        let t = turn(rt, from, o, others, piece, f);
         let Outcome::More(next) = t else {
             return t;
         };
         f = next;
-        turns = turns + 1;
     }
     Outcome::More(f)
 }
 
 // Reads once, behind what is held. A read that a signal broke off is tried again.
-fn turn(o: Order, others: &[u8], piece: &mut [u8], f: Flow) -> Outcome {
+fn turn(
+    rt: &impl Print,
+    from: &mut impl Read,
+    o: Order,
+    others: &[u8],
+    piece: &mut [u8],
+    f: Flow,
+) -> Outcome {
     let held = f.held;
     if piece.len() <= held {
         return Outcome::Refused;
     }
-    let got = libc::read(STDIN_FILENO, &mut piece[held..]);
-    if got < 0 {
-        return if os::errno() == libc::EINTR {
-            Outcome::More(f)
-        } else {
-            Outcome::Failed
-        };
+    match from.read(&mut piece[held..]) {
+        Ok(0) => Outcome::End(f),
+        Ok(n) => convert(rt, o, others, piece, held + n, f.counts),
+        Err(e) => {
+            if e.kind() == ErrorKind::Interrupted {
+                Outcome::More(f)
+            } else {
+                Outcome::Failed(e)
+            }
+        }
     }
-    if got == 0 {
-        return Outcome::End(f);
-    }
-    let n = io::count(got, &piece[held..]);
-    let counts = f.counts;
-    convert(o, others, piece, held + n, counts)
 }
 
 // Converts the whole packets of the first `have` bytes and hands them on.
-fn convert(o: Order, others: &[u8], piece: &mut [u8], have: usize, c: Counts) -> Outcome {
+fn convert(
+    rt: &impl Print,
+    o: Order,
+    others: &[u8],
+    piece: &mut [u8],
+    have: usize,
+    c: Counts,
+) -> Outcome {
     if piece.len() < have {
         return Outcome::Refused;
     }
@@ -353,13 +388,13 @@ fn convert(o: Order, others: &[u8], piece: &mut [u8], have: usize, c: Counts) ->
     let r = conversion::convert_piece(from, to, o.all, others, &mut piece[..have]);
     match r {
         Pieced::Refused(_) => Outcome::Refused,
-        Pieced::Done(done, t) => hand_on(piece, done, have, counted(c, t)),
+        Pieced::Done(done, t) => hand_on(rt, piece, done, have, counted(c, t)),
     }
 }
 
-fn hand_on(piece: &mut [u8], done: usize, have: usize, c: Counts) -> Outcome {
-    if !io::write_all(STDOUT_FILENO, text::front(piece, least(done, have))) {
-        return Outcome::Unwritten;
+fn hand_on(rt: &impl Print, piece: &mut [u8], done: usize, have: usize, c: Counts) -> Outcome {
+    if let Err(e) = rt.write_all(text::front(piece, least(done, have))) {
+        return Outcome::Unwritten(e);
     }
     Outcome::More(Flow {
         held: to_front(piece, done, have),
@@ -402,37 +437,36 @@ fn sum(a: u64, b: u64) -> u64 {
     a + b
 }
 
-fn finish(piece: &[u8], end: Outcome) {
+fn finish(rt: &(impl Print + Eprint), piece: &[u8], end: Outcome) {
     match end {
-        Outcome::End(f) => end_with(piece, f),
-        Outcome::More(_) => refused(),
-        Outcome::Failed => os::fail(b"rimeheath: standard input"),
-        Outcome::Unwritten => unwritten(),
-        Outcome::Refused => refused(),
+        Outcome::End(f) => end_with(rt, piece, f),
+        Outcome::More(_) => refused(rt),
+        Outcome::Failed(e) => fail(rt, "standard input", e),
+        Outcome::Unwritten(e) => unwritten(rt, e),
+        Outcome::Refused => refused(rt),
     }
 }
 
 // Never reached with this program's piece and types.
-fn refused() {
-    say(b"rimeheath: the recording was not converted\n");
+fn refused(rt: &impl Eprint) {
+    say(rt, "the recording was not converted");
 }
 
-fn unwritten() {
-    os::fail(b"rimeheath: standard output");
+fn unwritten(rt: &impl Eprint, e: io::Error) {
+    fail(rt, "standard output", e);
 }
 
 // What follows the last whole packet goes on as it is.
-fn end_with(piece: &[u8], f: Flow) {
-    let held = f.held;
-    if !io::write_all(STDOUT_FILENO, text::front(piece, held)) {
-        return unwritten();
+fn end_with(rt: &(impl Print + Eprint), piece: &[u8], f: Flow) {
+    if let Err(e) = rt.write_all(text::front(piece, f.held)) {
+        return unwritten(rt, e);
     }
-    let c = f.counts;
-    say(b"rimeheath: ");
-    io::print_decimal(STDERR_FILENO, c.updates);
-    say(b" Symbol Updates rewritten, ");
-    io::print_decimal(STDERR_FILENO, c.unread);
-    say(b" packets passed on unread, ");
-    io::print_decimal(STDERR_FILENO, c.barred);
-    say(b" packets barred\n");
+    tell_counts(rt, f.counts);
+}
+
+fn tell_counts(rt: &impl Eprint, c: Counts) {
+    let _ = eprintln!(rt;
+        "rimeheath: {} Symbol Updates rewritten, {} packets passed on unread, {} packets barred",
+        c.updates, c.unread, c.barred
+    );
 }

@@ -1,15 +1,15 @@
 // The shortest way from a recording to its sheet, to start from: lend tables, start a receiver, feed it, print.
-// It reads no more than 4,096 bytes and takes a read error for the end; the program `sheet` does neither.
+// It reads no more than 4,096 bytes, and a failed read or write ends it; the program `sheet` reads all and tells of a failure in its own words.
 #![tactic(auto)]
 
 use answer_sheet::{Recording, SheetAnswer};
 use editions::Edition;
-use libc::{STDIN_FILENO, STDOUT_FILENO};
 use receiver::{Started, State};
 use recording::{Fed, Stream};
+use std::io;
 
 // Three rows and one entry: what document 01's example needs. So few are searched sooner than looked up, and no index is lent.
-fn main() {
+fn main(rt: HostRuntime) -> io::Result<()> {
     let mut orders = [0u64; 3 * rows::ROW_SIZE];
     let mut symbols = [0u8; facts::ENTRY_SIZE];
     let mut shelf = [0u8; facts::SHELF_SIZE];
@@ -18,6 +18,7 @@ fn main() {
     let mut block = [0u8; 4096];
     let mut text = [0u8; 4096];
     play(
+        &rt,
         &mut orders,
         &mut symbols,
         &mut shelf,
@@ -25,10 +26,11 @@ fn main() {
         &mut hold,
         &mut block,
         &mut text,
-    );
+    )
 }
 
 fn play(
+    rt: &(impl Input + Print),
     orders: &mut [u64],
     symbols: &mut [u8],
     shelf: &mut [u8],
@@ -36,17 +38,28 @@ fn play(
     hold: &mut [u8],
     block: &mut [u8],
     text: &mut [u8],
-) {
+) -> io::Result<()> {
     match receiver::start(Edition::V13b, orders, symbols, shelf, index) {
-        Started::Refused(_) => refused(),
+        Started::Refused(_) => refused(rt),
         Started::Ready(s) => {
-            let n = io::read_full(STDIN_FILENO, block);
-            feed(orders, symbols, shelf, index, hold, s, &block[..n], text);
+            let n = streams::read_full(&mut rt.reader(), block)?;
+            feed(
+                rt,
+                orders,
+                symbols,
+                shelf,
+                index,
+                hold,
+                s,
+                &block[..n],
+                text,
+            )
         }
     }
 }
 
 fn feed(
+    rt: &impl Print,
     orders: &mut [u64],
     symbols: &mut [u8],
     shelf: &mut [u8],
@@ -55,7 +68,7 @@ fn feed(
     s: State,
     chunk: &[u8],
     text: &mut [u8],
-) {
+) -> io::Result<()> {
     match recording::feed(
         orders,
         symbols,
@@ -65,12 +78,18 @@ fn feed(
         recording::open(s),
         chunk,
     ) {
-        Fed::Refused(_) => refused(),
-        Fed::Took(t) => print(orders, symbols, t, text),
+        Fed::Refused(_) => refused(rt),
+        Fed::Took(t) => print(rt, orders, symbols, t, text),
     }
 }
 
-fn print(orders: &[u64], symbols: &[u8], t: Stream, text: &mut [u8]) {
+fn print(
+    rt: &impl Print,
+    orders: &[u64],
+    symbols: &[u8],
+    t: Stream,
+    text: &mut [u8],
+) -> io::Result<()> {
     let word = if recording::is_cut(t) {
         Recording::Cut
     } else {
@@ -78,13 +97,11 @@ fn print(orders: &[u64], symbols: &[u8], t: Stream, text: &mut [u8]) {
     };
     let state = t.receiver;
     match answer_sheet::sheet(text, orders, symbols, state, t.bad, word) {
-        SheetAnswer::Refused(_) => refused(),
-        SheetAnswer::Length(n) => {
-            io::write_all(STDOUT_FILENO, text::front(text, n));
-        }
+        SheetAnswer::Refused(_) => refused(rt),
+        SheetAnswer::Length(n) => rt.write_all(text::front(text, n)),
     }
 }
 
-fn refused() {
-    io::write_all(STDOUT_FILENO, b"refused\n");
+fn refused(rt: &impl Print) -> io::Result<()> {
+    rt.println("refused")
 }

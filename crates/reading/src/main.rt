@@ -1,4 +1,5 @@
-// Reads packets behind two-byte lengths from standard input and prints what the readers find: the vectors of tools/vectors.py.
+// Reads packets behind two-byte lengths from standard input and prints what the readers find: the vectors of tools/vectors.py. A failed
+// read or write ends it.
 #![tactic(auto)]
 
 use body::Security;
@@ -8,400 +9,377 @@ use fields::{
     SystemState, Trade, TradeCancel, TradingStatus,
 };
 use kinds::Kind;
-use libc::{STDERR_FILENO, STDIN_FILENO, STDOUT_FILENO};
 use packet::{Packet, Record};
+use std::env::Env;
+use std::io;
+use std::io::Read;
 use words::Named;
 
 // The longest packet that a two-byte length can announce.
 const LONGEST: usize = 65535;
 
-fn main() {
+fn main(rt: HostRuntime) -> io::Result<()> {
     let mut held = [0u8; LONGEST];
-    answer(&mut held);
+    answer(&rt, &mut held)
 }
 
 // The edition that the words ask for.
-fn edition_asked() -> Named {
+fn edition_asked(rt: &impl Env) -> Named {
     let mut first = [0u8; 16];
     let mut second = [0u8; 16];
-    let n = os::arg(1, &mut first);
-    let m = os::arg(2, &mut second);
-    words::edition_asked(os::arg_count(), &first[..n], &second[..m])
+    let n = streams::word(rt, 1, &mut first);
+    let m = streams::word(rt, 2, &mut second);
+    words::edition_asked(streams::word_count(rt), &first[..n], &second[..m])
 }
 
-fn answer(held: &mut [u8]) {
-    match edition_asked() {
-        Named::Known(e) => read_all(e, held),
-        Named::Unknown => {
-            io::write_all(
-                STDERR_FILENO,
-                b"rimeheath: read takes no word but --edition with 1.3, 1.3.a or 1.3.b; the recording comes on standard input\n",
-            );
-        }
+fn answer(rt: &(impl Env + Input + Print + Eprint), held: &mut [u8]) -> io::Result<()> {
+    match edition_asked(rt) {
+        Named::Known(e) => read_all(rt, &mut rt.reader(), e, held),
+        Named::Unknown => rt.eprintln(
+            "rimeheath: read takes no word but --edition with 1.3, 1.3.a or 1.3.b; the recording comes on standard input",
+        ),
     }
 }
 
-fn read_all(e: Edition, held: &mut [u8]) {
-    let mut turns = u64::MAX;
-    while 0 < turns {
-        if !read_one(e, held) {
-            return;
+// A proved loop has to end, so it counts its packets up to a number that no recording reaches.
+fn read_all(rt: &impl Print, from: &mut impl Read, e: Edition, held: &mut [u8]) -> io::Result<()> {
+    for _ in 0..u64::MAX {
+        if !read_one(rt, from, e, held)? {
+            break;
         }
-        turns = turns - 1;
     }
+    Ok(())
 }
 
 // One packet; false at the end of the input.
-fn read_one(e: Edition, held: &mut [u8]) -> bool {
+fn read_one(
+    rt: &impl Print,
+    from: &mut impl Read,
+    e: Edition,
+    held: &mut [u8],
+) -> io::Result<bool> {
     let mut length = [0u8; 2];
-    if io::read_full(STDIN_FILENO, &mut length) < 2 {
-        return false;
+    if streams::read_full(from, &mut length)? < 2 {
+        return Ok(false);
     }
     let n = wire::u16_at(&length, 0) as usize;
-    if !fill(held, n) {
-        return false;
+    if !fill(from, held, n)? {
+        return Ok(false);
     }
-    show_first(e, held, n);
-    true
+    show_first(rt, e, held, n)?;
+    Ok(true)
 }
 
-fn fill(held: &mut [u8], n: usize) -> bool {
+fn fill(from: &mut impl Read, held: &mut [u8], n: usize) -> io::Result<bool> {
     if held.len() < n {
-        return false;
+        return Ok(false);
     }
-    io::read_full(STDIN_FILENO, &mut held[..n]) == n
+    Ok(streams::read_full(from, &mut held[..n])? == n)
 }
 
-fn show_first(e: Edition, held: &[u8], n: usize) {
+fn show_first(rt: &impl Print, e: Edition, held: &[u8], n: usize) -> io::Result<()> {
     if held.len() < n {
-        return;
+        return Ok(());
     }
-    show_packet(e, &held[..n]);
+    show_packet(rt, e, &held[..n])
 }
 
-fn show_packet(e: Edition, p: &[u8]) {
+fn show_packet(rt: &impl Print, e: Edition, p: &[u8]) -> io::Result<()> {
     match packet::read_packet(e, p) {
         Packet::Refused(r) => {
-            io::write_all(STDOUT_FILENO, b"refused");
-            also(r.number as u64);
-            end_line();
+            rt.print("refused")?;
+            also(rt, r.number as u64)?;
+            end_line(rt)
         }
-        Packet::Bad(f) => show_fault(e, p, f),
+        Packet::Bad(f) => show_fault(rt, e, p, f),
         Packet::Good(n) => {
-            io::write_all(STDOUT_FILENO, b"records ");
-            io::print_decimal(STDOUT_FILENO, n as u64);
-            end_line();
-            show_records(e, p);
+            rt.print("records ")?;
+            rt.print(n as u64)?;
+            end_line(rt)?;
+            show_records(rt, e, p)
         }
     }
 }
 
 // Number and offset, and in words where a reader finds it: the record, counted from 1, and what in it is wrong.
-fn show_fault(e: Edition, p: &[u8], f: Fault) {
-    io::write_all(STDOUT_FILENO, b"refused");
-    also(f.number as u64);
-    io::write_all(STDOUT_FILENO, b" at");
-    also(f.at as u64);
-    io::write_all(STDOUT_FILENO, b": record");
-    show_first_bad(e, p);
-    end_line();
+fn show_fault(rt: &impl Print, e: Edition, p: &[u8], f: Fault) -> io::Result<()> {
+    rt.print("refused")?;
+    also(rt, f.number as u64)?;
+    rt.print(" at")?;
+    also(rt, f.at as u64)?;
+    rt.print(": record")?;
+    show_first_bad(rt, e, p)?;
+    end_line(rt)
 }
 
 // Over the good records to the first bad one, which is counted from 1.
-fn show_first_bad(e: Edition, p: &[u8]) {
+fn show_first_bad(rt: &impl Print, e: Edition, p: &[u8]) -> io::Result<()> {
     let mut at = 0;
     let mut count: usize = 1;
     while at < p.len() {
         match packet::read_record(e, &p[at..]) {
             Record::Bad(f) => {
-                also(count as u64);
-                show_bad(&p[at..], f);
-                return;
+                also(rt, count as u64)?;
+                return show_bad(rt, &p[at..], f);
             }
             Record::Good(h) => {
                 let n = h.len;
                 if p.len() - at < 10 {
-                    return;
+                    return Ok(());
                 }
                 if p.len() - at - 10 < n {
-                    return;
+                    return Ok(());
                 }
                 at = at + 10 + n;
                 count = count + 1;
             }
         }
     }
+    Ok(())
 }
 
 // What is wrong in a bad record.
-fn show_bad(t: &[u8], f: Fault) {
+fn show_bad(rt: &impl Print, t: &[u8], f: Fault) -> io::Result<()> {
     let n = f.number;
     if n == 5 {
-        io::write_all(STDOUT_FILENO, b", sequence number");
-        return;
+        return rt.print(", sequence number");
     }
     if n == 2 {
-        show_room(t);
-        return;
+        return show_room(rt, t);
     }
     let b = packet::body_at(t, 0);
     if b.len() == 0 {
-        io::write_all(STDOUT_FILENO, b", empty body");
-        return;
+        return rt.print(", empty body");
     }
     let k = kinds::kind_of(wire::u8_at(b, 0));
-    show_kind(k);
+    show_kind(rt, k)?;
     if n == 4 {
-        show_field(k, f.at);
+        show_field(rt, k, f.at)
     } else {
-        show_length(k);
+        show_length(rt, k)
     }
 }
 
-fn show_room(t: &[u8]) {
+fn show_room(rt: &impl Print, t: &[u8]) -> io::Result<()> {
     if t.len() < 10 {
-        io::write_all(STDOUT_FILENO, b", unfinished header");
+        rt.print(", unfinished header")
     } else {
-        io::write_all(STDOUT_FILENO, b", body past the end");
+        rt.print(", body past the end")
     }
 }
 
-fn show_kind(k: Kind) {
+fn show_kind(rt: &impl Print, k: Kind) -> io::Result<()> {
     match k {
-        Kind::SystemTime => {
-            io::write_all(STDOUT_FILENO, b", System Time");
-        }
-        Kind::SymbolUpdate => {
-            io::write_all(STDOUT_FILENO, b", Symbol Update");
-        }
-        Kind::SystemState => {
-            io::write_all(STDOUT_FILENO, b", System State");
-        }
-        Kind::TradingStatus => {
-            io::write_all(STDOUT_FILENO, b", Security Trading Status");
-        }
-        Kind::SymbolClear => {
-            io::write_all(STDOUT_FILENO, b", Symbol Clear");
-        }
-        Kind::Add => {
-            io::write_all(STDOUT_FILENO, b", Add Order");
-        }
-        Kind::Modify => {
-            io::write_all(STDOUT_FILENO, b", Modify Order");
-        }
-        Kind::Delete => {
-            io::write_all(STDOUT_FILENO, b", Delete Order");
-        }
-        Kind::Execution => {
-            io::write_all(STDOUT_FILENO, b", Order Execution");
-        }
-        Kind::Trade => {
-            io::write_all(STDOUT_FILENO, b", Trade");
-        }
-        Kind::TradeCancel => {
-            io::write_all(STDOUT_FILENO, b", Trade Cancel");
-        }
-        Kind::Unknown => {
-            io::write_all(STDOUT_FILENO, b", unknown type");
-        }
+        Kind::SystemTime => rt.print(", System Time"),
+        Kind::SymbolUpdate => rt.print(", Symbol Update"),
+        Kind::SystemState => rt.print(", System State"),
+        Kind::TradingStatus => rt.print(", Security Trading Status"),
+        Kind::SymbolClear => rt.print(", Symbol Clear"),
+        Kind::Add => rt.print(", Add Order"),
+        Kind::Modify => rt.print(", Modify Order"),
+        Kind::Delete => rt.print(", Delete Order"),
+        Kind::Execution => rt.print(", Order Execution"),
+        Kind::Trade => rt.print(", Trade"),
+        Kind::TradeCancel => rt.print(", Trade Cancel"),
+        Kind::Unknown => rt.print(", unknown type"),
     }
 }
 
-fn show_length(k: Kind) {
+fn show_length(rt: &impl Print, k: Kind) -> io::Result<()> {
     match k {
-        Kind::Unknown => {}
-        _ => {
-            io::write_all(STDOUT_FILENO, b", wrong length");
-        }
+        Kind::Unknown => Ok(()),
+        _ => rt.print(", wrong length"),
     }
 }
 
 // The judged field of a message that starts at a place of its record. The Timestamp is the first field of all that have one.
-fn show_field(k: Kind, at: usize) {
+fn show_field(rt: &impl Print, k: Kind, at: usize) -> io::Result<()> {
     if at == 11 {
-        io::write_all(STDOUT_FILENO, b", nanoseconds");
-        return;
+        return rt.print(", nanoseconds");
     }
     match k {
-        Kind::SymbolUpdate => show_letter(at),
-        Kind::Add => show_order(at),
-        Kind::Modify => show_deal(at, 27),
-        Kind::Execution => show_deal(at, 35),
-        _ => show_deal(at, 28),
+        Kind::SymbolUpdate => show_letter(rt, at),
+        Kind::Add => show_order(rt, at),
+        Kind::Modify => show_deal(rt, at, 27),
+        Kind::Execution => show_deal(rt, at, 35),
+        _ => show_deal(rt, at, 28),
     }
 }
 
 // The letters of a Symbol Update.
-fn show_letter(at: usize) {
+fn show_letter(rt: &impl Print, at: usize) -> io::Result<()> {
     if at == 30 {
-        io::write_all(STDOUT_FILENO, b", security type");
+        rt.print(", security type")
     } else if at == 31 {
-        io::write_all(STDOUT_FILENO, b", test indicator");
+        rt.print(", test indicator")
     } else {
-        io::write_all(STDOUT_FILENO, b", market");
+        rt.print(", market")
     }
 }
 
-fn show_order(at: usize) {
+fn show_order(rt: &impl Print, at: usize) -> io::Result<()> {
     if at == 27 {
-        io::write_all(STDOUT_FILENO, b", side");
+        rt.print(", side")
     } else {
-        show_deal(at, 28);
+        show_deal(rt, at, 28)
     }
 }
 
 // Price and size stand side by side.
-fn show_deal(at: usize, price: usize) {
+fn show_deal(rt: &impl Print, at: usize, price: usize) -> io::Result<()> {
     if at == price {
-        io::write_all(STDOUT_FILENO, b", price");
+        rt.print(", price")
     } else {
-        io::write_all(STDOUT_FILENO, b", size");
+        rt.print(", size")
     }
 }
 
-fn show_records(e: Edition, p: &[u8]) {
+fn show_records(rt: &impl Print, e: Edition, p: &[u8]) -> io::Result<()> {
     let mut at = 0;
     while at < p.len() {
         let h = packet::head_at(p, at);
         let n = h.len;
         if p.len() - at < 10 {
-            return;
+            return Ok(());
         }
         if p.len() - at - 10 < n {
-            return;
+            return Ok(());
         }
-        io::print_decimal(STDOUT_FILENO, h.number);
-        show_body(e, packet::body_at(p, at));
+        rt.print(h.number)?;
+        show_body(rt, e, packet::body_at(p, at))?;
         at = at + 10 + n;
     }
+    Ok(())
 }
 
 // The type byte, and the fields in the order of their places.
-fn show_body(e: Edition, b: &[u8]) {
-    also(wire::u8_at(b, 0) as u64);
+fn show_body(rt: &impl Print, e: Edition, b: &[u8]) -> io::Result<()> {
+    also(rt, wire::u8_at(b, 0) as u64)?;
+    show_fields(rt, e, b)?;
+    end_line(rt)
+}
+
+fn show_fields(rt: &impl Print, e: Edition, b: &[u8]) -> io::Result<()> {
     match body::read_body(e, b) {
-        Body::SystemTime(seconds) => also(seconds as u64),
-        Body::SymbolUpdate => show_symbol(fields::symbol_of(b), body::security_in(e, b)),
-        Body::SystemState => show_state(fields::state_of(b)),
-        Body::TradingStatus(m) => show_status(m),
-        Body::SymbolClear(m) => show_clear(m),
-        Body::Add(m) => show_add(m),
-        Body::Modify(m) => show_modify(m),
-        Body::Delete(m) => show_delete(m),
-        Body::Execution(m) => show_execution(m),
-        Body::Trade(m) => show_trade(m),
-        Body::TradeCancel(m) => show_cancel(m),
-        Body::Bad(f) => also(f.number as u64),
-    }
-    end_line();
-}
-
-fn also(n: u64) {
-    io::write_all(STDOUT_FILENO, b" ");
-    io::print_decimal(STDOUT_FILENO, n);
-}
-
-fn end_line() {
-    io::write_all(STDOUT_FILENO, b"\n");
-}
-
-fn also_each(b: &[u8]) {
-    let mut i = 0;
-    while i < b.len() {
-        also(wire::u8_at(b, i) as u64);
-        i = i + 1;
+        Body::SystemTime(seconds) => also(rt, seconds as u64),
+        Body::SymbolUpdate => show_symbol(rt, fields::symbol_of(b), body::security_in(e, b)),
+        Body::SystemState => show_state(rt, fields::state_of(b)),
+        Body::TradingStatus(m) => show_status(rt, m),
+        Body::SymbolClear(m) => show_clear(rt, m),
+        Body::Add(m) => show_add(rt, m),
+        Body::Modify(m) => show_modify(rt, m),
+        Body::Delete(m) => show_delete(rt, m),
+        Body::Execution(m) => show_execution(rt, m),
+        Body::Trade(m) => show_trade(rt, m),
+        Body::TradeCancel(m) => show_cancel(rt, m),
+        Body::Bad(f) => also(rt, f.number as u64),
     }
 }
 
-fn also_two(nanos: u32, symbol: u32) {
-    also(nanos as u64);
-    also(symbol as u64);
+fn also(rt: &impl Print, n: u64) -> io::Result<()> {
+    print!(rt; " {n}")
 }
 
-fn also_deal(price: u64, size: u32) {
-    also(price);
-    also(size as u64);
+fn end_line(rt: &impl Print) -> io::Result<()> {
+    rt.print("\n")
+}
+
+fn also_each(rt: &impl Print, b: &[u8]) -> io::Result<()> {
+    for x in b {
+        also(rt, *x as u64)?;
+    }
+    Ok(())
+}
+
+fn also_two(rt: &impl Print, nanos: u32, symbol: u32) -> io::Result<()> {
+    also(rt, nanos as u64)?;
+    also(rt, symbol as u64)
+}
+
+fn also_deal(rt: &impl Print, price: u64, size: u32) -> io::Result<()> {
+    also(rt, price)?;
+    also(rt, size as u64)
 }
 
 // The Security Type, where there is one.
-fn show_type(y: Security) {
+fn show_type(rt: &impl Print, y: Security) -> io::Result<()> {
     match y {
-        Security::Type(x) => also(x as u64),
-        Security::Reserved => {}
+        Security::Type(x) => also(rt, x as u64),
+        Security::Reserved => Ok(()),
     }
 }
 
-fn show_symbol(s: Symbol, y: Security) {
+fn show_symbol(rt: &impl Print, s: Symbol, y: Security) -> io::Result<()> {
     let ticker = s.ticker;
     let opening = s.opening;
     let closing = s.closing;
-    also(s.id as u64);
-    also_each(&ticker);
-    show_type(y);
-    also(s.lot as u64);
-    also_each(&opening);
-    also_each(&closing);
-    also(s.market as u64);
+    also(rt, s.id as u64)?;
+    also_each(rt, &ticker)?;
+    show_type(rt, y)?;
+    also(rt, s.lot as u64)?;
+    also_each(rt, &opening)?;
+    also_each(rt, &closing)?;
+    also(rt, s.market as u64)
 }
 
-fn show_state(s: SystemState) {
+fn show_state(rt: &impl Print, s: SystemState) -> io::Result<()> {
     let version = s.version;
-    also(s.nanos as u64);
-    also_each(&version);
-    also(s.session as u64);
-    also(s.status as u64);
+    also(rt, s.nanos as u64)?;
+    also_each(rt, &version)?;
+    also(rt, s.session as u64)?;
+    also(rt, s.status as u64)
 }
 
-fn show_status(m: TradingStatus) {
-    also_two(m.nanos, m.symbol);
-    also(m.trading as u64);
-    also(m.market as u64);
-    also(m.short as u64);
+fn show_status(rt: &impl Print, m: TradingStatus) -> io::Result<()> {
+    also_two(rt, m.nanos, m.symbol)?;
+    also(rt, m.trading as u64)?;
+    also(rt, m.market as u64)?;
+    also(rt, m.short as u64)
 }
 
-fn show_clear(m: SymbolClear) {
-    also_two(m.nanos, m.symbol);
+fn show_clear(rt: &impl Print, m: SymbolClear) -> io::Result<()> {
+    also_two(rt, m.nanos, m.symbol)
 }
 
-fn show_add(m: AddOrder) {
-    also_two(m.nanos, m.symbol);
-    also(m.order);
-    also(m.side as u64);
-    also_deal(m.price, m.size);
-    also(m.attributable as u64);
+fn show_add(rt: &impl Print, m: AddOrder) -> io::Result<()> {
+    also_two(rt, m.nanos, m.symbol)?;
+    also(rt, m.order)?;
+    also(rt, m.side as u64)?;
+    also_deal(rt, m.price, m.size)?;
+    also(rt, m.attributable as u64)
 }
 
-fn show_modify(m: ModifyOrder) {
-    also_two(m.nanos, m.symbol);
-    also(m.order);
-    also_deal(m.price, m.size);
-    also(m.flags as u64);
+fn show_modify(rt: &impl Print, m: ModifyOrder) -> io::Result<()> {
+    also_two(rt, m.nanos, m.symbol)?;
+    also(rt, m.order)?;
+    also_deal(rt, m.price, m.size)?;
+    also(rt, m.flags as u64)
 }
 
-fn show_delete(m: DeleteOrder) {
-    also_two(m.nanos, m.symbol);
-    also(m.order);
+fn show_delete(rt: &impl Print, m: DeleteOrder) -> io::Result<()> {
+    also_two(rt, m.nanos, m.symbol)?;
+    also(rt, m.order)
 }
 
-fn show_execution(m: OrderExecution) {
-    also_two(m.nanos, m.symbol);
-    also(m.order);
-    also(m.trade);
-    also_deal(m.price, m.size);
-    also(m.flags as u64);
+fn show_execution(rt: &impl Print, m: OrderExecution) -> io::Result<()> {
+    also_two(rt, m.nanos, m.symbol)?;
+    also(rt, m.order)?;
+    also(rt, m.trade)?;
+    also_deal(rt, m.price, m.size)?;
+    also(rt, m.flags as u64)
 }
 
-fn show_trade(m: Trade) {
-    also_two(m.nanos, m.symbol);
-    also(m.trade);
-    also(m.correction as u64);
-    also_deal(m.price, m.size);
-    also(m.flags as u64);
+fn show_trade(rt: &impl Print, m: Trade) -> io::Result<()> {
+    also_two(rt, m.nanos, m.symbol)?;
+    also(rt, m.trade)?;
+    also(rt, m.correction as u64)?;
+    also_deal(rt, m.price, m.size)?;
+    also(rt, m.flags as u64)
 }
 
-fn show_cancel(m: TradeCancel) {
-    also_two(m.nanos, m.symbol);
-    also(m.trade);
-    also(m.correction as u64);
-    also_deal(m.price, m.size);
+fn show_cancel(rt: &impl Print, m: TradeCancel) -> io::Result<()> {
+    also_two(rt, m.nanos, m.symbol)?;
+    also(rt, m.trade)?;
+    also(rt, m.correction as u64)?;
+    also_deal(rt, m.price, m.size)
 }

@@ -1,11 +1,13 @@
 // Plays a recording from standard input packet by packet, prints each answer, and then the tables and the views: what the second
-// program prints of the same recording (second/src/bin/answers.rs).
+// program prints of the same recording (second/src/bin/answers.rs). A failed read or write ends it.
 #![tactic(auto)]
 
 use editions::Edition;
-use libc::{STDERR_FILENO, STDIN_FILENO, STDOUT_FILENO};
 use receiver::{Account, Received, Started, State};
 use rows::Row;
+use std::env::Env;
+use std::io;
+use std::io::Read;
 use views::{LadderAnswer, Side, SpreadAnswer};
 use words::Named;
 
@@ -20,7 +22,7 @@ const LEVELS: usize = 3 * facts::SHEET_ROWS;
 // The longest packet that a two-byte length can announce.
 const LONGEST: usize = 65535;
 
-fn main() {
+fn main(rt: HostRuntime) -> io::Result<()> {
     let mut orders = [0u64; ORDERS];
     let mut symbols = [0u8; SYMBOLS];
     let mut shelf = [0u8; facts::SHELF_SIZE];
@@ -28,44 +30,44 @@ fn main() {
     let mut held = [0u8; LONGEST];
     let mut levels = [0u64; LEVELS];
     answer(
+        &rt,
         &mut orders,
         &mut symbols,
         &mut shelf,
         &mut index,
         &mut held,
         &mut levels,
-    );
+    )
 }
 
 // The edition that the words ask for.
-fn edition_asked() -> Named {
+fn edition_asked(rt: &impl Env) -> Named {
     let mut first = [0u8; 16];
     let mut second = [0u8; 16];
-    let n = os::arg(1, &mut first);
-    let m = os::arg(2, &mut second);
-    words::edition_asked(os::arg_count(), &first[..n], &second[..m])
+    let n = streams::word(rt, 1, &mut first);
+    let m = streams::word(rt, 2, &mut second);
+    words::edition_asked(streams::word_count(rt), &first[..n], &second[..m])
 }
 
 fn answer(
+    rt: &(impl Env + Input + Print + Eprint),
     orders: &mut [u64],
     symbols: &mut [u8],
     shelf: &mut [u8],
     index: &mut [u64],
     held: &mut [u8],
     levels: &mut [u64],
-) {
-    match edition_asked() {
-        Named::Known(e) => play(e, orders, symbols, shelf, index, held, levels),
-        Named::Unknown => {
-            io::write_all(
-                STDERR_FILENO,
-                b"rimeheath: answers takes no word but --edition with 1.3, 1.3.a or 1.3.b; the recording comes on standard input\n",
-            );
-        }
+) -> io::Result<()> {
+    match edition_asked(rt) {
+        Named::Known(e) => play(rt, e, orders, symbols, shelf, index, held, levels),
+        Named::Unknown => rt.eprintln(
+            "rimeheath: answers takes no word but --edition with 1.3, 1.3.a or 1.3.b; the recording comes on standard input",
+        ),
     }
 }
 
 fn play(
+    rt: &(impl Input + Print),
     e: Edition,
     orders: &mut [u64],
     symbols: &mut [u8],
@@ -73,58 +75,61 @@ fn play(
     index: &mut [u64],
     held: &mut [u8],
     levels: &mut [u64],
-) {
+) -> io::Result<()> {
     match receiver::start(e, orders, symbols, shelf, index) {
-        Started::Refused(_) => {
-            io::write_all(STDOUT_FILENO, b"refused\n");
-        }
+        Started::Refused(_) => rt.println("refused"),
         Started::Ready(s) => {
-            let end = read_all(orders, symbols, shelf, index, held, s);
-            show_tables(orders, symbols, levels, end);
+            let end = read_all(rt, &mut rt.reader(), orders, symbols, shelf, index, held, s)?;
+            show_tables(rt, orders, symbols, levels, end)
         }
     }
 }
 
+// A proved loop has to end, so it counts its packets up to a number that no recording reaches.
 fn read_all(
+    rt: &impl Print,
+    from: &mut impl Read,
     orders: &mut [u64],
     symbols: &mut [u8],
     shelf: &mut [u8],
     index: &mut [u64],
     held: &mut [u8],
     start: State,
-) -> State {
+) -> io::Result<State> {
     let mut s = start;
-    let mut turns = u64::MAX;
-    while 0 < turns {
-        let n = read_packet(held);
-        if held.len() < n {
-            return s;
+    for _ in 0..u64::MAX {
+        match read_packet(from, held)? {
+            Some(n) => s = give(rt, orders, symbols, shelf, index, held, n, s)?,
+            None => break,
         }
-        s = give(orders, symbols, shelf, index, held, n, s);
-        turns = turns - 1;
     }
-    s
+    Ok(s)
 }
 
-// The length of the packet that was read into held; more than held has at the end of the input.
-fn read_packet(held: &mut [u8]) -> usize {
+// The length of the packet that was read into held; none at the end of the input.
+fn read_packet(from: &mut impl Read, held: &mut [u8]) -> io::Result<Option<usize>> {
     let mut length = [0u8; 2];
-    if io::read_full(STDIN_FILENO, &mut length) < 2 {
-        return usize::MAX;
+    if streams::read_full(from, &mut length)? < 2 {
+        return Ok(None);
     }
     let n = wire::u16_at(&length, 0) as usize;
-    if fill(held, n) { n } else { usize::MAX }
+    if fill(from, held, n)? {
+        Ok(Some(n))
+    } else {
+        Ok(None)
+    }
 }
 
-fn fill(held: &mut [u8], n: usize) -> bool {
+fn fill(from: &mut impl Read, held: &mut [u8], n: usize) -> io::Result<bool> {
     if held.len() < n {
-        return false;
+        return Ok(false);
     }
-    io::read_full(STDIN_FILENO, &mut held[..n]) == n
+    Ok(streams::read_full(from, &mut held[..n])? == n)
 }
 
 // One packet to the receiver; its answer on a line.
 fn give(
+    rt: &impl Print,
     orders: &mut [u64],
     symbols: &mut [u8],
     shelf: &mut [u8],
@@ -132,129 +137,146 @@ fn give(
     held: &[u8],
     n: usize,
     s: State,
-) -> State {
+) -> io::Result<State> {
     if held.len() < n {
-        return s;
+        return Ok(s);
     }
     let r = receiver::receive(orders, symbols, shelf, index, s, &held[..n]);
-    let a = r.answer;
-    let after = r.state;
+    show_answer(rt, r.answer)?;
+    Ok(r.state)
+}
+
+fn show_answer(rt: &impl Print, a: Received) -> io::Result<()> {
     match a {
         Received::Refused(r) => {
-            io::write_all(STDOUT_FILENO, b"refused");
-            also(r.number as u64);
-            end_line();
+            rt.print("refused")?;
+            also(rt, r.number as u64)?;
+            end_line(rt)
         }
         Received::Bad(f) => {
-            io::write_all(STDOUT_FILENO, b"refused");
-            also(f.number as u64);
-            io::write_all(STDOUT_FILENO, b" at");
-            also(f.at as u64);
-            end_line();
+            rt.print("refused")?;
+            also(rt, f.number as u64)?;
+            rt.print(" at")?;
+            also(rt, f.at as u64)?;
+            end_line(rt)
         }
-        Received::Accepted(t) => show_account(t),
+        Received::Accepted(t) => show_account(rt, t),
     }
-    after
 }
 
-fn show_account(a: Account) {
+fn show_account(rt: &impl Print, a: Account) -> io::Result<()> {
     let t = a.counts;
-    io::print_decimal(STDOUT_FILENO, t.taken);
-    also(t.old);
-    also(t.far);
-    also(t.repeated);
-    also(t.differing);
-    also(a.next);
-    also(a.applied);
-    also(a.highest);
-    also(a.stop as u64);
-    end_line();
+    rt.print(t.taken)?;
+    also(rt, t.old)?;
+    also(rt, t.far)?;
+    also(rt, t.repeated)?;
+    also(rt, t.differing)?;
+    also(rt, a.next)?;
+    also(rt, a.applied)?;
+    also(rt, a.highest)?;
+    also(rt, a.stop as u64)?;
+    end_line(rt)
 }
 
-fn show_tables(orders: &[u64], symbols: &[u8], levels: &mut [u64], end: State) {
-    io::write_all(STDOUT_FILENO, b"second");
+fn show_tables(
+    rt: &impl Print,
+    orders: &[u64],
+    symbols: &[u8],
+    levels: &mut [u64],
+    end: State,
+) -> io::Result<()> {
+    rt.print("second")?;
     let clock = end.clock;
-    also(clock.second as u64);
-    end_line();
-    show_rows(orders);
-    show_entries(symbols);
-    show_views(orders, symbols, levels);
+    also(rt, clock.second as u64)?;
+    end_line(rt)?;
+    show_rows(rt, orders)?;
+    show_entries(rt, symbols)?;
+    show_views(rt, orders, symbols, levels)
 }
 
-fn show_rows(orders: &[u64]) {
-    let n = rows::row_count(orders);
-    let mut i = 0;
-    while i < n {
-        show_row(i, rows::row_at(orders, i));
-        i = i + 1;
+fn show_rows(rt: &impl Print, orders: &[u64]) -> io::Result<()> {
+    for i in 0..rows::row_count(orders) {
+        show_row(rt, i, rows::row_at(orders, i))?;
     }
+    Ok(())
 }
 
-fn show_row(i: usize, r: Row) {
+fn show_row(rt: &impl Print, i: usize, r: Row) -> io::Result<()> {
     if rows::is_free(r) {
-        return;
+        return Ok(());
     }
-    io::write_all(STDOUT_FILENO, b"row");
-    also(i as u64);
-    also(r.order);
-    also(r.key);
-    also(r.price);
-    also(r.size);
-    also(r.rank);
-    end_line();
+    rt.print("row")?;
+    also(rt, i as u64)?;
+    also(rt, r.order)?;
+    also(rt, r.key)?;
+    also(rt, r.price)?;
+    also(rt, r.size)?;
+    also(rt, r.rank)?;
+    end_line(rt)
 }
 
-fn show_entries(symbols: &[u8]) {
-    let n = symbols::entry_count(symbols);
-    let mut i = 0;
-    while i < n {
-        show_entry(i, symbols::entry_bytes(symbols, i));
-        i = i + 1;
+fn show_entries(rt: &impl Print, symbols: &[u8]) -> io::Result<()> {
+    for i in 0..symbols::entry_count(symbols) {
+        show_entry(rt, i, symbols::entry_bytes(symbols, i))?;
     }
+    Ok(())
 }
 
-fn show_entry(i: usize, e: &[u8]) {
+fn show_entry(rt: &impl Print, i: usize, e: &[u8]) -> io::Result<()> {
     if wire::u8_at(e, 0) == 0 {
-        return;
+        return Ok(());
     }
-    io::write_all(STDOUT_FILENO, b"entry");
-    also(i as u64);
-    let mut k = 0;
-    while k < e.len() {
-        also(wire::u8_at(e, k) as u64);
-        k = k + 1;
+    rt.print("entry")?;
+    also(rt, i as u64)?;
+    for x in e {
+        also(rt, *x as u64)?;
     }
-    end_line();
+    end_line(rt)
 }
 
-fn show_views(orders: &[u64], symbols: &[u8], levels: &mut [u64]) {
-    let n = symbols::entry_count(symbols);
-    let mut i = 0;
-    while i < n {
-        show_used(orders, symbols, levels, i);
-        i = i + 1;
+fn show_views(
+    rt: &impl Print,
+    orders: &[u64],
+    symbols: &[u8],
+    levels: &mut [u64],
+) -> io::Result<()> {
+    for i in 0..symbols::entry_count(symbols) {
+        show_used(rt, orders, symbols, levels, i)?;
     }
+    Ok(())
 }
 
-fn show_used(orders: &[u64], symbols: &[u8], levels: &mut [u64], i: usize) {
+fn show_used(
+    rt: &impl Print,
+    orders: &[u64],
+    symbols: &[u8],
+    levels: &mut [u64],
+    i: usize,
+) -> io::Result<()> {
     if !symbols::is_used_at(symbols, i) {
-        return;
+        return Ok(());
     }
     let e = symbols::entry_at(symbols, i);
-    show_symbol(orders, symbols, levels, e.id);
+    show_symbol(rt, orders, symbols, levels, e.id)
 }
 
-fn show_symbol(orders: &[u64], symbols: &[u8], levels: &mut [u64], id: u32) {
-    io::write_all(STDOUT_FILENO, b"symbol");
-    also(id as u64);
+fn show_symbol(
+    rt: &impl Print,
+    orders: &[u64],
+    symbols: &[u8],
+    levels: &mut [u64],
+    id: u32,
+) -> io::Result<()> {
+    rt.print("symbol")?;
+    also(rt, id as u64)?;
     let bids = levels_of(orders, symbols, levels, id, Side::Buy);
-    also(bids as u64);
+    also(rt, bids as u64)?;
     let asks = levels_of(orders, symbols, levels, id, Side::Sell);
-    also(asks as u64);
-    show_spread(views::spread(orders, symbols, id));
-    end_line();
-    show_side(orders, symbols, levels, id, Side::Buy, b"bid");
-    show_side(orders, symbols, levels, id, Side::Sell, b"ask");
+    also(rt, asks as u64)?;
+    show_spread(rt, views::spread(orders, symbols, id))?;
+    end_line(rt)?;
+    show_side(rt, orders, symbols, levels, id, Side::Buy, "bid")?;
+    show_side(rt, orders, symbols, levels, id, Side::Sell, "ask")
 }
 
 fn levels_of(orders: &[u64], symbols: &[u8], levels: &mut [u64], id: u32, side: Side) -> usize {
@@ -264,52 +286,50 @@ fn levels_of(orders: &[u64], symbols: &[u8], levels: &mut [u64], id: u32, side: 
     }
 }
 
-fn show_spread(s: SpreadAnswer) {
+fn show_spread(rt: &impl Print, s: SpreadAnswer) -> io::Result<()> {
     match s {
-        SpreadAnswer::Of(z) => show_signed(z),
-        SpreadAnswer::Empty => {
-            io::write_all(STDOUT_FILENO, b" none");
-        }
-        SpreadAnswer::Refused(_) => {
-            io::write_all(STDOUT_FILENO, b" refused");
-        }
+        SpreadAnswer::Of(z) => show_signed(rt, z),
+        SpreadAnswer::Empty => rt.print(" none"),
+        SpreadAnswer::Refused(_) => rt.print(" refused"),
     }
 }
 
-fn show_signed(z: i64) {
+fn show_signed(rt: &impl Print, z: i64) -> io::Result<()> {
     let mut t = [0u8; 24];
     let n = text::signed(&mut t, 0, z);
-    io::write_all(STDOUT_FILENO, b" ");
-    io::write_all(STDOUT_FILENO, text::front(&t, n));
+    rt.print(" ")?;
+    rt.write_all(text::front(&t, n))
 }
 
-fn show_side(orders: &[u64], symbols: &[u8], levels: &mut [u64], id: u32, side: Side, key: &[u8]) {
+fn show_side(
+    rt: &impl Print,
+    orders: &[u64],
+    symbols: &[u8],
+    levels: &mut [u64],
+    id: u32,
+    side: Side,
+    key: &str,
+) -> io::Result<()> {
     let n = levels_of(orders, symbols, levels, id, side);
-    show_levels(levels, n, key);
+    show_levels(rt, levels, n, key)
 }
 
-fn show_levels(levels: &[u64], n: usize, key: &[u8]) {
-    let all = levels.len() / 3;
-    let mut i = 0;
-    while i < all {
-        if n <= i {
-            return;
-        }
-        io::write_all(STDOUT_FILENO, key);
+fn show_levels(rt: &impl Print, levels: &[u64], n: usize, key: &str) -> io::Result<()> {
+    for i in 0..n.min(levels.len() / 3) {
+        rt.print(key)?;
         let b = 3 * i;
-        also(levels[b]);
-        also(levels[b + 1]);
-        also(levels[b + 2]);
-        end_line();
-        i = i + 1;
+        also(rt, levels[b])?;
+        also(rt, levels[b + 1])?;
+        also(rt, levels[b + 2])?;
+        end_line(rt)?;
     }
+    Ok(())
 }
 
-fn also(n: u64) {
-    io::write_all(STDOUT_FILENO, b" ");
-    io::print_decimal(STDOUT_FILENO, n);
+fn also(rt: &impl Print, n: u64) -> io::Result<()> {
+    print!(rt; " {n}")
 }
 
-fn end_line() {
-    io::write_all(STDOUT_FILENO, b"\n");
+fn end_line(rt: &impl Print) -> io::Result<()> {
+    rt.print("\n")
 }

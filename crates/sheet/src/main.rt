@@ -4,9 +4,11 @@
 
 use answer_sheet::{Recording, SheetAnswer};
 use editions::Edition;
-use libc::{STDERR_FILENO, STDIN_FILENO, STDOUT_FILENO};
 use receiver::{Started, State};
 use recording::{Fed, Stream};
+use std::env::Env;
+use std::io;
+use std::io::{ErrorKind, Read};
 use words::Named;
 
 // "It uses full capacities"; of rows "the sheet program keeps 1,600" (document 02, No. 9)
@@ -31,12 +33,12 @@ pub enum Task {
 pub enum Outcome {
     More(Stream),
     End(Stream),
-    Failed,
+    Failed(io::Error),
     Refused,
 }
 
 // Each array is lent once, and no element of one is read or stored here.
-fn main() {
+fn main(rt: HostRuntime) {
     let mut orders = [0u64; ORDERS];
     let mut symbols = [0u8; SYMBOLS];
     let mut shelf = [0u8; facts::SHELF_SIZE];
@@ -45,6 +47,7 @@ fn main() {
     let mut block = [0u8; BLOCK];
     let mut text = [0u8; answer_sheet::SHEET_MOST];
     lend(
+        &rt,
         &mut orders,
         &mut symbols,
         &mut shelf,
@@ -57,6 +60,7 @@ fn main() {
 
 // The arrays become slices here: at an array's reference no length is asked, however long it is.
 fn lend(
+    rt: &(impl Env + Input + Print + Eprint),
     orders: &mut [u64; ORDERS],
     symbols: &mut [u8; SYMBOLS],
     shelf: &mut [u8; facts::SHELF_SIZE],
@@ -65,10 +69,11 @@ fn lend(
     block: &mut [u8; BLOCK],
     text: &mut [u8; answer_sheet::SHEET_MOST],
 ) {
-    answer(orders, symbols, shelf, index, hold, block, text);
+    answer(rt, orders, symbols, shelf, index, hold, block, text);
 }
 
 fn answer(
+    rt: &(impl Env + Input + Print + Eprint),
     orders: &mut [u64],
     symbols: &mut [u8],
     shelf: &mut [u8],
@@ -77,74 +82,79 @@ fn answer(
     block: &mut [u8],
     text: &mut [u8],
 ) {
-    match task_asked() {
-        Task::Help => help(),
-        Task::Version => say(
-            STDOUT_FILENO,
-            b"rimeheath 1.0, for DoM 1.3, 1.3.a and 1.3.b\n",
+    match task_asked(rt) {
+        Task::Help => help(rt),
+        Task::Version => say(rt, "rimeheath 1.0, for DoM 1.3, 1.3.a and 1.3.b\n"),
+        Task::Unknown => tell(
+            rt,
+            "sheet takes no word but --help, --version, and --edition with 1.3, 1.3.a or 1.3.b; the recording comes on standard input",
         ),
-        Task::Unknown => say(
-            STDERR_FILENO,
-            b"rimeheath: sheet takes no word but --help, --version, and --edition with 1.3, 1.3.a or 1.3.b; the recording comes on standard input\n",
-        ),
-        Task::Sheet(e) => work(e, orders, symbols, shelf, index, hold, block, text),
+        Task::Sheet(e) => work(rt, e, orders, symbols, shelf, index, hold, block, text),
     }
 }
 
-fn say(fd: i32, words: &[u8]) {
-    io::write_all(fd, words);
+// Words on standard output. Where they cannot be written, nobody reads them.
+fn say(rt: &impl Print, words: &str) {
+    let _ = rt.print(words);
 }
 
-fn help() {
+// A line on standard error, which is the last place where anything could be told.
+fn tell(rt: &impl Eprint, words: &str) {
+    let _ = eprintln!(rt; "rimeheath: {words}");
+}
+
+// What the system refused, and why.
+fn fail(rt: &impl Eprint, what: &str, e: io::Error) {
+    let _ = eprintln!(rt; "rimeheath: {what}: {e}");
+}
+
+fn help(rt: &impl Print) {
     say(
-        STDOUT_FILENO,
-        b"Reads a recording from standard input, packets each behind a 2-byte length,\n",
+        rt,
+        "Reads a recording from standard input, packets each behind a 2-byte length,\n",
     );
     say(
-        STDOUT_FILENO,
-        b"and prints the order book that it leaves as an answer sheet.\n",
+        rt,
+        "and prints the order book that it leaves as an answer sheet.\n",
     );
     say(
-        STDOUT_FILENO,
-        b"  --edition  names its edition: 1.3, where byte 20 of a Symbol Update is its\n",
+        rt,
+        "  --edition  names its edition: 1.3, where byte 20 of a Symbol Update is its\n",
     );
     say(
-        STDOUT_FILENO,
-        b"             type, or 1.3.a or 1.3.b, where it is reserved; 1.3.b if not named\n",
+        rt,
+        "             type, or 1.3.a or 1.3.b, where it is reserved; 1.3.b if not named\n",
     );
     say(
-        STDOUT_FILENO,
-        b"  --help     prints this\n  --version  prints the program's version\n",
+        rt,
+        "  --help     prints this\n  --version  prints the program's version\n",
     );
 }
 
 // The edition that the words ask for.
-fn edition_asked() -> Named {
+fn edition_asked(rt: &impl Env) -> Named {
     let mut first = [0u8; 16];
     let mut second = [0u8; 16];
-    let n = os::arg(1, &mut first);
-    let m = os::arg(2, &mut second);
-    words::edition_asked(os::arg_count(), &first[..n], &second[..m])
+    let n = streams::word(rt, 1, &mut first);
+    let m = streams::word(rt, 2, &mut second);
+    words::edition_asked(streams::word_count(rt), &first[..n], &second[..m])
 }
 
 // A sheet, in the edition that the words ask for; or one word alone.
-fn task_asked() -> Task {
-    match edition_asked() {
+fn task_asked(rt: &impl Env) -> Task {
+    match edition_asked(rt) {
         Named::Known(e) => Task::Sheet(e),
-        Named::Unknown => word_alone(),
+        Named::Unknown => word_alone(rt),
     }
 }
 
-// One word is understood; a second makes both unknown.
-fn word_alone() -> Task {
-    if 2 < os::arg_count() {
+// One word is understood; a second makes both unknown. One that is too long for the array comes as an empty one, and is unknown like that.
+fn word_alone(rt: &impl Env) -> Task {
+    if 2 < streams::word_count(rt) {
         return Task::Unknown;
     }
     let mut word = [0u8; 16];
-    let n = os::arg(1, &mut word);
-    if os::errno() != 0 {
-        return Task::Unknown;
-    }
+    let n = streams::word(rt, 1, &mut word);
     if check::same(&word[..n], b"--help") {
         return Task::Help;
     }
@@ -155,6 +165,7 @@ fn word_alone() -> Task {
 }
 
 fn work(
+    rt: &(impl Input + Print + Eprint),
     e: Edition,
     orders: &mut [u64],
     symbols: &mut [u8],
@@ -165,12 +176,13 @@ fn work(
     text: &mut [u8],
 ) {
     match receiver::start(e, orders, symbols, shelf, index) {
-        Started::Refused(_) => refused(),
-        Started::Ready(s) => follow(orders, symbols, shelf, index, hold, block, s, text),
+        Started::Refused(_) => refused(rt),
+        Started::Ready(s) => follow(rt, orders, symbols, shelf, index, hold, block, s, text),
     }
 }
 
 fn follow(
+    rt: &(impl Input + Print + Eprint),
     orders: &mut [u64],
     symbols: &mut [u8],
     shelf: &mut [u8],
@@ -181,6 +193,7 @@ fn follow(
     text: &mut [u8],
 ) {
     let end = read_all(
+        &mut rt.reader(),
         orders,
         symbols,
         shelf,
@@ -189,25 +202,32 @@ fn follow(
         block,
         recording::open(s),
     );
-    finish(orders, symbols, text, end);
+    finish(rt, orders, symbols, text, end);
 }
 
-fn finish(orders: &[u64], symbols: &[u8], text: &mut [u8], end: Outcome) {
+fn finish(
+    rt: &(impl Print + Eprint),
+    orders: &[u64],
+    symbols: &[u8],
+    text: &mut [u8],
+    end: Outcome,
+) {
     match end {
-        Outcome::End(t) => print(orders, symbols, text, t),
-        Outcome::More(_) => refused(),
-        Outcome::Failed => os::fail(b"rimeheath: standard input"),
-        Outcome::Refused => refused(),
+        Outcome::End(t) => print(rt, orders, symbols, text, t),
+        Outcome::More(_) => refused(rt),
+        Outcome::Failed(e) => fail(rt, "standard input", e),
+        Outcome::Refused => refused(rt),
     }
 }
 
 // Never reached with this program's tables; said rather than a wrong sheet printed.
-fn refused() {
-    say(STDERR_FILENO, b"rimeheath: the tables were refused\n");
+fn refused(rt: &impl Eprint) {
+    tell(rt, "the tables were refused");
 }
 
 // A proved loop has to end, so it counts its blocks up to a number that no recording reaches.
 fn read_all(
+    from: &mut impl Read,
     orders: &mut [u64],
     symbols: &mut [u8],
     shelf: &mut [u8],
@@ -217,20 +237,19 @@ fn read_all(
     start: Stream,
 ) -> Outcome {
     let mut s = start;
-    let mut blocks: u64 = 0;
-    while blocks < u64::MAX {
-        let t = turn(orders, symbols, shelf, index, hold, block, s);
+    for _ in 0..u64::MAX {
+        let t = turn(from, orders, symbols, shelf, index, hold, block, s);
         let Outcome::More(next) = t else {
             return t;
         };
         s = next;
-        blocks = blocks + 1;
     }
     Outcome::More(s)
 }
 
 // Reads once and feeds what came. A read that a signal broke off is tried again.
 fn turn(
+    from: &mut impl Read,
     orders: &mut [u64],
     symbols: &mut [u8],
     shelf: &mut [u8],
@@ -239,19 +258,17 @@ fn turn(
     block: &mut [u8],
     s: Stream,
 ) -> Outcome {
-    let got = libc::read(STDIN_FILENO, block);
-    if got < 0 {
-        return if os::errno() == libc::EINTR {
-            Outcome::More(s)
-        } else {
-            Outcome::Failed
-        };
+    match from.read(block) {
+        Ok(0) => Outcome::End(s),
+        Ok(n) => told(recording::feed(orders, symbols, shelf, index, hold, s, &block[..n])),
+        Err(e) => {
+            if e.kind() == ErrorKind::Interrupted {
+                Outcome::More(s)
+            } else {
+                Outcome::Failed(e)
+            }
+        }
     }
-    if got == 0 {
-        return Outcome::End(s);
-    }
-    let n = io::count(got, block);
-    told(recording::feed(orders, symbols, shelf, index, hold, s, &block[..n]))
 }
 
 // What a block came to.
@@ -262,7 +279,7 @@ fn told(f: Fed) -> Outcome {
     }
 }
 
-fn print(orders: &[u64], symbols: &[u8], text: &mut [u8], s: Stream) {
+fn print(rt: &(impl Print + Eprint), orders: &[u64], symbols: &[u8], text: &mut [u8], s: Stream) {
     let word = if recording::is_cut(s) {
         Recording::Cut
     } else {
@@ -270,13 +287,13 @@ fn print(orders: &[u64], symbols: &[u8], text: &mut [u8], s: Stream) {
     };
     let state = s.receiver;
     match answer_sheet::sheet(text, orders, symbols, state, s.bad, word) {
-        SheetAnswer::Length(n) => show(text, n),
-        SheetAnswer::Refused(_) => refused(),
+        SheetAnswer::Length(n) => show(rt, text, n),
+        SheetAnswer::Refused(_) => refused(rt),
     }
 }
 
-fn show(text: &[u8], n: usize) {
-    if !io::write_all(STDOUT_FILENO, text::front(text, n)) {
-        os::fail(b"rimeheath: standard output");
+fn show(rt: &(impl Print + Eprint), text: &[u8], n: usize) {
+    if let Err(e) = rt.write_all(text::front(text, n)) {
+        fail(rt, "standard output", e);
     }
 }

@@ -1,9 +1,7 @@
 -- The part of n bytes lies in the buffer, by the test before it.
--- Assumes nothing.
 use mathlib.Core.Path.{sym}
 use lib.Seq.{length-take-le}
-use borrow.Author.Rules.{rules}
 use Rattle.reading.proofs.show_first.Goals as goal
 
 pub slice_bounds-show_packet-end : goal.slice_bounds-show_packet-end
-slice_bounds-show_packet-end c = sym (length-take-le c.args.n c.args.held.now c.if-held-n.false)
+slice_bounds-show_packet-end g c = sym (length-take-le c.args.n c.args.held.now c.if-held-n.false)

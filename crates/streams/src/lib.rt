@@ -1,0 +1,184 @@
+// What the programs take in: blocks of a reader, and the words that they were started with.
+#![tactic(auto)]
+
+ghost use Rattle.std.specs.Prelude.{◌≡◌, ◌≢◌, ℕ, List, ◌+◌, ◌<◌, ◌≤◌, length, take, drop, IfOk, OnErr};
+ghost use Rattle.std.specs.Io.{ReadsAtMost};
+ghost use Rattle.std.specs.Io.KnownBytes.{Consumes, IsAtEnd, Keeps, ReadConsumes};
+
+use std::env::{Env, FillError};
+use std::io;
+use std::io::{ErrorKind, Read};
+
+// One read, tried again where a signal broke it off. It puts the bytes at the start of buf and returns how many they are; none only at the
+// end of the input or where buf has no room. A read that fails takes no byte.
+pub fn read_once<R: Read>(from: &mut R, buf: &mut [u8]) -> io::Result<usize>
+    ensures bound { ReadsAtMost result buf.new }
+    ensures bytes { ReadConsumes (R.remaining from.old) (R.remaining from.new) result buf.new }
+{
+    for _ in 0..u64::MAX {
+        match from.read(buf) {
+            Ok(n) => return Ok(n),
+            Err(e) => {
+                if e.kind() != ErrorKind::Interrupted {
+                    return Err(e);
+                }
+            }
+        }
+    }
+    from.read(buf)
+}
+
+// Reads until buf is full or the input ends, and returns how many bytes it put at the start of buf: fewer than it has room for only at the
+// end of the input. Where a read fails, the bytes before it are lost.
+pub fn read_full<R: Read>(from: &mut R, buf: &mut [u8]) -> io::Result<usize>
+    ensures bound { ReadsAtMost result buf.new }
+    ensures bytes { IfOk result (λ n. Consumes (R.remaining from.old) (R.remaining from.new) (take n buf.new)) }
+    ensures end { IfOk result (λ n. n < length buf.new → IsAtEnd (R.remaining from.new)) }
+    ensures lost { OnErr result ((bs : List ℕ) × Consumes (R.remaining from.old) (R.remaining from.new) bs) }
+{
+    let mut done = 0;
+    while done < buf.len() {
+        let n = read_behind(from, buf, done)?;
+        if n == 0 {
+            return Ok(done);
+        }
+        done += n;
+    }
+    Ok(done)
+}
+
+// One read, behind the first `done` bytes of buf, which stay.
+fn read_behind<R: Read>(from: &mut R, buf: &mut [u8], done: usize) -> io::Result<usize>
+    requires { done < length buf.old }
+    ensures front { take done buf.new ≡ take done buf.old }
+    ensures fits { IfOk result (λ n. done + n ≤ length buf.new) }
+    ensures bytes { IfOk result (λ n. Consumes (R.remaining from.old) (R.remaining from.new) (take n (drop done buf.new))) }
+    ensures end { IfOk result (λ n. n ≡ 0 → IsAtEnd (R.remaining from.new)) }
+    ensures err { OnErr result (Keeps (R.remaining from.old) (R.remaining from.new)) }
+{
+    read_once(from, &mut buf[done..])
+}
+
+// How many words the program was started with, its own name among them.
+pub fn word_count(rt: &impl Env) -> usize {
+    for i in 0..usize::MAX {
+        if let Err(FillError::NotPresent) = rt.arg(i, &mut []) {
+            return i;
+        }
+    }
+    usize::MAX
+}
+
+// Puts word i at the start of buf and returns its length: 0 where there is no such word, and where it is longer than buf.
+pub fn word(rt: &impl Env, i: usize, buf: &mut [u8]) -> usize
+    ensures fits { result ≤ length buf.new }
+    ensures front { result ≡ length (take result buf.new) }
+{
+    match rt.arg(i, buf) {
+        Ok(n) => n,
+        Err(_) => 0,
+    }
+}
+
+#[cfg(test)]
+mod tests {
+    use super::*;
+    use std::io::Error;
+    use std::test::Fail;
+
+    // Gives one byte at a time, and a signal breaks off every other read. Then it ends, or it fails.
+    #[derive(Drop)]
+    struct Slow {
+        reads: u8,
+        left: u8,
+        fails: bool,
+    }
+
+    impl Read for Slow {
+        fn read(&mut self, buf: &mut [u8]) -> io::Result<usize> {
+            self.reads = self.reads.wrapping_add(1);
+            if self.reads % 2 == 1 {
+                return Err(Error::from(ErrorKind::Interrupted));
+            }
+            if self.left == 0 && self.fails {
+                return Err(Error::from(ErrorKind::BrokenPipe));
+            }
+            if self.left == 0 || buf.is_empty() {
+                return Ok(0);
+            }
+            buf[0] = self.left;
+            self.left -= 1;
+            Ok(1)
+        }
+    }
+
+    fn reader_of(left: u8, fails: bool) -> Slow {
+        Slow {
+            reads: 0,
+            left,
+            fails,
+        }
+    }
+
+    #[test]
+    fn reads_until_full(rt: HostRuntime) -> Result<(), Fail> {
+        let mut from = reader_of(5, false);
+        let mut buf = [0u8; 3];
+        assert_eq!(rt; read_full(&mut from, &mut buf)?, 3);
+        assert_eq!(rt; buf, [5, 4, 3]);
+        assert_eq!(rt; read_full(&mut from, &mut buf)?, 2);
+        assert_eq!(rt; buf, [2, 1, 3]);
+        assert_eq!(rt; read_full(&mut from, &mut buf)?, 0);
+        Ok(())
+    }
+
+    // A failure in mid-stream is told at that call, and is no end.
+    #[test]
+    fn tells_of_a_failure(rt: HostRuntime) {
+        let mut from = reader_of(2, true);
+        let mut buf = [0u8; 3];
+        match read_full(&mut from, &mut buf) {
+            Ok(_) => assert!(rt; false, "a failure was taken for the end"),
+            Err(e) => assert_eq!(rt; e.kind(), ErrorKind::BrokenPipe),
+        }
+        assert!(rt; read_once(&mut from, &mut buf).is_err());
+    }
+
+    // The words of a program: its name, an empty one and a long one.
+    struct Three;
+
+    impl Env for Three {
+        fn arg(&self, i: usize, buf: &mut [u8]) -> Result<usize, FillError> {
+            if i > 2 {
+                return Err(FillError::NotPresent);
+            }
+            if i == 1 {
+                return Ok(0);
+            }
+            if buf.len() < 4 {
+                return Err(FillError::TooLong);
+            }
+            buf[0] = b'n';
+            Ok(4)
+        }
+
+        fn var(&self, _name: &str, _buf: &mut [u8]) -> Result<usize, FillError> {
+            Err(FillError::NotPresent)
+        }
+
+        fn var_at(&self, _i: usize, _buf: &mut [u8]) -> Result<usize, FillError> {
+            Err(FillError::NotPresent)
+        }
+    }
+
+    #[test]
+    fn takes_words(rt: HostRuntime) {
+        let mut buf = [0u8; 5];
+        assert_eq!(rt; word_count(&Three), 3);
+        assert_eq!(rt; word(&Three, 0, &mut buf), 4);
+        assert_eq!(rt; word(&Three, 1, &mut buf), 0);
+        assert_eq!(rt; word(&Three, 3, &mut buf), 0);
+        let mut small = [0u8; 3];
+        assert_eq!(rt; word(&Three, 0, &mut small), 0);
+    }
+}
