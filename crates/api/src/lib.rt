@@ -50,8 +50,7 @@ fn state_numbers(s: State) -> [u64; 4]
 }
 
 // Starts a receiver of an edition: the tables are zeroed, the index is made if one is lent, and state becomes next 1, second 0, stop 0 and the edition's number.
-#[unsafe(no_mangle)]
-pub extern "C" fn rimeheath_start(
+pub fn rimeheath_start(
     edition: u64,
     orders: &mut [u64],
     symbols: &mut [u8],
@@ -111,8 +110,7 @@ fn with_offset(f: Fault) -> u32
 }
 
 // Gives a packet to a receiver: state and account become what they are after it.
-#[unsafe(no_mangle)]
-pub extern "C" fn rimeheath_receive(
+pub fn rimeheath_receive(
     orders: &mut [u64],
     symbols: &mut [u8],
     shelf: &mut [u8],
@@ -190,8 +188,7 @@ fn stream_numbers(k: Stream) -> [u64; 14]
 }
 
 // Opens a stream over a receiver, before the first chunk of a recording.
-#[unsafe(no_mangle)]
-pub extern "C" fn rimeheath_open(state: &[u64; 4], stream: &mut [u64; 14]) -> u8
+pub fn rimeheath_open(state: &[u64; 4], stream: &mut [u64; 14]) -> u8
     ensures { call result stream.new ≡ open_answer (opened (state_in state.now)) }
 {
     let k = recording::open(state_in(state));
@@ -200,8 +197,7 @@ pub extern "C" fn rimeheath_open(state: &[u64; 4], stream: &mut [u64; 14]) -> u8
 }
 
 // Gives the next chunk of a recording: the stream, the tables and the buffer become what they are after it.
-#[unsafe(no_mangle)]
-pub extern "C" fn rimeheath_feed(
+pub fn rimeheath_feed(
     orders: &mut [u64],
     symbols: &mut [u8],
     shelf: &mut [u8],
@@ -230,8 +226,7 @@ pub extern "C" fn rimeheath_feed(
 }
 
 // Whether a recording that ends here ends inside a length or packet.
-#[unsafe(no_mangle)]
-pub extern "C" fn rimeheath_cut(stream: &[u64; 14]) -> bool
+pub fn rimeheath_cut(stream: &[u64; 14]) -> bool
     ensures { result ≡ is_cut (stream_from stream.now) }
 {
     recording::is_cut(stream_from(stream))
@@ -244,8 +239,7 @@ fn side_asked(sell: bool) -> Side
 }
 
 // The ladder of a symbol and side: the levels that fit into the run, and the number of all.
-#[unsafe(no_mangle)]
-pub extern "C" fn rimeheath_ladder(
+pub fn rimeheath_ladder(
     orders: &[u64],
     symbols: &[u8],
     symbol: u32,
@@ -276,13 +270,7 @@ fn bits_of(n: i64) -> u64
 }
 
 // The spread of a symbol: 1 and the signed number as 64 bits, or two zeros where a side is empty.
-#[unsafe(no_mangle)]
-pub extern "C" fn rimeheath_spread(
-    orders: &[u64],
-    symbols: &[u8],
-    symbol: u32,
-    answer: &mut [u64; 2],
-) -> u8
+pub fn rimeheath_spread(orders: &[u64], symbols: &[u8], symbol: u32, answer: &mut [u64; 2]) -> u8
     ensures { call result answer.new ≡ spread_answer (spread_view symbol orders.now symbols.now) answer.old }
 {
     match views::spread(orders, symbols, symbol) {
@@ -299,8 +287,7 @@ pub extern "C" fn rimeheath_spread(
 }
 
 // Live orders and used entries.
-#[unsafe(no_mangle)]
-pub extern "C" fn rimeheath_counts(orders: &[u64], symbols: &[u8], counts: &mut [u64; 2]) -> u8
+pub fn rimeheath_counts(orders: &[u64], symbols: &[u8], counts: &mut [u64; 2]) -> u8
     ensures { call result counts.new ≡ counts_answer (counts_view orders.now symbols.now) counts.old }
 {
     match views::counts(orders, symbols) {
@@ -313,8 +300,7 @@ pub extern "C" fn rimeheath_counts(orders: &[u64], symbols: &[u8], counts: &mut 
 }
 
 // Judges a packet of an edition: the number of its records.
-#[unsafe(no_mangle)]
-pub extern "C" fn rimeheath_packet(edition: u64, p: &[u8], records: &mut [u64; 1]) -> u32
+pub fn rimeheath_packet(edition: u64, p: &[u8], records: &mut [u64; 1]) -> u32
     ensures { call result records.new ≡ packet_answer (read_packet (edition_of edition) p.now) records.old }
 {
     match packet::read_packet(editions::edition_of(edition), p) {
@@ -328,8 +314,7 @@ pub extern "C" fn rimeheath_packet(edition: u64, p: &[u8], records: &mut [u64; 1
 }
 
 // Judges the first record of what is left of a packet of an edition: its number, and the length of its body.
-#[unsafe(no_mangle)]
-pub extern "C" fn rimeheath_record(edition: u64, rest: &[u8], head: &mut [u64; 2]) -> u32
+pub fn rimeheath_record(edition: u64, rest: &[u8], head: &mut [u64; 2]) -> u32
     ensures { call result head.new ≡ record_answer (read_record (edition_of edition) rest.now) head.old }
 {
     match packet::read_record(editions::edition_of(edition), rest) {
@@ -342,13 +327,7 @@ pub extern "C" fn rimeheath_record(edition: u64, rest: &[u8], head: &mut [u64; 2
 }
 
 // Judges a body of an edition, and reads all fields of a good one: its numbers, of which the first is its type, and its text.
-#[unsafe(no_mangle)]
-pub extern "C" fn rimeheath_body(
-    edition: u64,
-    b: &[u8],
-    fields: &mut [u64; 8],
-    text: &mut [u8; 28],
-) -> u32
+pub fn rimeheath_body(edition: u64, b: &[u8], fields: &mut [u64; 8], text: &mut [u8; 28]) -> u32
     ensures { fill_call result fields.new text.new ≡ body_answer (edition_of edition) (judge_body (edition_of edition) b.now) (read_body (edition_of edition) b.now) b.now fields.old text.old }
 {
     let e = editions::edition_of(edition);
@@ -373,8 +352,7 @@ fn word_of(cut: bool) -> Recording
 }
 
 // The answer sheet, as far as the buffer reaches, and how long the whole of it is.
-#[unsafe(no_mangle)]
-pub extern "C" fn rimeheath_sheet(
+pub fn rimeheath_sheet(
     buf: &mut [u8],
     orders: &[u64],
     symbols: &[u8],
@@ -396,8 +374,7 @@ pub extern "C" fn rimeheath_sheet(
 }
 
 // Makes a packet of one edition one of another, in place: how many Symbol Updates it has.
-#[unsafe(no_mangle)]
-pub extern "C" fn rimeheath_convert(
+pub fn rimeheath_convert(
     from: u64,
     to: u64,
     kind: u8,
@@ -420,8 +397,7 @@ pub extern "C" fn rimeheath_convert(
 }
 
 // The same of the whole packets at the front of a piece of a recording: their bytes, and what was counted of them.
-#[unsafe(no_mangle)]
-pub extern "C" fn rimeheath_convert_piece(
+pub fn rimeheath_convert_piece(
     from: u64,
     to: u64,
     kind: u8,
@@ -458,8 +434,7 @@ fn length_told(w: Wrote, length: &mut [u64; 1]) -> u32
 }
 
 // Writes a record behind the packet so far, from the numbers and the text in which rimeheath_body gives a message: the packet's new length.
-#[unsafe(no_mangle)]
-pub extern "C" fn rimeheath_append(
+pub fn rimeheath_append(
     edition: u64,
     memory: &mut [u8],
     used: usize,
@@ -476,8 +451,7 @@ pub extern "C" fn rimeheath_append(
 }
 
 // Writes a packet, behind its length, behind the recording so far: the recording's new length.
-#[unsafe(no_mangle)]
-pub extern "C" fn rimeheath_append_packet(
+pub fn rimeheath_append_packet(
     edition: u64,
     memory: &mut [u8],
     used: usize,

@@ -3,11 +3,10 @@
 use mathlib.Core.Path.{◌≡◌, refl, sym, ap, ◌∙◌}
 use mathlib.Core.List.{List, [], ◌∷◌, ◌++◌, map, append_assoc}
 use Prim.Native.Nat.{ℕ, zero, suc, ◌+◌, ◌*◌, ◌/◌, ◌%◌, ◌-◌, ◌≤◌, ◌<◌}
-use native.Mathlib.Numerals.{add-one}
 use native.Mathlib.Nat.{mul-zero, mul-suc, zero-add, add-zero, mul-div_right, mul-div-le, mul-add-div, div-eq_of_lt, div-add-mod, mul-le-mul_left, le_of_suc-le-suc, not-suc-le-zero, le_trans}
 use native.Mathlib.Omega.{arith}
 use lib.ListN.{length, get_or, set, take, drop, replicate, length-append, length-take, length-drop, length-replicate, take-append-drop, get_or-replicate, replicate-append-replicate}
-use lib.Seq.{sets, take_all, take_at, drop_at, take-add, drop-drop, drop-cons, take-set-le, drop-set-lt, drop-set-add, get_or-take, get_or-drop, set_out, length-sets, sets-eq, ext_get_or}
+use lib.Seq.{sets, take_all, take_at, drop_at, take-add, drop-drop, take-set-le, drop-set-lt, drop-set-add, get_or-take, get_or-drop, set_out, length-sets, sets-eq, ext_get_or}
 use lib.Dec.{ltb}
 use borrow.Author.Tests.{lt-ltb, le-ltb, ltb-true, ltb-false}
 use Rattle.facts.specs.Pick.{pick}

@@ -1,8 +1,7 @@
 -- Each message's struct as the fields of its kind, both ways (docs/MESSAGES.md). `there` and `again` are checked here: no field is lost, none exchanged.
-use Rattle.std.specs.Prelude.{ℕ, refl, List}
+use Rattle.std.specs.Prelude.{ℕ, refl}
 use Rattle.kinds.specs.declared.Kind.{Kind}
 use Rattle.layout.specs.Message.{Message}
-use Rattle.fields.specs.declared.Symbol.{Symbol}
 use Rattle.fields.specs.declared.SymbolUpdate.{SymbolUpdate}
 use Rattle.fields.specs.declared.SystemState.{SystemState}
 use Rattle.fields.specs.declared.TradingStatus.{TradingStatus}

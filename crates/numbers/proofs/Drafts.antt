@@ -9,26 +9,25 @@ use native.Mathlib.Omega.{arith}
 use lib.Dec.{eqb}
 use lib.ListN.{length, get_or}
 use borrow.Author.Tests.{lt-ltb, ltb-true, eq-eqb, eqb-true, eqb-false}
-use Rattle.facts.specs.Limits.{entry_size}
 use Rattle.facts.specs.Pick.{pick, both}
-use Rattle.facts.proofs.Picks.{pick_cases, pick_map, both_true}
+use Rattle.facts.proofs.Picks.{pick_cases, both_true}
 use Rattle.editions.specs.declared.Edition.{Edition}
 use Rattle.wire.specs.Le.{field, padded, Bytes}
 use Rattle.wire.proofs.Laws.{length_padded, field_below}
 use Rattle.kinds.specs.Table.{table, lookup, length_of, kind_of, type_of, kind_length, refusal_of}
 use Rattle.kinds.specs.declared.Kind.{Kind}
-use Rattle.kinds.proofs.Laws.{Lengths, lengths, type_kind}
-use Rattle.layout.specs.Shape.{Shape, byte, number, text, width, Value, Values, Fits, AllFit, cut}
-use Rattle.layout.specs.Layout.{shapes, Fields, FieldsFit, fields_in, body_for}
-use Rattle.layout.proofs.Laws.{sized, length_body, fields_back, body_back}
-use Rattle.fields.specs.Fields.{bad_at, decoded, update_of, state_of}
-use Rattle.body.specs.Faults.{tests, fault_from, fault_of}
-use Rattle.body.specs.Read.{ranged, judge_body, judged_number, message, read_body, good_body}
+use Rattle.kinds.proofs.Laws.{type_kind}
+use Rattle.layout.specs.Shape.{Shape, byte, number, text, Values, AllFit, cut}
+use Rattle.layout.specs.Layout.{shapes, FieldsFit, fields_in, body_for}
+use Rattle.layout.proofs.Laws.{fields_back, body_back}
+use Rattle.fields.specs.Fields.{decoded}
+use Rattle.body.specs.Faults.{tests, fault_from}
+use Rattle.body.specs.Read.{judge_body, judged_number, message, read_body, good_body}
 use Rattle.body.specs.declared.Judged.{Judged}
-use Rattle.body.proofs.Laws.{Framed, JudgedAs, judge_sound, judge_number, judge_framed}
+use Rattle.body.proofs.Laws.{Framed, JudgedAs, judge_sound, judge_number}
 use Rattle.trips.proofs.Messages.{framed_written, judged_written}
 use Rattle.numbers.specs.Numbers.{fields_of, text_of}
-use Rattle.numbers.specs.Drafts.{fields_from, fits_in, fitting, draft_fits, draft_kind, body_from, draft_body, number_from, draft_number}
+use Rattle.numbers.specs.Drafts.{fields_from, fitting, draft_fits, draft_kind, body_from, draft_body, number_from, draft_number}
 use Rattle.numbers.specs.Back.{numbers_read, text_read, WrittenBack, ReadBack}
 use Rattle.numbers.proofs.Types.{type_first}
 use Rattle.numbers.proofs.Texts.{update_parts, last_back, version_back}

@@ -4,7 +4,7 @@ use Prim.Native.Nat.{ℕ, ◌%◌, ◌≤◌, ◌<◌}
 use mathlib.Core.Path.{◌≡◌, refl, sym, ap, subst, ◌∙◌}
 use mathlib.Core.Bool.{Bool, true, false, true≢false, ◌&&◌}
 use mathlib.Core.List.{List, [], ◌∷◌, ◌++◌}
-use mathlib.Core.Logic.{◌⊎◌, inl, inr}
+use mathlib.Core.Logic.{inl, inr}
 use native.Mathlib.Omega.{arith}
 use lib.Dec.{eqb, leb, ltb, leb-suc-suc}
 use lib.ListN.{length, get_or, take, replicate}
@@ -18,15 +18,14 @@ use Rattle.wire.specs.Le.{padded}
 use Rattle.wire.proofs.Laws.{get_or_padded}
 use Rattle.kinds.specs.Table.{table, lookup, length_of, kind_of, type_of, kind_length, refusal_of}
 use Rattle.kinds.specs.declared.Kind.{Kind}
-use Rattle.kinds.proofs.Laws.{Lengths, lengths}
+use Rattle.kinds.proofs.Laws.{lengths}
 use Rattle.layout.specs.Shape.{joined}
 use Rattle.layout.specs.Layout.{FieldsFit, body_for}
 use Rattle.body.specs.Read.{framed, judge_body, judged_number, judged_code}
-use Rattle.body.specs.declared.Judged.{Judged}
 use Rattle.body.proofs.Codes.{code_number}
 use Rattle.numbers.specs.Drafts.{security_from, fields_from, fitting, draft_fits, within, Words, draft_kind, body_from, draft_body, number_from, draft_number, refused_draft, good_draft, held_draft, draft_from, draft_of}
 use Rattle.numbers.specs.declared.Draft.{Draft}
-use Rattle.numbers.proofs.Drafts.{known, draft_framed, Passed, passed}
+use Rattle.numbers.proofs.Drafts.{known, draft_framed, passed}
 
 -- no number above 255 is a message's type
 pub no_type : (v : ℕ) → 256 ≤ v → Kind.Unknown ≡ kind_of v

@@ -2,7 +2,7 @@
 -- Assumes nothing.
 use mathlib.Core.Path.{◌≡◌, sym, ap}
 use mathlib.Core.Logic.{◌≢◌}
-use mathlib.Core.Bool.{true, false, not}
+use mathlib.Core.Bool.{true, false}
 use mathlib.Core.List.{List, []}
 use Prim.Native.Nat.{ℕ, ◌+◌, ◌-◌, ◌*◌, ◌/◌, ◌≤◌, ◌<◌}
 use native.Mathlib.Omega.{arith}
@@ -11,7 +11,7 @@ use lib.Dec.{eqb}
 use borrow.Author.Tests.{ne_eqb}
 use Rattle.facts.specs.Pick.{pick, both}
 use Rattle.facts.specs.Same.{same_bytes}
-use Rattle.facts.specs.Search.{first, is_found}
+use Rattle.facts.specs.Search.{first}
 use Rattle.facts.specs.declared.Found.{Found}
 use Rattle.facts.proofs.Searches.{first_at}
 use Rattle.editions.specs.declared.Edition.{Edition}

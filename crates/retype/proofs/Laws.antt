@@ -21,18 +21,15 @@ use Rattle.wire.specs.Le.{field, padded}
 use Rattle.wire.proofs.Laws.{field_same, length_padded, get_or_padded, is_padded}
 use Rattle.kinds.specs.Table.{kind_of, type_of as type_byte, kind_length, length_of, lookup, table}
 use Rattle.kinds.specs.declared.Kind.{Kind}
-use Rattle.kinds.proofs.Laws.{Lengths, lengths, type_kind}
 use Rattle.fields.specs.Fields.{symbol_of, security_of, decoded}
-use Rattle.fields.specs.declared.Symbol.{Symbol}
-use Rattle.fields.specs.declared.Body.{Body}
 use Rattle.body.specs.Ranges.{security_ok}
-use Rattle.body.specs.Read.{framed, judge_body, judged_number, message, read_body, good_body}
+use Rattle.body.specs.Read.{judge_body, judged_number, message, read_body, good_body}
 use Rattle.body.specs.Editions.{IsUpdate}
 use Rattle.body.specs.declared.Judged.{Judged}
 use Rattle.body.proofs.Laws.{good_framed, Framed, framed_is, Judgement, good, bad, judgement, JudgedAs, judge_sound}
 use Rattle.body.proofs.Editions.{no_update_alike, lettered_alike, reserved_unjudged, older_alike}
 use Rattle.retype.specs.Types.{exceptions, names, type_of, type_at, type_for, bad_type, types_ok}
-use Rattle.retype.specs.Retyped.{Asked, asked, is_update, byte_in, new_byte, retyped, retyping, retypes}
+use Rattle.retype.specs.Retyped.{Asked, is_update, byte_in, new_byte, retyped, retyping, retypes}
 
 -- ---- as the code does it
 module _ (a : Asked) (b : List ℕ) (t : ℕ) (e : t ≡ get_or b 0 0) where

@@ -1,12 +1,12 @@
 -- A message that is written has its type and its length, so that only a field can be at fault; and reading gives the fields back, writing the bytes: for every kind at once, then for each message.
 -- Assumes nothing.
 use mathlib.Core.Path.{◌≡◌, refl, sym, ap, ◌∙◌}
-use mathlib.Core.List.{List, [], ◌∷◌}
+use mathlib.Core.List.{List}
 use mathlib.Core.Bool.{true, false}
 use mathlib.Core.Logic.{◌⊎◌, inl, inr}
-use Prim.Native.Nat.{ℕ, ◌+◌, ◌≤◌}
+use Prim.Native.Nat.{ℕ, ◌≤◌}
 use native.Mathlib.Omega.{arith}
-use lib.ListN.{length, get_or}
+use lib.ListN.{get_or}
 use lib.Dec.{eqb}
 use borrow.Author.Tests.{eq-eqb, ne_eqb}
 use Rattle.facts.specs.Limits.{entry_size}
@@ -17,7 +17,7 @@ use Rattle.wire.specs.Le.{Bytes}
 use Rattle.kinds.specs.Table.{type_of, kind_length, length_of}
 use Rattle.kinds.specs.declared.Kind.{Kind}
 use Rattle.kinds.proofs.Laws.{Lengths, lengths}
-use Rattle.layout.specs.Layout.{shapes, Fields, FieldsFit, fields_in, body_for}
+use Rattle.layout.specs.Layout.{shapes, Fields, FieldsFit, body_for}
 use Rattle.layout.specs.Message.{Message, written, read_as, Fit}
 use Rattle.layout.proofs.Laws.{sized, length_body, fields_back, read_back, written_back}
 use Rattle.fields.specs.Fields.{bad_at, decoded, update_of, state_of}

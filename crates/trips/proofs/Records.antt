@@ -4,25 +4,24 @@
 use mathlib.Core.Path.{◌≡◌, refl, sym, ap, ◌∙◌}
 use mathlib.Core.List.{List, [], ◌∷◌, ◌++◌, append_assoc, append-nil}
 use mathlib.Core.Bool.{true, false}
-use Prim.Native.Nat.{ℕ, zero, suc, ◌+◌, ◌≤◌, ◌<◌}
+use Prim.Native.Nat.{ℕ, zero, suc, ◌+◌, ◌≤◌}
 use native.Mathlib.Nat.{zero-add}
 use native.Mathlib.Omega.{arith}
 use lib.ListN.{length, take, drop, length-append, length-drop, take-append-drop}
-use lib.Seq.{take_at, drop_at, drop-drop, take-add, take_all, take-append-le, drop-append-le, length-take-le}
-use lib.Dec.{leb}
+use lib.Seq.{take-add, take_all, take-append-le, drop-append-le}
 use borrow.Author.Tests.{le-leb}
-use Rattle.facts.specs.Limits.{last_number, packet_most, entry_size}
+use Rattle.facts.specs.Limits.{packet_most, entry_size}
 use Rattle.facts.specs.Pick.{pick, both}
 use Rattle.editions.specs.declared.Edition.{Edition}
-use Rattle.wire.specs.Le.{le, to_le, field, Bytes}
+use Rattle.wire.specs.Le.{to_le, field, Bytes}
 use Rattle.wire.specs.Records.{Rec, rec, records}
 use Rattle.wire.proofs.Bytewise.{bytes_drop}
 use Rattle.wire.proofs.Laws.{length_to_le}
 use Rattle.layout.specs.Shape.{Shape, number, Values, cut, joined}
 use Rattle.layout.proofs.Laws.{cut_between, joined_cut}
-use Rattle.body.specs.Read.{judge_body, good_body}
+use Rattle.body.specs.Read.{judge_body}
 use Rattle.body.proofs.Laws.{Judgement, good, bad as bad_judged, judgement, good_fits}
-use Rattle.packet.specs.Record.{number_ok, head_of, body_of, rec_of, body_judged, read_record}
+use Rattle.packet.specs.Record.{head_of, body_of, rec_of, body_judged, read_record}
 use Rattle.packet.specs.Packet.{Framing, before, behind, frames_from, framing}
 use Rattle.packet.specs.declared.Record.{Record}
 use Rattle.packet.proofs.Laws.{GoodRec, number_in, whole_record, body_length, enough, frames_step, frames_end}

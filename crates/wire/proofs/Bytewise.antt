@@ -1,9 +1,9 @@
 -- Parts of bytes are bytes, by the list's own recursion; zeros past the end are bytes too.
 -- Assumes nothing.
-use Prim.Native.Nat.{ℕ, zero, suc, ◌+◌, ◌<◌}
+use Prim.Native.Nat.{ℕ, zero, suc, ◌+◌}
 use mathlib.Core.List.{List, [], ◌∷◌, ◌++◌}
 use native.Mathlib.Omega.{arith}
-use lib.ListN.{take, drop, get_or, replicate}
+use lib.ListN.{take, drop, replicate}
 use lib.Seq.{get_or-drop}
 use Rattle.wire.specs.Le.{Bytes, padded}
 

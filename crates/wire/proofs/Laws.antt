@@ -62,6 +62,9 @@ get_or_zeros [] n k = zeros n k
 get_or_zeros (x ∷ xs) n zero = refl
 get_or_zeros (x ∷ xs) n (suc k) = get_or_zeros xs n k
 
+zeros_left : (n k : ℕ) → drop {A = ℕ} k (replicate n 0) ≡ replicate (n - k) 0
+zeros_left n k = same_left n k 0
+
 pub length_padded : (b : List ℕ) (at n : ℕ) → length (padded b at n) ≡ n
 unfolding padded
 length_padded b at n = length-take-le n (drop at b ++ replicate n 0) (rw (length-append, length-replicate) (omega arith))
@@ -115,7 +118,7 @@ pub front_and_zeros : (b : List ℕ) (at n : ℕ) (w z : List ℕ) → at ≤ le
 front_and_zeros b at n w z h fits w_is z_is =
     let l : List ℕ = z ++ drop (length b - at) w in
     let whole : take (length b - at) (drop at b) ≡ drop at b = take_all (length b - at) (drop at b) (rw length-drop (omega arith)) in
-    let zeros_behind : drop (length b - at) w ≡ replicate (n - (length b - at)) 0 = rw w_is (same_left n (length b - at) 0) in
+    let zeros_behind : drop (length b - at) w ≡ replicate (n - (length b - at)) 0 = rw w_is (zeros_left n (length b - at)) in
     let parts : l ≡ drop at b ++ replicate (n - (length b - at)) 0 = rw (z_is, whole, zeros_behind) refl in
     let long : length l ≡ n = rw (parts, length-append, length-drop, length-replicate) (omega arith) in
     is_padded b at l (λ k lt. ap (λ (t : List ℕ). get_or t k 0) parts ∙ get_or_zeros (drop at b) (n - (length b - at)) k ∙ get_or-drop at b k 0)

@@ -56,6 +56,9 @@ store_more x s at i h = rw (drop-cons s i 0 h, add-one at, add-one i) refl
 pub store_end : (x s : List ℕ) (at i : ℕ) → length s ≤ i → sets x at (drop i s) ≡ x
 store_end x s at i h = rw (drop_of_length-le s h) refl
 
+spaces_left : (n k : ℕ) → drop {A = ℕ} k (replicate n 32) ≡ replicate (n - k) 32
+spaces_left n k = same_left n k 32
+
 pub unnamed_length : (x : List ℕ) (t : ℕ) → x ≡ by_ticker [] t → length x ≡ 13
 unfolding by_ticker
 unnamed_length x t e = ap length e
@@ -65,7 +68,7 @@ unfolding by_ticker
 name_over_spaces x name t e h =
     ap (λ (l : List ℕ). sets l 1 name) e
     ∙ stored_behind (1 ∷ []) (replicate 11 32 ++ (t ∷ [])) name 1 refl (rw length-append (omega arith))
-    ∙ ap (λ (l : List ℕ). 1 ∷ (name ++ l)) (drop-append-le (length name) (replicate 11 32) (t ∷ []) h ∙ ap (λ (l : List ℕ). l ++ (t ∷ [])) (same_left 11 (length name) 32))
+    ∙ ap (λ (l : List ℕ). 1 ∷ (name ++ l)) (drop-append-le (length name) (replicate 11 32) (t ∷ []) h ∙ ap (λ (l : List ℕ). l ++ (t ∷ [])) (spaces_left 11 (length name)))
 
 -- ---- an ID d of which n is told, at most one more than the largest
 module _ (d n t : ℕ) (out : List ℕ) (e : n ≡ min d 4294967296) where

@@ -1,14 +1,13 @@
 -- What each step of writing says of the definitions: where bytes are stored, what refuses them, and in which order.
 -- Assumes nothing.
 use mathlib.Core.Path.{◌≡◌, refl, sym, ap, ◌∙◌}
-use mathlib.Core.List.{List, [], ◌∷◌, ◌++◌}
+use mathlib.Core.List.{List, ◌++◌}
 use mathlib.Core.Bool.{Bool, true, false}
 use mathlib.Core.Logic.{inl, inr}
-use Prim.Native.Nat.{ℕ, suc, ◌+◌, ◌-◌, ◌≤◌, ◌<◌}
-use native.Mathlib.Nat.{add-zero}
+use Prim.Native.Nat.{ℕ, ◌+◌, ◌-◌, ◌≤◌, ◌<◌}
 use native.Mathlib.Omega.{arith}
-use lib.ListN.{length, take, set, length-append}
-use lib.Seq.{sets, length-sets, length-take-le}
+use lib.ListN.{length, length-append}
+use lib.Seq.{sets}
 use lib.Dec.{eqb, leb}
 use borrow.Author.Tests.{eq-eqb, ne_eqb, eqb-true, le-leb, lt-leb, leb-true}
 use Rattle.facts.specs.Limits.{packet_most}
@@ -18,7 +17,6 @@ use Rattle.facts.proofs.Stores.{sets_append}
 use Rattle.editions.specs.declared.Edition.{Edition}
 use Rattle.wire.specs.Le.{to_le}
 use Rattle.wire.proofs.Laws.{length_to_le, fits_test}
-use Rattle.fields.specs.Fields.{refusal}
 use Rattle.fields.specs.declared.Refusal.{Refusal}
 use Rattle.fields.specs.declared.Fault.{Fault}
 use Rattle.packet.specs.Record.{number_ok}
@@ -26,7 +24,7 @@ use Rattle.packet.specs.Packet.{read_packet}
 use Rattle.packet.specs.declared.Packet.{Packet}
 use Rattle.trips.specs.Records.{record_bytes, length_first}
 use Rattle.trips.proofs.Records.{length_record}
-use Rattle.writer.specs.Append.{Writing, writing, refused_by, put, where_read, behind, room_number, so_far, own_number, appended_as, packet_appended}
+use Rattle.writer.specs.Append.{writing, refused_by, put, where_read, behind, room_number, so_far, own_number}
 use Rattle.writer.specs.declared.Wrote.{Wrote}
 
 -- ---- runs stored one behind the other

@@ -1,5 +1,5 @@
 -- What request 4 says of packets that are written: "Reading what was written gives the fields back", of the whole packet, and record by record.
-use Rattle.std.specs.Prelude.{ℕ, ◌+◌, ◌≤◌, ◌≡◌, List, [], ◌∷◌, ◌++◌, length, take, drop}
+use Rattle.std.specs.Prelude.{ℕ, ◌+◌, ◌≡◌, List, [], ◌∷◌, ◌++◌, length, take, drop}
 use Rattle.editions.specs.declared.Edition.{Edition}
 use Rattle.wire.specs.Records.{Rec, rec, records}
 use Rattle.packet.specs.Packet.{frames_from, framing}

@@ -2,7 +2,6 @@
 -- Assumes nothing.
 use Rattle.facts.specs.Pick.{pick}
 use Rattle.body.specs.Faults.{fault_from, fault_of}
-use borrow.Author.Rules.{rules}
 use Rattle.body.proofs.add_fault.Goals as goal
 
 pub returns : goal.returns

@@ -1,6 +1,5 @@
 -- Each call answers its part of the definition, so the answers in a row are the definition.
 -- Assumes nothing.
-use borrow.Author.Rules.{rules}
 use Rattle.body.proofs.deal_fault.Goals as goal
 
 pub returns : goal.returns

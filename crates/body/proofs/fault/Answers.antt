@@ -3,7 +3,6 @@
 use mathlib.Core.Path.{refl}
 use Rattle.facts.specs.Pick.{pick}
 use Rattle.body.specs.Faults.{fault_from, fault_of}
-use borrow.Author.Rules.{rules}
 use Rattle.body.proofs.fault.Goals as goal
 
 pub returns-in-SystemTime : goal.returns-in-SystemTime

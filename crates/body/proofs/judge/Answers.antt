@@ -5,7 +5,6 @@ use native.Mathlib.Omega.{arith}
 use Rattle.body.specs.Read.{judged_code}
 use Rattle.body.proofs.Codes.{empty_judged, length_judged, good_told, fault_told}
 use Rattle.body.proofs.Places.{judged_small}
-use borrow.Author.Rules.{rules}
 use Rattle.body.proofs.judge.Goals as goal
 
 pub returns-then-b-eq0 : goal.returns-then-b-eq0

@@ -5,7 +5,6 @@ use Rattle.kinds.specs.Table.{kind_of}
 use Rattle.kinds.specs.declared.Kind.{Kind}
 use Rattle.body.specs.declared.Judged.{Judged}
 use Rattle.body.proofs.Codes.{code_good, code_bad}
-use borrow.Author.Rules.{rules}
 use Rattle.body.proofs.judge_body.Goals as goal
 
 pub returns-then-c-eq0 : goal.returns-then-c-eq0

@@ -1,7 +1,6 @@
 -- The calls give the four ranges, and their test over all bytes, by the letters that stand in the code, computes to true.
 -- Assumes nothing.
 use mathlib.Core.Path.{refl}
-use borrow.Author.Rules.{rules}
 use Rattle.facts.specs.Pick.{both, either}
 use Rattle.facts.proofs.Runs.{run}
 use Rattle.body.specs.Ranges.{one_of, market_ok}

@@ -3,7 +3,6 @@
 use mathlib.Core.Path.{sym, ap, ◌∙◌}
 use Rattle.body.specs.Read.{message, read_body}
 use Rattle.body.specs.declared.Judged.{Judged}
-use borrow.Author.Rules.{rules}
 use Rattle.body.proofs.read_body.Goals as goal
 
 pub returns-in-Bad : goal.returns-in-Bad

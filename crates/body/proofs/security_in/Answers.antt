@@ -2,7 +2,6 @@
 -- Assumes nothing.
 use mathlib.Core.Path.{ap}
 use Rattle.body.specs.declared.Security.{Security}
-use borrow.Author.Rules.{rules}
 use Rattle.body.proofs.security_in.Goals as goal
 
 pub returns-in-V13 : goal.returns-in-V13

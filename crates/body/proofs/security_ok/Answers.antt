@@ -5,7 +5,6 @@ use borrow.Author.Tests.{eq-eqb, ne_eqb}
 use Rattle.facts.specs.Pick.{either}
 use Rattle.facts.proofs.Picks.{either_none}
 use Rattle.body.specs.Ranges.{one_of, security_ok}
-use borrow.Author.Rules.{rules}
 use Rattle.body.proofs.security_ok.Goals as goal
 
 pub returns-then-x-eq69 : goal.returns-then-x-eq69

@@ -1,6 +1,5 @@
 -- The calls' answers in a row are the definition.
 -- Assumes nothing.
-use borrow.Author.Rules.{rules}
 use Rattle.body.proofs.stamp_fault.Goals as goal
 
 pub returns : goal.returns

@@ -1,6 +1,5 @@
 -- The answer of the second call, with that of the first behind it, is the definition.
 -- Assumes nothing.
-use borrow.Author.Rules.{rules}
 use Rattle.body.proofs.stamped_deal_fault.Goals as goal
 
 pub returns : goal.returns

@@ -7,7 +7,6 @@ use lib.ListN.{get_or}
 use Rattle.facts.specs.Pick.{pick}
 use Rattle.body.specs.Ranges.{security_ok, test_ok, market_ok}
 use Rattle.body.specs.Faults.{fault_from, fault_of}
-use borrow.Author.Rules.{rules}
 use Rattle.body.proofs.symbol_fault.Goals as goal
 
 pub returns : goal.returns

@@ -2,7 +2,6 @@
 -- Assumes nothing.
 use mathlib.Core.Path.{sym, ◌∙◌}
 use Rattle.conversion.proofs.Exits.{bar_taken, bar_refused, bar_bad}
-use borrow.Author.Rules.{rules}
 use Rattle.conversion.proofs.bar.Goals as goal
 
 pub returns-in-Good : goal.returns-in-Good

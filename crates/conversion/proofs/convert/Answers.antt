@@ -4,7 +4,6 @@ use mathlib.Core.Path.{sym, ◌∙◌}
 use borrow.Author.Tests.{not-true, not-false}
 use Rattle.retype.specs.Retyped.{asked}
 use Rattle.conversion.proofs.Exits.{packet_is, answer_6, answer_4, answer_refused, answer_bad, answer_good}
-use borrow.Author.Rules.{rules}
 use Rattle.conversion.proofs.convert.Goals as goal
 
 pub returns-then-not-whole_exceptions : goal.returns-then-not-whole_exceptions

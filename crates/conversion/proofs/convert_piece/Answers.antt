@@ -4,7 +4,6 @@ use mathlib.Core.Path.{sym, ◌∙◌}
 use borrow.Author.Tests.{not-true, not-false}
 use Rattle.retype.specs.Retyped.{asked}
 use Rattle.conversion.proofs.Exits.{piece_6, piece_4, piece_done}
-use borrow.Author.Rules.{rules}
 use Rattle.conversion.proofs.convert_piece.Goals as goal
 
 pub returns-then-not-whole_exceptions : goal.returns-then-not-whole_exceptions

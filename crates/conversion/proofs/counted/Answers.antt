@@ -5,7 +5,6 @@ use native.Mathlib.Omega.{arith}
 use Rattle.conversion.specs.Piece.{tally_of, plus, Countable}
 use Rattle.conversion.specs.declared.Passed.{Passed}
 use Rattle.conversion.proofs.Exits.{count_rewritten, count_unread, count_barred}
-use borrow.Author.Rules.{rules}
 use Rattle.conversion.proofs.counted.Goals as goal
 
 pub overflow_add-result : goal.overflow_add-result

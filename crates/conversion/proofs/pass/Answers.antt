@@ -4,7 +4,6 @@ use mathlib.Core.Path.{sym, ◌∙◌}
 use Rattle.packet.proofs.Places.{packet_small}
 use Rattle.retype.specs.Retyped.{asked}
 use Rattle.conversion.proofs.Exits.{packet_is, pass_good, pass_refused, pass_bad}
-use borrow.Author.Rules.{rules}
 use Rattle.conversion.proofs.pass.Goals as goal
 
 pub rewrite-requires : goal.rewrite-requires

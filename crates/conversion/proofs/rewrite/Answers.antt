@@ -2,12 +2,11 @@
 -- Assumes nothing.
 use Prim.Native.Nat.{◌+◌, ◌≤◌, ◌-◌}
 use mathlib.Core.Path.{ap, ◌∙◌, ◌≡◌}
-use mathlib.Core.Logic.{inl, inr, ⊎_elim}
+use mathlib.Core.Logic.{inl, inr}
 use Rattle.packet.specs.declared.Head.{Head}
 use Rattle.packet.specs.Record.{head_of}
-use Rattle.conversion.proofs.Turns.{walk_end, walk_more, walk_size, update_is, count_end, count_turn, fits_in, Walked, walk_none, Counted, count_none}
+use Rattle.conversion.proofs.Turns.{walk_end, walk_more, walk_size, update_is, count_end, count_turn, fits_in, walk_none, count_none}
 use native.Mathlib.Omega.{arith}
-use borrow.Author.Rules.{rules}
 use lib.ListN.{length, drop}
 use Rattle.wire.specs.Le.{field}
 use Rattle.retype.specs.Retyped.{asked}

@@ -3,12 +3,11 @@
 use Prim.Native.Nat.{◌+◌, ◌-◌, ◌≤◌, ◌<◌}
 use mathlib.Core.Path.{◌≡◌, refl, sym, subst, ◌∙◌}
 use native.Mathlib.Omega.{arith}
-use borrow.Author.Rules.{rules}
 use lib.ListN.{length, drop, length-drop}
 use Rattle.wire.specs.Le.{field}
 use Rattle.conversion.specs.Piece.{tally_of, plus}
 use Rattle.retype.specs.Retyped.{asked}
-use Rattle.conversion.proofs.Pieces.{Few, few_plus, few_countable, Went, went_none, went_end, went_few, went_more, went_size}
+use Rattle.conversion.proofs.Pieces.{Few, few_plus, few_countable, went_none, went_end, went_few, went_more, went_size}
 use Rattle.conversion.proofs.turn.Goals as goal
 
 pub loop-b-init : goal.loop-b-init

@@ -1,14 +1,10 @@
 -- The loop keeps: the packets before `at` are passed on, what follows is as it was, and both together come to the whole (Went); no count is above `at` (Few).
 -- Assumes nothing.
-use Prim.Native.Nat.{◌+◌, ◌-◌, ◌≤◌, ◌<◌}
-use mathlib.Core.Path.{◌≡◌, refl, sym, subst, ◌∙◌}
-use native.Mathlib.Omega.{arith}
-use borrow.Author.Rules.{rules}
-use lib.ListN.{length, drop, length-drop}
-use Rattle.wire.specs.Le.{field}
-use Rattle.conversion.specs.Piece.{tally_of, plus}
+use Prim.Native.Nat.{◌-◌, ◌≤◌}
+use mathlib.Core.Path.{◌≡◌}
+use lib.ListN.{length}
 use Rattle.retype.specs.Retyped.{asked}
-use Rattle.conversion.proofs.Pieces.{Few, few_plus, few_countable, Went, went_none, went_end, went_few, went_more, went_size}
+use Rattle.conversion.proofs.Pieces.{Few, Went}
 use Rattle.conversion.proofs.turn.Given as goal
 
 abbrev pub invariant-loop-b : goal.invariant-loop-b

@@ -1,6 +1,5 @@
 -- Each call stores one field behind those before it.
 -- Assumes nothing.
-use borrow.Author.Rules.{rules}
 use Rattle.encode.proofs.front.Goals as goal
 
 pub returns : goal.returns

@@ -1,6 +1,5 @@
 -- The ID is stored behind the front.
 -- Assumes nothing.
-use borrow.Author.Rules.{rules}
 use Rattle.encode.proofs.front_id.Goals as goal
 
 pub returns : goal.returns

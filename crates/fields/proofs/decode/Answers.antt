@@ -3,7 +3,6 @@
 use mathlib.Core.Path.{refl, ap}
 use Rattle.fields.specs.Fields.{decoded}
 use Rattle.fields.specs.declared.Body.{Body}
-use borrow.Author.Rules.{rules}
 use Rattle.fields.proofs.decode.Goals as goal
 
 pub returns-in-SystemTime : goal.returns-in-SystemTime

@@ -1,6 +1,5 @@
 -- Each field is the reader's answer at its place, so the struct is the definition's record.
 -- Assumes nothing.
-use borrow.Author.Rules.{rules}
 use Rattle.fields.proofs.state_of.Goals as goal
 
 pub returns : goal.returns

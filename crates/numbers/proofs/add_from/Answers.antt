@@ -1,7 +1,6 @@
 -- A number that fits is what is left of it when it is cut, so that the struct is the message.
 -- Assumes nothing.
 use native.Mathlib.Nat.{mod-eq_of_lt}
-use borrow.Author.Rules.{rules}
 use Rattle.numbers.proofs.add_from.Goals as goal
 
 pub returns : goal.returns

@@ -6,7 +6,6 @@ use Rattle.layout.specs.Message.{written}
 use Rattle.layout.specs.Layout.{body_for}
 use Rattle.layout.specs.Shape.{joined}
 use Rattle.numbers.proofs.Held.{told_fit, told_body}
-use borrow.Author.Rules.{rules}
 use Rattle.numbers.proofs.body_from.Goals as goal
 
 pub time_from-requires : goal.time_from-requires

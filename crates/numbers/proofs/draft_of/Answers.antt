@@ -5,7 +5,6 @@ use borrow.Author.Tests.{not-true, not-false}
 use Rattle.numbers.specs.Drafts.{held_draft, draft_from}
 use Rattle.numbers.proofs.Drafts.{draft_fit}
 use Rattle.numbers.proofs.Held.{unfit, held}
-use borrow.Author.Rules.{rules}
 use Rattle.numbers.proofs.draft_of.Goals as goal
 
 pub returns-then-not-fits : goal.returns-then-not-fits

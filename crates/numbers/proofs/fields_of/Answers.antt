@@ -4,7 +4,6 @@ use mathlib.Core.Path.{◌∙◌}
 use Rattle.fields.specs.Fields.{decoded}
 use Rattle.numbers.specs.Numbers.{eight, update_fields, state_fields, status_fields, clear_fields, add_fields, modify_fields, delete_fields, execution_fields, trade_fields, cancel_fields}
 use Rattle.numbers.proofs.Cases.{case_fields}
-use borrow.Author.Rules.{rules}
 use Rattle.numbers.proofs.fields_of.Goals as goal
 
 pub returns-in-SystemTime : goal.returns-in-SystemTime

@@ -3,7 +3,6 @@
 use mathlib.Core.Path.{◌∙◌, refl}
 use Rattle.numbers.specs.Drafts.{fitting}
 use Rattle.numbers.proofs.Held.{told_fits, time_fits, state_fits, status_fits, clear_fits, add_fits, modify_fits, delete_fits, execution_fits, trade_fits, cancel_fits}
-use borrow.Author.Rules.{rules}
 use Rattle.numbers.proofs.fits.Goals as goal
 
 pub returns-in-SystemTime : goal.returns-in-SystemTime

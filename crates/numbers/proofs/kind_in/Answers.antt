@@ -2,7 +2,6 @@
 -- Assumes nothing.
 use native.Mathlib.Omega.{arith}
 use Rattle.numbers.proofs.Held.{no_type}
-use borrow.Author.Rules.{rules}
 use Rattle.numbers.proofs.kind_in.Goals as goal
 
 pub returns : goal.returns

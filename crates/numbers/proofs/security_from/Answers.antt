@@ -1,7 +1,6 @@
 -- Each arm reads the place that its edition has.
 -- Assumes nothing.
 use mathlib.Core.Path.{refl}
-use borrow.Author.Rules.{rules}
 use Rattle.numbers.proofs.security_from.Goals as goal
 
 pub returns-in-V13 : goal.returns-in-V13

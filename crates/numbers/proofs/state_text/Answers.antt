@@ -6,7 +6,6 @@ use Rattle.wire.proofs.Laws.{length_padded}
 use Rattle.fields.specs.declared.SystemState.{SystemState}
 use Rattle.numbers.specs.Numbers.{state_text}
 use Rattle.numbers.proofs.Texts.{version_laid}
-use borrow.Author.Rules.{rules}
 use Rattle.numbers.proofs.state_text.Goals as goal
 
 pub returns : goal.returns

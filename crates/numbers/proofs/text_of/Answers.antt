@@ -3,7 +3,6 @@
 use Rattle.fields.specs.Fields.{decoded}
 use Rattle.numbers.proofs.Cases.{case_text}
 use Rattle.numbers.proofs.Texts.{rest_text}
-use borrow.Author.Rules.{rules}
 use borrow.Enum.Refused.{opened}
 use Rattle.numbers.proofs.text_of.Goals as goal
 

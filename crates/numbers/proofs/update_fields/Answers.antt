@@ -1,6 +1,5 @@
 -- Each number is the field itself; byte 20 is what the edition shows of it.
 -- Assumes nothing.
-use borrow.Author.Rules.{rules}
 use Rattle.numbers.proofs.update_fields.Goals as goal
 
 pub returns : goal.returns

@@ -1,7 +1,6 @@
 -- The tests are those of the fields, in their order.
 -- Assumes nothing.
 use Rattle.numbers.proofs.Held.{update_fits}
-use borrow.Author.Rules.{rules}
 use Rattle.numbers.proofs.update_fits.Goals as goal
 
 pub returns : goal.returns

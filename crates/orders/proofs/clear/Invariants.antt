@@ -1,15 +1,11 @@
 -- The loop keeps: the first i rows are wiped, the others and the rest as they were; a table is its rows and the rest.
 -- Assumes nothing.
-use mathlib.Core.Path.{◌≡◌, refl, sym, ap, ◌∙◌}
+use mathlib.Core.Path.{◌≡◌}
 use Prim.Native.Nat.{◌≤◌, ◌-◌}
-use native.Mathlib.Omega.{arith}
 use lib.ListN.{length}
-use borrow.Author.Rules.{rules}
-use Rattle.facts.proofs.Lists.{map_to, map_none}
+use Rattle.facts.proofs.Lists.{map_to}
 use Rattle.rows.specs.Rows.{rows, row_count, rest}
-use Rattle.rows.proofs.Tables.{length_put_row, rest_put_row, flat_rest}
-use Rattle.rows.proofs.Walks.{map_row, map_past}
-use Rattle.orders.specs.Work.{wiped, cleared}
+use Rattle.orders.specs.Work.{wiped}
 use Rattle.orders.proofs.clear.Given as goal
 
 abbrev pub invariant-loop-i : goal.invariant-loop-i

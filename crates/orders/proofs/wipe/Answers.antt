@@ -1,7 +1,6 @@
 -- A live row of the symbol becomes the zero row; any other is put back where it lies.
 -- Assumes nothing.
 use mathlib.Core.Path.{sym, ap, ◌∙◌}
-use borrow.Author.Rules.{rules}
 use Rattle.rows.specs.Find.{of_symbol}
 use Rattle.rows.proofs.Tables.{put_row_self}
 use Rattle.orders.proofs.Cases.{wiped_yes, wiped_no}

@@ -6,7 +6,6 @@ use native.Mathlib.Nat.{add-sub_cancel_left}
 use native.Mathlib.Omega.{arith}
 use lib.ListN.{take, drop}
 use Rattle.packet.proofs.Laws.{rest, body_past, body_short, body_part}
-use borrow.Author.Rules.{rules}
 use Rattle.packet.proofs.body_at.Goals as goal
 
 pub returns-then-p-lt10 : goal.returns-then-p-lt10

@@ -3,7 +3,6 @@
 use mathlib.Core.Path.{ap}
 use Rattle.packet.specs.Record.{head_of}
 use Rattle.packet.proofs.Laws.{rest, head_past}
-use borrow.Author.Rules.{rules}
 use Rattle.packet.proofs.head_at.Goals as goal
 
 pub returns-then-p-at : goal.returns-then-p-at

@@ -1,12 +1,10 @@
 -- The loop keeps: the answer to the whole is the answer to what is left from `at` on, with the records and bytes so far before it.
 -- Assumes nothing.
-use mathlib.Core.Path.{◌≡◌, sym, ◌∙◌}
-use Prim.Native.Nat.{◌-◌, ◌≤◌}
+use mathlib.Core.Path.{sym, ◌∙◌}
 use native.Mathlib.Omega.{arith}
-use borrow.Author.Rules.{rules}
-use lib.ListN.{length, drop}
+use lib.ListN.{length}
 use Rattle.packet.specs.Packet.{frames_from, told}
-use Rattle.packet.proofs.Laws.{more, more_none, at_good, at_bad, at_end, packet_is, packet_empty, packet_long}
+use Rattle.packet.proofs.Laws.{more_none, at_good, at_bad, at_end, packet_is, packet_empty, packet_long}
 use Rattle.packet.proofs.read_packet.Goals as goal
 
 pub returns-then-p-lt1 : goal.returns-then-p-lt1

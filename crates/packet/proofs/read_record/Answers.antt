@@ -6,7 +6,6 @@ use borrow.Author.Tests.{not-true, not-false}
 use Rattle.body.proofs.Codes.{code_good, code_bad}
 use Rattle.packet.specs.Record.{body_judged}
 use Rattle.packet.proofs.Laws.{short_header, short_body, wrong_number, record_judged, judged_inside}
-use borrow.Author.Rules.{rules}
 use Rattle.packet.proofs.read_record.Goals as goal
 
 pub returns-then-t-lt10 : goal.returns-then-t-lt10

@@ -1,7 +1,6 @@
 -- The part of one exception's width from its start on is the exception (exception_part), and lies inside what is lent (exception_fits).
 -- Assumes nothing.
 use native.Mathlib.Omega.{arith}
-use borrow.Author.Rules.{rules}
 use Rattle.retype.proofs.ExceptionLaws.{exception_fits, exception_part}
 use Rattle.retype.proofs.exception_in.Goals as goal
 

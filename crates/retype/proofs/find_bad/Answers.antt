@@ -1,13 +1,10 @@
 -- The search from exception i on, over those left, gives what the whole search gives; each turn takes one off.
 -- Assumes nothing.
 use mathlib.Core.Path.{◌≡◌, refl, sym, ◌∙◌}
-use mathlib.Core.List.{List, []}
-use mathlib.Core.Bool.{Bool, true, false}
-use Prim.Native.Nat.{ℕ, ◌≤◌, ◌-◌}
+use mathlib.Core.List.{[]}
+use mathlib.Core.Bool.{true, false}
 use native.Mathlib.Omega.{arith}
-use lib.ListN.{length, get_or, drop}
-use borrow.Author.Rules.{rules}
-use Rattle.facts.specs.Search.{first}
+use lib.ListN.{get_or}
 use Rattle.facts.proofs.Searches.{first_hit, first_miss, first_end}
 use Rattle.retype.specs.Types.{exceptions, bad_type}
 use Rattle.retype.proofs.find_bad.Goals as goal

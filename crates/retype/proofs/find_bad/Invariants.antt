@@ -1,14 +1,9 @@
 -- The search from exception i on, over those left, gives what the whole search gives; each turn takes one off.
 -- Assumes nothing.
-use mathlib.Core.Path.{◌≡◌, refl, sym, ◌∙◌}
-use mathlib.Core.List.{List, []}
-use mathlib.Core.Bool.{Bool, true, false}
-use Prim.Native.Nat.{ℕ, ◌≤◌, ◌-◌}
-use native.Mathlib.Omega.{arith}
-use lib.ListN.{length, get_or, drop}
-use borrow.Author.Rules.{rules}
+use mathlib.Core.Path.{◌≡◌}
+use Prim.Native.Nat.{◌≤◌, ◌-◌}
+use lib.ListN.{length, drop}
 use Rattle.facts.specs.Search.{first}
-use Rattle.facts.proofs.Searches.{first_hit, first_miss, first_end}
 use Rattle.retype.specs.Types.{exceptions, bad_type}
 use Rattle.retype.proofs.find_bad.Given as goal
 

@@ -2,12 +2,10 @@
 -- Assumes nothing.
 use mathlib.Core.Path.{◌≡◌, refl, sym, ◌∙◌}
 use mathlib.Core.List.{List, []}
-use mathlib.Core.Bool.{Bool, true, false}
-use Prim.Native.Nat.{ℕ, ◌≤◌, ◌-◌}
+use mathlib.Core.Bool.{true, false}
+use Prim.Native.Nat.{ℕ}
 use native.Mathlib.Omega.{arith}
-use lib.ListN.{length, get_or, drop}
-use borrow.Author.Rules.{rules}
-use Rattle.facts.specs.Search.{first}
+use lib.ListN.{get_or}
 use Rattle.facts.proofs.Searches.{first_hit, first_miss, first_end}
 use Rattle.retype.specs.Types.{exceptions, names}
 use Rattle.retype.proofs.find_name.Goals as goal

@@ -1,13 +1,9 @@
 use native.Mathlib.Omega.{arith}
 use Rattle.facts.specs.Same.{same_bytes}
 use Rattle.retype.proofs.ExceptionLaws.{names_by_id, names_by_none, names_by_ticker}
-use mathlib.Core.Path.{◌≡◌, refl, sym, ap, ◌∙◌}
+use mathlib.Core.Path.{sym, ◌∙◌}
 use lib.Dec.{eqb}
-use borrow.Author.Tests.{eq-eqb, ne_eqb, eqb-true}
-use Rattle.facts.specs.Pick.{pick, both}
 use Rattle.facts.proofs.SameLaws.{same_told}
-use Rattle.retype.specs.Types.{names}
-use borrow.Author.Rules.{rules}
 use Rattle.retype.proofs.names.Goals as goal
 
 pub returns-then-by-eq0 : goal.returns-then-by-eq0

@@ -1,8 +1,7 @@
-use mathlib.Core.Path.{sym, ap, ◌∙◌}
+use mathlib.Core.Path.{ap, ◌∙◌}
 use native.Mathlib.Omega.{arith}
 use Rattle.retype.specs.Retyped.{asked, byte_in}
 use Rattle.retype.proofs.Laws.{no_update, an_update, too_short}
-use borrow.Author.Rules.{rules}
 use Rattle.retype.proofs.retype_body.Goals as goal
 
 pub returns-then-u8_at-ne1 : goal.returns-then-u8_at-ne1

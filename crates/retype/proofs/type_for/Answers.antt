@@ -3,7 +3,6 @@ use lib.ListN.{get_or}
 use Rattle.retype.proofs.ExceptionLaws.{type_found, type_all}
 use Prim.Native.Nat.{ℕ}
 use mathlib.Core.List.{List}
-use borrow.Author.Rules.{rules}
 use Rattle.retype.proofs.type_for.Goals as goal
 
 pub exception_in-requires : goal.exception_in-requires

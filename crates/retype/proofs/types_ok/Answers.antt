@@ -1,7 +1,6 @@
 use borrow.Author.Tests.{not-true, not-false}
-use mathlib.Core.Path.{sym, ap, ◌∙◌}
+use mathlib.Core.Path.{sym, ◌∙◌}
 use Rattle.retype.proofs.ExceptionLaws.{all_bad, one_bad, none_bad}
-use borrow.Author.Rules.{rules}
 use Rattle.retype.proofs.types_ok.Goals as goal
 
 pub returns-then-not-security_ok : goal.returns-then-not-security_ok

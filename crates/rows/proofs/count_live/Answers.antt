@@ -2,13 +2,9 @@
 -- Assumes nothing.
 use mathlib.Core.Path.{◌≡◌}
 use mathlib.Core.Bool.{true, false}
-use mathlib.Core.Logic.{⊎_elim}
-use Prim.Native.Nat.{◌≤◌, ◌+◌, ◌-◌}
 use native.Mathlib.Omega.{arith}
-use lib.ListN.{get_or, drop}
-use borrow.Author.Rules.{rules}
-use Rattle.facts.specs.Sums.{count_by}
-use Rattle.rows.specs.Rows.{rows, row_count, zero_row, live}
+use lib.ListN.{get_or}
+use Rattle.rows.specs.Rows.{rows, zero_row, live}
 use Rattle.rows.specs.Find.{count_live}
 use Rattle.rows.proofs.Walks.{count_yes, count_no, count_past}
 use Rattle.rows.proofs.count_live.Goals as goal
@@ -35,14 +31,14 @@ loop-i-preserved c =
     let a = c.args in
     let l = c.loop-i in
     elim c.if-is_live.branch [
-    then-is_live w ↦
-    let e : live (get_or (rows a.t.now) l.i zero_row) ≡ true = cc w.if-is_live.true in
-    let n = count_yes live a.t.now l.i (omega arith) e in
-    (omega arith, omega arith, omega arith, omega (arith, l.invariant.3))
-    | else-is_live w ↦
-    let e : live (get_or (rows a.t.now) l.i zero_row) ≡ false = cc w.if-is_live.false in
-    let n = count_no live a.t.now l.i (omega arith) e in
-    (omega arith, omega arith, omega arith, omega (arith, l.invariant.3))
+      | then-is_live w ↦
+          let e : live (get_or (rows a.t.now) l.i zero_row) ≡ true = cc w.if-is_live.true in
+          let n = count_yes live a.t.now l.i (omega arith) e in
+          (omega arith, omega arith, omega arith, omega (arith, l.invariant.3))
+      | else-is_live w ↦
+          let e : live (get_or (rows a.t.now) l.i zero_row) ≡ false = cc w.if-is_live.false in
+          let n = count_no live a.t.now l.i (omega arith) e in
+          (omega arith, omega arith, omega arith, omega (arith, l.invariant.3))
     ]
 
 pub returns : goal.returns

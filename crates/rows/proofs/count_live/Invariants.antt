@@ -1,16 +1,11 @@
 -- The count so far and the live rows among those left make the whole count; each turn takes one row off.
 -- Assumes nothing.
 use mathlib.Core.Path.{◌≡◌}
-use mathlib.Core.Bool.{true, false}
-use mathlib.Core.Logic.{⊎_elim}
 use Prim.Native.Nat.{◌≤◌, ◌+◌, ◌-◌}
-use native.Mathlib.Omega.{arith}
-use lib.ListN.{get_or, drop}
-use borrow.Author.Rules.{rules}
+use lib.ListN.{drop}
 use Rattle.facts.specs.Sums.{count_by}
-use Rattle.rows.specs.Rows.{rows, row_count, zero_row, live}
+use Rattle.rows.specs.Rows.{rows, row_count, live}
 use Rattle.rows.specs.Find.{count_live}
-use Rattle.rows.proofs.Walks.{count_yes, count_no, count_past}
 use Rattle.rows.proofs.count_live.Given as goal
 
 abbrev pub invariant-loop-i : goal.invariant-loop-i

@@ -1,5 +1,4 @@
 use Rattle.rows.specs.Find.{find_free}
-use borrow.Author.Rules.{rules}
 use Rattle.rows.proofs.find_free.Goals as goal
 
 pub returns : goal.returns

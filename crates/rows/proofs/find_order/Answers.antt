@@ -2,12 +2,9 @@
 -- Assumes nothing.
 use mathlib.Core.Path.{◌≡◌, refl, sym, ◌∙◌}
 use mathlib.Core.Bool.{true, false}
-use Prim.Native.Nat.{◌≤◌, ◌-◌}
 use native.Mathlib.Omega.{arith}
-use lib.ListN.{get_or, drop}
-use borrow.Author.Rules.{rules}
-use Rattle.facts.specs.Search.{first}
-use Rattle.rows.specs.Rows.{rows, row_count, zero_row}
+use lib.ListN.{get_or}
+use Rattle.rows.specs.Rows.{rows, zero_row}
 use Rattle.rows.specs.Find.{is_order, find_order}
 use Rattle.rows.proofs.Walks.{row_hit, row_miss, row_end}
 use Rattle.rows.proofs.find_order.Goals as goal

@@ -1,15 +1,11 @@
 -- The search from row i on, over the rows left, gives what the whole search gives; each turn takes one row off.
 -- Assumes nothing.
-use mathlib.Core.Path.{◌≡◌, refl, sym, ◌∙◌}
-use mathlib.Core.Bool.{true, false}
+use mathlib.Core.Path.{◌≡◌}
 use Prim.Native.Nat.{◌≤◌, ◌-◌}
-use native.Mathlib.Omega.{arith}
-use lib.ListN.{get_or, drop}
-use borrow.Author.Rules.{rules}
+use lib.ListN.{drop}
 use Rattle.facts.specs.Search.{first}
-use Rattle.rows.specs.Rows.{rows, row_count, zero_row}
+use Rattle.rows.specs.Rows.{rows, row_count}
 use Rattle.rows.specs.Find.{is_order, find_order}
-use Rattle.rows.proofs.Walks.{row_hit, row_miss, row_end}
 use Rattle.rows.proofs.find_order.Given as goal
 
 abbrev pub invariant-loop-i : goal.invariant-loop-i

@@ -1,14 +1,10 @@
 -- The search from row i on, over the rows left, gives what the search from row s on gives; each turn takes one row off.
 -- Assumes nothing.
-use mathlib.Core.Path.{◌≡◌, refl, sym, ◌∙◌}
-use mathlib.Core.Bool.{true, false}
-use Prim.Native.Nat.{◌≤◌, ◌-◌}
-use native.Mathlib.Omega.{arith}
-use lib.ListN.{get_or, drop}
-use borrow.Author.Rules.{rules}
+use mathlib.Core.Path.{◌≡◌}
+use Prim.Native.Nat.{◌-◌}
+use lib.ListN.{drop}
 use Rattle.facts.specs.Search.{first}
-use Rattle.rows.specs.Rows.{rows, row_count, zero_row, free}
-use Rattle.rows.proofs.Walks.{row_hit, row_miss, row_end}
+use Rattle.rows.specs.Rows.{rows, row_count, free}
 use Rattle.rows.proofs.free_from.Given as goal
 
 abbrev pub invariant-loop-i : goal.invariant-loop-i

@@ -1,7 +1,6 @@
 -- The case of what was found decides, and the row is the one that lies there.
 -- Assumes nothing.
 use mathlib.Core.Path.{refl}
-use borrow.Author.Rules.{rules}
 use Rattle.rows.specs.Find.{held_at}
 use Rattle.rows.proofs.held_at.Goals as goal
 

@@ -2,7 +2,6 @@
 -- Assumes nothing.
 use mathlib.Core.Path.{◌∙◌}
 use native.Mathlib.Omega.{arith}
-use borrow.Author.Rules.{rules}
 use Rattle.rows.specs.Rows.{live}
 use Rattle.rows.specs.Find.{is_order}
 use Rattle.rows.proofs.Judged.{other_number, same_number}

@@ -3,7 +3,6 @@
 use mathlib.Core.Path.{sym}
 use native.Mathlib.Omega.{arith}
 use lib.ListN.{length-set}
-use borrow.Author.Rules.{rules}
 use Rattle.rows.proofs.Tables.{row_written, put_row_past}
 use Rattle.rows.proofs.put_row.Goals as goal
 

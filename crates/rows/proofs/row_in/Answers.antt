@@ -1,7 +1,6 @@
 -- The five numbers from 5 * i on are row i (row_read).
 -- Assumes nothing.
 use native.Mathlib.Omega.{arith}
-use borrow.Author.Rules.{rules}
 use Rattle.rows.proofs.Tables.{row_read}
 use Rattle.rows.proofs.row_in.Goals as goal
 

@@ -1,7 +1,6 @@
 -- Each work is one call, and that call ensures its case of the definition.
 -- Assumes nothing.
 use mathlib.Core.Path.{refl}
-use borrow.Author.Rules.{rules}
 use Rattle.symbols.specs.Work.{entered}
 use Rattle.symbols.proofs.commit.Goals as goal
 

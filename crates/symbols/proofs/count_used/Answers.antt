@@ -3,12 +3,8 @@
 use mathlib.Core.Path.{◌≡◌}
 use mathlib.Core.List.{[]}
 use mathlib.Core.Bool.{true, false}
-use mathlib.Core.Logic.{⊎_elim}
-use Prim.Native.Nat.{◌≤◌, ◌+◌, ◌-◌}
 use native.Mathlib.Omega.{arith}
-use lib.ListN.{length, get_or, drop}
-use borrow.Author.Rules.{rules}
-use Rattle.facts.specs.Sums.{count_by}
+use lib.ListN.{get_or}
 use Rattle.facts.proofs.CountLaws.{count_yes, count_no, count_end}
 use Rattle.symbols.specs.Entries.{entries, used}
 use Rattle.symbols.specs.Find.{count_used}
@@ -36,14 +32,14 @@ loop-i-preserved c =
     let es = entries c.args.t.now in
     let l = c.loop-i in
     elim c.if-is_used.branch [
-    then-is_used w ↦
-    let e : used (get_or es l.i []) ≡ true = cc w.if-is_used.true in
-    let n = count_yes used es l.i [] (omega arith) e in
-    (omega arith, l.invariant.1, omega arith, omega (arith, l.invariant.3))
-    | else-is_used w ↦
-    let e : used (get_or es l.i []) ≡ false = cc w.if-is_used.false in
-    let n = count_no used es l.i [] (omega arith) e in
-    (omega arith, l.invariant.1, omega arith, omega (arith, l.invariant.3))
+      | then-is_used w ↦
+          let e : used (get_or es l.i []) ≡ true = cc w.if-is_used.true in
+          let n = count_yes used es l.i [] (omega arith) e in
+          (omega arith, l.invariant.1, omega arith, omega (arith, l.invariant.3))
+      | else-is_used w ↦
+          let e : used (get_or es l.i []) ≡ false = cc w.if-is_used.false in
+          let n = count_no used es l.i [] (omega arith) e in
+          (omega arith, l.invariant.1, omega arith, omega (arith, l.invariant.3))
     ]
 
 pub returns : goal.returns

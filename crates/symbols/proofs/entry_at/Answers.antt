@@ -1,7 +1,6 @@
 -- The struct of the bytes of entry i, which entry_bytes gives.
 -- Assumes nothing.
 use mathlib.Core.Path.{ap, ◌∙◌}
-use borrow.Author.Rules.{rules}
 use Rattle.fields.specs.Fields.{symbol_of}
 use Rattle.symbols.proofs.entry_at.Goals as goal
 

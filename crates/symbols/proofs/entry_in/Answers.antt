@@ -1,7 +1,6 @@
 -- The part of one entry's width from that entry's start on is the entry (entry_part), and lies inside the table (entry_fits).
 -- Assumes nothing.
 use native.Mathlib.Omega.{arith}
-use borrow.Author.Rules.{rules}
 use Rattle.symbols.proofs.EntryLaws.{entry_fits, entry_part}
 use Rattle.symbols.proofs.entry_in.Goals as goal
 

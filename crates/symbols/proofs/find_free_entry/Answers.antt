@@ -3,11 +3,8 @@
 use mathlib.Core.Path.{◌≡◌, refl, sym, ◌∙◌}
 use mathlib.Core.List.{[]}
 use mathlib.Core.Bool.{true, false}
-use Prim.Native.Nat.{◌≤◌, ◌-◌}
 use native.Mathlib.Omega.{arith}
-use lib.ListN.{length, get_or, drop}
-use borrow.Author.Rules.{rules}
-use Rattle.facts.specs.Search.{first}
+use lib.ListN.{get_or}
 use Rattle.facts.proofs.Searches.{first_hit, first_miss, first_end}
 use Rattle.symbols.specs.Entries.{entries, free_entry}
 use Rattle.symbols.specs.Find.{find_free_entry}

@@ -1,7 +1,6 @@
 -- The symbol's own entry where the search finds it (place_own), else the lowest free one (place_fresh).
 -- Assumes nothing.
 use mathlib.Core.Path.{sym, ◌∙◌}
-use borrow.Author.Rules.{rules}
 use Rattle.symbols.specs.Entries.{entries}
 use Rattle.symbols.proofs.FindLaws.{place_own, place_fresh}
 use Rattle.symbols.proofs.find_place.Goals as goal

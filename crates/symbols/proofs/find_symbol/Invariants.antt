@@ -1,14 +1,9 @@
 -- The search from entry i on, over the entries left, gives what the whole search gives; each turn takes one entry off.
 -- Assumes nothing.
-use mathlib.Core.Path.{◌≡◌, refl, sym, ◌∙◌}
-use mathlib.Core.List.{[]}
-use mathlib.Core.Bool.{true, false}
+use mathlib.Core.Path.{◌≡◌}
 use Prim.Native.Nat.{◌≤◌, ◌-◌}
-use native.Mathlib.Omega.{arith}
-use lib.ListN.{length, get_or, drop}
-use borrow.Author.Rules.{rules}
+use lib.ListN.{length, drop}
 use Rattle.facts.specs.Search.{first}
-use Rattle.facts.proofs.Searches.{first_hit, first_miss, first_end}
 use Rattle.symbols.specs.Entries.{entries}
 use Rattle.symbols.specs.Find.{is_symbol, find_symbol}
 use Rattle.symbols.proofs.find_symbol.Given as goal

@@ -2,7 +2,6 @@
 -- Assumes nothing.
 use mathlib.Core.Path.{ap}
 use lib.Dec.{eqb}
-use borrow.Author.Rules.{rules}
 use Rattle.symbols.specs.Entries.{free_entry}
 use Rattle.symbols.proofs.is_free.Goals as goal
 

@@ -1,6 +1,5 @@
 use mathlib.Core.Path.{ap, ◌∙◌}
 use Rattle.symbols.specs.Find.{is_symbol}
-use borrow.Author.Rules.{rules}
 use Rattle.symbols.proofs.is_symbol_at.Goals as goal
 
 pub returns : goal.returns

@@ -1,7 +1,6 @@
 -- The test of the bytes of entry i, which entry_bytes gives.
 -- Assumes nothing.
 use mathlib.Core.Path.{ap, ◌∙◌}
-use borrow.Author.Rules.{rules}
 use Rattle.symbols.specs.Entries.{used}
 use Rattle.symbols.proofs.is_used_at.Goals as goal
 

@@ -1,7 +1,6 @@
 -- A symbol is known exactly if the search finds an entry.
 -- Assumes nothing.
 use mathlib.Core.Path.{sym, ◌∙◌}
-use borrow.Author.Rules.{rules}
 use Rattle.symbols.specs.Entries.{entries}
 use Rattle.symbols.proofs.FindLaws.{found_known, nowhere_unknown}
 use Rattle.symbols.proofs.known.Goals as goal

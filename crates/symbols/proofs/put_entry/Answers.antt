@@ -2,7 +2,6 @@
 -- Assumes nothing.
 use mathlib.Core.Path.{sym}
 use native.Mathlib.Omega.{arith}
-use borrow.Author.Rules.{rules}
 use Rattle.symbols.proofs.EntryLaws.{entry_fits, entry_written, put_entry_past}
 use Rattle.symbols.proofs.put_entry.Goals as goal
 

@@ -1,11 +1,9 @@
 -- The loop keeps: each place below i holds the byte of the other there; lists that agree at every place are one.
 -- Assumes nothing.
-use mathlib.Core.Path.{◌≡◌, refl, ◌∙◌}
-use Prim.Native.Nat.{ℕ, ◌≤◌, ◌<◌, ◌-◌}
+use mathlib.Core.Path.{refl, ◌∙◌}
 use native.Mathlib.Omega.{arith}
-use lib.ListN.{length, get_or, length-set}
+use lib.ListN.{get_or, length-set}
 use lib.Seq.{ext_get_or}
-use borrow.Author.Rules.{rules}
 use Rattle.facts.proofs.Lists.{write_more}
 use Rattle.wire.proofs.copy.Goals as goal
 

@@ -7,7 +7,6 @@ use native.Mathlib.Nat.{add-sub_cancel_left}
 use lib.ListN.{length, take, drop, length-drop}
 use lib.Seq.{length-take-le}
 use Rattle.wire.proofs.Laws.{padded_part, front_and_zeros, zeros_alone, zeros_room}
-use borrow.Author.Rules.{rules}
 use Rattle.wire.proofs.copy_at.Goals as goal
 
 pub returns-then-b-at : goal.returns-then-b-at

@@ -2,7 +2,6 @@
 -- Assumes nothing.
 use native.Mathlib.Omega.{arith}
 use Rattle.wire.proofs.Laws.{field_split}
-use borrow.Author.Rules.{rules}
 use Rattle.wire.proofs.four_in.Goals as goal
 
 pub returns : goal.returns

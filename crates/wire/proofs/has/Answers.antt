@@ -6,7 +6,6 @@ use native.Mathlib.Omega.{arith}
 use lib.ListN.{length}
 use borrow.Author.Tests.{lt-leb}
 use Rattle.wire.proofs.Laws.{fits_test}
-use borrow.Author.Rules.{rules}
 use Rattle.wire.proofs.has.Goals as goal
 
 pub returns-then-b-n : goal.returns-then-b-n

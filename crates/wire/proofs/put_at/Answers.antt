@@ -1,11 +1,8 @@
 -- The loop keeps: the bytes that are left, stored from here on, give all of them stored; past the end nothing is stored.
 -- Assumes nothing.
-use mathlib.Core.Path.{◌≡◌, refl, ◌∙◌}
-use Prim.Native.Nat.{◌≤◌, ◌-◌}
+use mathlib.Core.Path.{refl, ◌∙◌}
 use native.Mathlib.Omega.{arith}
-use lib.ListN.{length, length-set, drop}
-use lib.Seq.{sets}
-use borrow.Author.Rules.{rules}
+use lib.ListN.{length-set}
 use Rattle.wire.proofs.Laws.{text_more, text_none, text_past}
 use Rattle.wire.proofs.put_at.Goals as goal
 

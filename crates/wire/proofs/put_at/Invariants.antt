@@ -1,12 +1,9 @@
 -- The loop keeps: the bytes that are left, stored from here on, give all of them stored; past the end nothing is stored.
 -- Assumes nothing.
-use mathlib.Core.Path.{◌≡◌, refl, ◌∙◌}
+use mathlib.Core.Path.{◌≡◌}
 use Prim.Native.Nat.{◌≤◌, ◌-◌}
-use native.Mathlib.Omega.{arith}
-use lib.ListN.{length, length-set, drop}
+use lib.ListN.{length, drop}
 use lib.Seq.{sets}
-use borrow.Author.Rules.{rules}
-use Rattle.wire.proofs.Laws.{text_more, text_none, text_past}
 use Rattle.wire.proofs.put_at.Given as goal
 
 abbrev pub invariant-loop-k : goal.invariant-loop-k

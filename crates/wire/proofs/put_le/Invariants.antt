@@ -1,11 +1,9 @@
 -- The loop keeps: what is left of the number, stored from here on, gives the whole of it stored; past the end nothing is stored.
 -- Assumes nothing.
-use mathlib.Core.Path.{◌≡◌, refl, ◌∙◌}
-use lib.ListN.{length, length-set}
+use mathlib.Core.Path.{◌≡◌}
+use lib.ListN.{length}
 use lib.Seq.{sets}
-use borrow.Author.Rules.{rules}
 use Rattle.wire.specs.Le.{to_le}
-use Rattle.wire.proofs.Laws.{le_more, le_none, le_past}
 use Rattle.wire.proofs.put_le.Given as goal
 
 abbrev pub invariant-loop-left : goal.invariant-loop-left

@@ -3,7 +3,6 @@
 use Prim.Native.Nat.{◌+◌}
 use native.Mathlib.Omega.{arith}
 use Rattle.wire.proofs.Laws.{field_split, field_one}
-use borrow.Author.Rules.{rules}
 use Rattle.wire.proofs.two_in.Goals as goal
 
 pub returns : goal.returns

@@ -7,7 +7,6 @@ use lib.ListN.{length}
 use borrow.Author.Tests.{leb-true}
 use Rattle.wire.specs.Le.{field}
 use Rattle.wire.proofs.Laws.{field_copied}
-use borrow.Author.Rules.{rules}
 use Rattle.wire.proofs.u32_at.Goals as goal
 
 pub four_in-requires : goal.four_in-requires

@@ -7,7 +7,6 @@ use lib.ListN.{length}
 use borrow.Author.Tests.{leb-true}
 use Rattle.wire.specs.Le.{field}
 use Rattle.wire.proofs.Laws.{field_copied}
-use borrow.Author.Rules.{rules}
 use Rattle.wire.proofs.u64_at.Goals as goal
 
 pub eight_in-requires : goal.eight_in-requires

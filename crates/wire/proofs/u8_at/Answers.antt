@@ -1,6 +1,5 @@
 -- The byte where there is one, else the default of a list read past its end.
 -- Assumes nothing.
-use borrow.Author.Rules.{rules}
 use mathlib.Core.Path.{sym}
 use lib.ListN.{get_or-eq_default}
 use Rattle.wire.proofs.u8_at.Goals as goal

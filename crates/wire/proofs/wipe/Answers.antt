@@ -1,10 +1,9 @@
 -- The loop keeps: each byte below i is 0; a list of zeros at every place is the list of that many zeros.
 -- Assumes nothing.
-use mathlib.Core.Path.{◌≡◌, refl, ap, ◌∙◌}
-use Prim.Native.Nat.{ℕ, ◌≤◌, ◌<◌, ◌-◌}
+use mathlib.Core.Path.{refl, ap, ◌∙◌}
+use Prim.Native.Nat.{ℕ}
 use native.Mathlib.Omega.{arith}
-use lib.ListN.{length, get_or, replicate, length-set}
-use borrow.Author.Rules.{rules}
+use lib.ListN.{replicate, length-set}
 use Rattle.facts.proofs.Lists.{write_more}
 use Rattle.facts.proofs.PieceLaws.{is_replicate}
 use Rattle.wire.proofs.wipe.Goals as goal

@@ -1,10 +1,9 @@
 -- The message is refused by what its judge says (code_number).
 -- Assumes nothing.
-use mathlib.Core.Path.{sym, ap, ◌∙◌}
+use mathlib.Core.Path.{ap, ◌∙◌}
 use Prim.Native.Nat.{ℕ}
 use Rattle.body.proofs.Codes.{code_number}
-use Rattle.writer.specs.Append.{Writing, appended, appended_as}
-use borrow.Author.Rules.{rules}
+use Rattle.writer.specs.Append.{appended, appended_as}
 use Rattle.writer.proofs.append.Goals as goal
 
 pub returns : goal.returns

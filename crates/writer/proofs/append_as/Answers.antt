@@ -1,9 +1,8 @@
 -- Beyond the memory, or what the reader says of the packet so far, or the record (beyond, refused_here, bad_here, good_here).
 -- Assumes nothing.
-use mathlib.Core.Path.{sym, ap, ◌∙◌}
+use mathlib.Core.Path.{sym, ◌∙◌}
 use Rattle.writer.proofs.Laws.{beyond, refused_here, bad_here, good_here}
 use Rattle.writer.specs.Append.{appended_as}
-use borrow.Author.Rules.{rules}
 use Rattle.writer.proofs.append_as.Goals as goal
 
 pub returns-then-memory-used : goal.returns-then-memory-used

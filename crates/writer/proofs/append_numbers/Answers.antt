@@ -3,7 +3,6 @@
 use mathlib.Core.Path.{sym, ◌∙◌}
 use lib.Seq.{length-take-le}
 use Rattle.writer.proofs.Numbers.{draft_long, drafted}
-use borrow.Author.Rules.{rules}
 use Rattle.writer.proofs.append_numbers.Goals as goal
 
 pub slice_bounds-bytes-end : goal.slice_bounds-bytes-end

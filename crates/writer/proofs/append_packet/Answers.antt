@@ -1,9 +1,8 @@
 -- Beyond the memory, or what the reader says of the packet, or the packet behind its length (beyond, refused_here, bad_here, good_here).
 -- Assumes nothing.
-use mathlib.Core.Path.{sym, ap, ◌∙◌}
+use mathlib.Core.Path.{sym, ◌∙◌}
 use Rattle.writer.proofs.Laws.{beyond, refused_here, bad_here, good_here}
 use Rattle.writer.specs.Append.{packet_appended}
-use borrow.Author.Rules.{rules}
 use Rattle.writer.proofs.append_packet.Goals as goal
 
 pub returns-then-memory-used : goal.returns-then-memory-used

@@ -4,7 +4,6 @@ use mathlib.Core.Path.{sym, ◌∙◌}
 use Prim.Native.Nat.{◌+◌}
 use borrow.Author.Tests.{not-true, not-false}
 use Rattle.writer.proofs.Laws.{bad_number, bad_message, over_long, no_room, none_refuses}
-use borrow.Author.Rules.{rules}
 use Rattle.writer.proofs.own_number.Goals as goal
 
 pub returns-then-not-number_ok : goal.returns-then-not-number_ok

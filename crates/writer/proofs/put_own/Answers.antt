@@ -1,12 +1,10 @@
 -- Refused, the memory is as it was (put_own_refused); else the record stands in it (put_own_stored).
 -- Assumes nothing.
-use mathlib.Core.Path.{sym, ap, ◌∙◌}
-use Prim.Native.Nat.{ℕ, ◌+◌}
+use mathlib.Core.Path.{sym, ◌∙◌}
+use Prim.Native.Nat.{◌+◌}
 use native.Mathlib.Omega.{arith}
 use lib.ListN.{length}
-use Rattle.trips.proofs.Records.{length_record}
 use Rattle.writer.proofs.Laws.{allowed, put_own_refused, put_own_stored}
-use borrow.Author.Rules.{rules}
 use Rattle.writer.proofs.put_own.Goals as goal
 
 pub returns-then-k-ne0 : goal.returns-then-k-ne0

@@ -1,12 +1,11 @@
 -- Without room the memory is as it was (put_packet_refused); else length and packet stand in it (put_packet_stored).
 -- Assumes nothing.
-use mathlib.Core.Path.{sym, ap, ◌∙◌}
-use Prim.Native.Nat.{ℕ, ◌+◌}
+use mathlib.Core.Path.{sym, ◌∙◌}
+use Prim.Native.Nat.{◌+◌}
 use native.Mathlib.Omega.{arith}
 use lib.ListN.{length}
 use borrow.Author.Tests.{not-true, not-false, leb-true}
 use Rattle.writer.proofs.Laws.{put_packet_refused, put_packet_stored}
-use borrow.Author.Rules.{rules}
 use Rattle.writer.proofs.put_packet.Goals as goal
 
 pub returns-then-not-room_for : goal.returns-then-not-room_for

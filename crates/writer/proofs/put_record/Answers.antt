@@ -1,8 +1,6 @@
 -- Number, length and body, stored one behind the other, are the record's bytes (record_put).
 -- Assumes nothing.
-use mathlib.Core.Path.{ap, ◌∙◌}
 use Rattle.writer.proofs.Laws.{record_put}
-use borrow.Author.Rules.{rules}
 use Rattle.writer.proofs.put_record.Goals as goal
 
 pub returns : goal.returns

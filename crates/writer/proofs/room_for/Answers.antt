@@ -1,6 +1,6 @@
 -- Where head and bytes cannot be there, they are not; else the test compares what is used with what is left (room_test).
 -- Assumes nothing.
-use mathlib.Core.Path.{sym, ◌∙◌}
+use mathlib.Core.Path.{sym}
 use Prim.Native.Nat.{◌+◌}
 use native.Mathlib.Omega.{arith}
 use borrow.Author.Tests.{lt-leb}

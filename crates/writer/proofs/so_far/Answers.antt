@@ -1,11 +1,9 @@
 -- Empty, or as reading says.
 -- Assumes nothing.
-use mathlib.Core.Path.{sym, ap, ◌∙◌}
-use native.Mathlib.Omega.{arith}
-use lib.ListN.{length, take}
+use mathlib.Core.Path.{sym, ◌∙◌}
+use lib.ListN.{take}
 use lib.Seq.{length-take-le}
 use Rattle.writer.proofs.Laws.{so_far_empty, so_far_some}
-use borrow.Author.Rules.{rules}
 use Rattle.writer.proofs.so_far.Goals as goal
 
 pub returns-then-used-eq0 : goal.returns-then-used-eq0
