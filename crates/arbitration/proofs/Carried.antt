@@ -1,25 +1,24 @@
 -- What surrounds every message that a run applies: its number is at least 1, its body is good and made of bytes, because next starts at 1 and packets hold bytes.
 -- So what each such message keeps of a book, a run keeps.
 -- Assumes nothing.
-use Prim.Native.Nat.{ℕ, ◌+◌, ◌%◌, ◌≤◌, ◌<◌}
+use Prim.Native.Nat.{ℕ, ◌%◌, ◌≤◌, ◌<◌}
 use mathlib.Core.Path.{◌≡◌}
 use mathlib.Core.Bool.{true}
 use mathlib.Core.List.{List}
-use lib.ListN.{length}
 use native.Mathlib.Omega.{arith}
 use Rattle.wire.specs.Le.{Bytes}
 use Rattle.wire.specs.Records.{Rec, Frames}
 use Rattle.wire.proofs.Bytewise.{bytes_take, bytes_padded, bytes_zeros}
-use Rattle.arbitration.specs.Slots.{Slot, empty_slot, slot_for, slot_body, Fits}
+use Rattle.arbitration.specs.Slots.{empty_slot, slot_for, slot_body}
 use Rattle.arbitration.specs.Engine.{ok, Engine, Store, Laws}
-use Rattle.arbitration.specs.Receive.{State, slot_of, turned, drain, shelved, after, run, records_of, accepted, worked_all}
+use Rattle.arbitration.specs.Receive.{State, slot_of, turned, drain, shelved, after, run, accepted, worked_all}
 use Rattle.arbitration.specs.Lists.{Every, Sent, Zeroed}
 use Rattle.arbitration.proofs.Window.{slot_lt}
 use Rattle.arbitration.proofs.SlotLaws.{empty_fits, put_at}
 use Rattle.arbitration.proofs.Turns.{Went, drain_keeps}
-use Rattle.arbitration.proofs.Answers.{after_cases, after_next, run_keeps}
+use Rattle.arbitration.proofs.Answers.{after_cases, run_keeps}
 use Rattle.arbitration.proofs.Range.{bounded_fits}
-use Rattle.arbitration.proofs.Packets.{every_accepted, packets_run}
+use Rattle.arbitration.proofs.Packets.{packets_run}
 
 empty_bytes : Bytes empty_slot.bytes
 empty_bytes = bytes_zeros 64

@@ -11,12 +11,12 @@ use native.Mathlib.Omega.{arith}
 use Rattle.wire.specs.Records.{Rec}
 use Rattle.arbitration.specs.Slots.{Slot, empty_slot, slot_for, slot_body, same_slot, Fits}
 use Rattle.arbitration.specs.Engine.{Applied, ok, broke, Engine, Store, Laws}
-use Rattle.arbitration.specs.Receive.{taken, differing, State, slot_of, turned, drain, shelved, judged, after, run}
+use Rattle.arbitration.specs.Receive.{taken, differing, State, slot_of, turned, drain, shelved, judged, after}
 use Rattle.arbitration.specs.Lists.{Every, msg, WellFormed, Copies, Numbered, Copy, made, Zeroed}
 use Rattle.arbitration.proofs.Window.{same_slot_lem, slot_lt}
 use Rattle.arbitration.proofs.SlotLaws.{empty_fits, slot_for_fits, body_back, same_refl, put_at}
 use Rattle.arbitration.proofs.Turns.{Went, drain_keeps}
-use Rattle.arbitration.proofs.Answers.{Shows, shows, after_cases, run_keeps}
+use Rattle.arbitration.proofs.Answers.{Shows, shows, after_cases}
 
 pub every_copy : (ms : List (List ℕ)) (cs : List Rec) → Every Numbered cs → Copies ms cs → Every (Copy ms) cs
 every_copy ms [] n h = tt

@@ -15,7 +15,7 @@ use Rattle.facts.specs.Pick.{pick}
 use Rattle.wire.specs.Le.{Bytes}
 use Rattle.wire.proofs.Bytewise.{bytes_zeros}
 use Rattle.arbitration.specs.Slots.{Slot, empty_slot}
-use Rattle.arbitration.specs.Engine.{Applied, ok, broke, Engine, Store, StoreLaws, Laws}
+use Rattle.arbitration.specs.Engine.{ok, Engine, Store, StoreLaws, Laws}
 use Rattle.arbitration.specs.Receive.{State, slot_of, drain, after}
 use Rattle.arbitration.specs.Lists.{msg, WellFormed, made}
 use Rattle.arbitration.specs.Refresh.{cleared, refreshed, Event, after_e, run_e, Base, based, Fair, end, copy, anew, AnsweredE, here, by_refresh, later, Ideal, ideal}

@@ -10,7 +10,7 @@ use Rattle.facts.specs.declared.Found.{Found}
 use Rattle.facts.specs.declared.Found.TheVariants.{At, Nothing}
 use Rattle.facts.proofs.Picks.{pick_ind}
 use Rattle.rows.specs.declared.Row.{Row}
-use Rattle.rows.specs.Rows.{zero_row, free, live}
+use Rattle.rows.specs.Rows.{free}
 use Rattle.symbols.specs.declared.EntryWork.{EntryWork}
 use Rattle.orders.specs.declared.RowWork.{RowWork}
 use Rattle.index.specs.Index.{slots, hash, vacant, filled_at, placed, taken, freed, entered, each_row, front, zeroed, built, roomy, came}

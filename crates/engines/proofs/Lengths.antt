@@ -3,11 +3,11 @@
 use mathlib.Core.Path.{◌≡◌, refl}
 use mathlib.Core.List.{List}
 use Prim.Native.Nat.{ℕ}
-use lib.ListN.{length, get_or, length-set}
+use lib.ListN.{length, length-set}
 use Rattle.facts.specs.Pick.{pick}
 use Rattle.facts.proofs.Picks.{pick_ind}
 use Rattle.rows.specs.declared.Row.{Row}
-use Rattle.rows.specs.Rows.{zero_row, free}
+use Rattle.rows.specs.Rows.{free}
 use Rattle.symbols.specs.declared.EntryWork.{EntryWork}
 use Rattle.symbols.specs.Entries.{id_of}
 use Rattle.orders.specs.declared.RowWork.{RowWork}

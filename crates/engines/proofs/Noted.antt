@@ -19,11 +19,11 @@ use Rattle.orders.specs.declared.RowWork.{RowWork}
 use Rattle.orders.specs.Work.{wiped, committed}
 use Rattle.orders.proofs.Cases.{wiped_yes, wiped_no}
 use Rattle.orders.proofs.Clears.{clear_rows}
-use Rattle.index.specs.Index.{freed, each_row}
+use Rattle.index.specs.Index.{each_row}
 use Rattle.index.specs.Indexed.{Indexed}
 use Rattle.index.proofs.Cases.{each_more, each_end}
 use Rattle.index.proofs.Kept.{come_indexed, gone_indexed, change_indexed, hint_indexed}
-use Rattle.engines.specs.Engines.{put_noted, left, noted, hinted_to}
+use Rattle.engines.specs.Engines.{left, noted, hinted_to}
 use Rattle.engines.proofs.Cases.{put_comes, put_goes, put_stays, left_yes, left_no}
 
 -- ---- work that the index can follow

@@ -3,24 +3,24 @@
 use mathlib.Core.Path.{◌≡◌, refl, sym, ap, ◌∙◌, subst}
 use mathlib.Core.List.{List}
 use mathlib.Core.Bool.{Bool, true, false, true≢false, not}
-use Prim.Native.Nat.{ℕ, zero, suc, ◌+◌, ◌-◌, ◌*◌, ◌/◌, ◌≤◌, ◌<◌}
+use Prim.Native.Nat.{ℕ, zero, suc, ◌+◌, ◌*◌, ◌≤◌, ◌<◌}
 use native.Mathlib.Decide.{ℕ_discrete}
 use native.Mathlib.Numerals.{add-one}
 use native.Mathlib.Omega.{arith}
 use lib.ListN.{length, get_or, drop}
-use lib.Dec.{ltb, leb, eqb}
+use lib.Dec.{ltb, leb}
 use borrow.Author.Tests.{lt-ltb, le-ltb, eq-eqb, ltb-true, ltb-false, leb-true, leb-false}
 use Rattle.facts.specs.Pick.{both}
 use Rattle.rows.specs.declared.Row.{Row}
-use Rattle.rows.specs.Rows.{zero_row, free, live, spoiled}
+use Rattle.rows.specs.Rows.{zero_row, free, live}
 use Rattle.rows.proofs.Judged.{RowState, row_is_free, row_is_live, row_is_spoiled, row_state}
-use Rattle.index.specs.Index.{slots, used_of, count_of, packed, hash, placed, freed, entered, each_row, front, zeroed, built, roomy}
-use Rattle.index.specs.Indexed.{Reaches, count_at, is_filled, is_free_below, Upto, Indexed}
+use Rattle.index.specs.Index.{slots, used_of, packed, hash, placed, freed, entered, each_row, front, zeroed, built, roomy}
+use Rattle.index.specs.Indexed.{Reaches, is_filled, is_free_below, Upto, Indexed}
 use Rattle.index.proofs.Cases.{slots_is, hash_below, entered_live, entered_free, entered_else, each_more, each_end, room_full, room_left, front_is, length_zeroed, zeroed_at}
 use Rattle.index.proofs.Counts.{count_no, count_same}
 use Rattle.index.proofs.Reached.{Grows, reach_keep}
 use Rattle.index.proofs.Looked.{packed_some}
-use Rattle.index.proofs.Stored.{Placed, place_does, SameSlots, same_filled, freed_slots, freed_length, Counts, freed_counts}
+use Rattle.index.proofs.Stored.{place_does, SameSlots, same_filled, freed_slots, freed_length, Counts, freed_counts}
 
 -- row i of rs is reached in ix
 abbrev pub Reached : List ℕ → List Row → ℕ → Type 0

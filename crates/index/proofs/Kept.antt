@@ -2,8 +2,8 @@
 -- Assumes nothing.
 use mathlib.Core.Path.{◌≡◌, refl, sym, ap, ◌∙◌, subst}
 use mathlib.Core.List.{List}
-use mathlib.Core.Bool.{Bool, true, false, true≢false}
-use Prim.Native.Nat.{ℕ, suc, ◌+◌, ◌-◌, ◌*◌, ◌/◌, ◌≤◌, ◌<◌}
+use mathlib.Core.Bool.{true, false, true≢false}
+use Prim.Native.Nat.{ℕ, ◌+◌, ◌*◌, ◌≤◌, ◌<◌}
 use native.Mathlib.Decide.{ℕ_discrete}
 use native.Mathlib.Omega.{arith}
 use lib.ListN.{length, get_or, set, length-set}
@@ -14,11 +14,11 @@ use Rattle.facts.specs.Pick.{both}
 use Rattle.rows.specs.declared.Row.{Row}
 use Rattle.rows.specs.Rows.{zero_row, free, live}
 use Rattle.rows.proofs.Judged.{live_not_free, zero_free, zero_not_live}
-use Rattle.index.specs.Index.{slots, used_of, count_of, packed, hash, placed, taken, freed, roomy, came, hint_at}
-use Rattle.index.specs.Indexed.{Reaches, count_at, is_filled, is_free_below, Upto, Indexed}
+use Rattle.index.specs.Index.{slots, used_of, packed, hash, placed, taken, freed, roomy, came, hint_at}
+use Rattle.index.specs.Indexed.{Reaches, is_free_below, Upto, Indexed}
 use Rattle.index.proofs.Counts.{count_same}
 use Rattle.index.proofs.Reached.{Grows}
-use Rattle.index.proofs.Stored.{Placed, place_does, SameSlots, same_filled, taken_slots, taken_length, freed_slots, freed_length, Counts, freed_counts, taken_counts}
+use Rattle.index.proofs.Stored.{place_does, SameSlots, same_filled, taken_slots, taken_length, freed_slots, freed_length, freed_counts, taken_counts}
 use Rattle.index.proofs.Built.{Reached, reached_keep, slots_grow, roomy_indexed}
 
 -- ---- the rows after one is set

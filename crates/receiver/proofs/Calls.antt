@@ -19,7 +19,7 @@ use Rattle.book.specs.Ledger.{Ledger, Posting, posting, looks, devised, tried, p
 use Rattle.book.proofs.Laws.{devised_good, tried_applied, tried_told}
 use Rattle.arbitration.specs.Slots.{Slot, empty_slot, slot_for, slot_body}
 use Rattle.arbitration.specs.Receive.{records_of, no_counts, stop, highest}
-use Rattle.arbitration.specs.Loops.{Working, work}
+use Rattle.arbitration.specs.Loops.{work}
 use Rattle.arbitration.specs.Lists.{Bounded}
 use Rattle.arbitration.specs.declared.Counts.{Counts}
 use Rattle.arbitration.proofs.SlotLaws.{empty_fits}

@@ -4,7 +4,6 @@ use Prim.Native.Nat.{ℕ, ◌+◌, ◌%◌, ◌≤◌, ◌<◌}
 use mathlib.Core.Path.{◌≡◌, refl, sym, ap, ◌∙◌}
 use mathlib.Core.Logic.{◌≢◌}
 use mathlib.Core.Bool.{Bool, true, false}
-use mathlib.Core.List.{List}
 use lib.Dec.{eqb}
 use borrow.Author.Tests.{eqb-true, eqb-false}
 use Rattle.arbitration.specs.Slots.{Slot, empty_slot, slot_body}
@@ -12,7 +11,7 @@ use Rattle.arbitration.specs.Engine.{ok, Engine, Store}
 use Rattle.arbitration.specs.Receive.{stuck, of_applied, try, stop}
 use Rattle.arbitration.specs.Loops.{turn_to, goes_on}
 use Rattle.arbitration.proofs.Turns.{Stays, try_empty, try_other, try_bad, try_good, long_bad, short_good, stays_nothing, stays_stuck, moves, stop_nothing, stop_stuck, stop_goes}
-use Rattle.receiver.specs.Parts.{Rules, Parts, engine_of}
+use Rattle.receiver.specs.Parts.{Parts, engine_of}
 use Rattle.receiver.specs.Receiver.{Rx}
 use Rattle.receiver.proofs.PartsLaws.{PartsLaws, apply_ok, apply_broke}
 

@@ -1,7 +1,6 @@
 -- The definition is the same three calls.
 -- Assumes nothing.
 use mathlib.Core.Path.{ap, ◌∙◌}
-use borrow.Author.Rules.{rules}
 use Rattle.book.specs.Plan.{of_known, add_plan, room_for}
 use Rattle.book.proofs.add_plan.Goals as goal
 

@@ -5,7 +5,6 @@ use Rattle.book.specs.declared.Plan.{Plan}
 use Rattle.book.specs.Book.{book}
 use Rattle.book.specs.Ledger.{ledger, tried}
 use Rattle.book.proofs.Laws.{devised_bad, devised_kind, tried_stop}
-use borrow.Author.Rules.{rules}
 use Rattle.book.proofs.attempt.Goals as goal
 
 pub returns-in-Bad : goal.returns-in-Bad

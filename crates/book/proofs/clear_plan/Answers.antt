@@ -1,7 +1,6 @@
 -- The definition is the same two calls.
 -- Assumes nothing.
 use mathlib.Core.Path.{ap, ◌∙◌}
-use borrow.Author.Rules.{rules}
 use Rattle.book.specs.Plan.{of_known, clear_plan}
 use Rattle.book.proofs.clear_plan.Goals as goal
 

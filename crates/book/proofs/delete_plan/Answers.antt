@@ -1,7 +1,6 @@
 -- The target decides: its rule stops, or the zero row takes its place.
 -- Assumes nothing.
 use mathlib.Core.Path.{sym, ap, ◌∙◌}
-use borrow.Author.Rules.{rules}
 use Rattle.book.specs.Plan.{of_known, delete_plan, delete_at}
 use Rattle.book.proofs.Laws.{upon_rule, upon_order}
 use Rattle.book.proofs.delete_plan.Goals as goal

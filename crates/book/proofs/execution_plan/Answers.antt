@@ -1,7 +1,6 @@
 -- The target decides, then the sizes: a rule stops, or the row is reduced.
 -- Assumes nothing.
 use mathlib.Core.Path.{sym, ap, ◌∙◌}
-use borrow.Author.Rules.{rules}
 use Rattle.book.specs.Plan.{of_known, execution_plan, execute_at}
 use Rattle.book.proofs.Laws.{upon_rule, upon_order, execute_over, execute_is}
 use Rattle.book.proofs.execution_plan.Goals as goal

@@ -1,7 +1,6 @@
 -- The target decides: its rule stops, or its row is remade.
 -- Assumes nothing.
 use mathlib.Core.Path.{sym, ap, ◌∙◌}
-use borrow.Author.Rules.{rules}
 use Rattle.book.specs.Plan.{of_known, modify_plan, modify_at}
 use Rattle.book.proofs.Laws.{upon_rule, upon_order}
 use Rattle.book.proofs.modify_plan.Goals as goal

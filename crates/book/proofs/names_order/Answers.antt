@@ -3,7 +3,6 @@
 use mathlib.Core.Path.{sym, ap}
 use Rattle.book.specs.Ledger.{names_order}
 use Rattle.book.proofs.Rest.{rest_unnamed}
-use borrow.Author.Rules.{rules}
 use borrow.Enum.Refused.{opened}
 use Rattle.book.proofs.names_order.Goals as goal
 

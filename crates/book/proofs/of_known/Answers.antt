@@ -1,7 +1,6 @@
 -- The case of what was found decides.
 -- Assumes nothing.
 use mathlib.Core.Path.{refl}
-use borrow.Author.Rules.{rules}
 use Rattle.book.specs.Plan.{of_known}
 use Rattle.book.proofs.of_known.Goals as goal
 

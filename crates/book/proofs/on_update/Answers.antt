@@ -1,7 +1,6 @@
 -- The search is the one that the contract names.
 -- Assumes nothing.
 use mathlib.Core.Path.{refl}
-use borrow.Author.Rules.{rules}
 use Rattle.book.proofs.on_update.Goals as goal
 
 pub returns : goal.returns

@@ -1,6 +1,5 @@
 -- The row at the place that the search found.
 -- Assumes nothing.
-use borrow.Author.Rules.{rules}
 use Rattle.book.proofs.order_in.Goals as goal
 
 pub returns : goal.returns

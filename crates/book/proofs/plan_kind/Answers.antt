@@ -1,8 +1,6 @@
 -- A message names an order or none.
 -- Assumes nothing.
 use mathlib.Core.Path.{sym, ◌∙◌}
-use borrow.Author.Tests.{not-true, not-false}
-use borrow.Author.Rules.{rules}
 use Rattle.book.proofs.plan_kind.Goals as goal
 
 pub plan_named-requires : goal.plan_named-requires

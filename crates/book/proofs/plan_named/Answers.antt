@@ -1,17 +1,15 @@
 -- Symbol and order are read where each of the four messages has them, so that each arm answers the plan of its kind.
 -- Assumes nothing.
-use mathlib.Core.Path.{◌≡◌, ap, ◌∙◌}
+use mathlib.Core.Path.{ap, ◌∙◌}
 use Prim.Native.Nat.{ℕ}
-use Rattle.rows.specs.Rows.{rows}
 use Rattle.symbols.specs.Entries.{entries}
-use Rattle.engines.specs.Engines.{free_by, entry_by}
+use Rattle.engines.specs.Engines.{entry_by}
 use Rattle.fields.specs.Fields.{decoded}
 use Rattle.book.specs.Plan.{plan_by, add_plan, modify_plan, delete_plan, execution_plan}
 use Rattle.book.specs.Book.{book}
 use Rattle.book.specs.Ledger.{order_for, looks, ledger}
 use Rattle.book.proofs.Laws.{kind_plan}
 use Rattle.book.proofs.Rest.{rest_execution}
-use borrow.Author.Rules.{rules}
 use borrow.Enum.Refused.{opened}
 use Rattle.book.proofs.plan_named.Goals as goal
 

@@ -1,6 +1,6 @@
 -- No planner of these kinds asks for an order, so that any order table gives the same.
 -- Assumes nothing.
-use mathlib.Core.Path.{◌≡◌, ap, ◌∙◌}
+use mathlib.Core.Path.{ap, ◌∙◌}
 use Prim.Native.Nat.{ℕ}
 use Rattle.symbols.specs.Entries.{entries}
 use Rattle.engines.specs.Engines.{entry_by}
@@ -11,7 +11,6 @@ use Rattle.book.specs.Book.{book}
 use Rattle.book.specs.Ledger.{looks, ledger}
 use Rattle.book.proofs.Laws.{kind_plan}
 use Rattle.book.proofs.Rest.{rest_idle}
-use borrow.Author.Rules.{rules}
 use borrow.Enum.Refused.{opened}
 use Rattle.book.proofs.plan_other.Goals as goal
 

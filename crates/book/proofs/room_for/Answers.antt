@@ -1,7 +1,6 @@
 -- The two things found are tried in the order of the definition.
 -- Assumes nothing.
 use mathlib.Core.Path.{refl}
-use borrow.Author.Rules.{rules}
 use Rattle.book.specs.Plan.{room_for}
 use Rattle.book.proofs.room_for.Goals as goal
 

@@ -4,7 +4,6 @@ use mathlib.Core.Path.{refl, ap, ◌∙◌}
 use Rattle.book.specs.Plan.{row_for}
 use Rattle.rows.specs.Keys.{key_for}
 use Rattle.rows.proofs.Tables.{row_eq}
-use borrow.Author.Rules.{rules}
 use Rattle.book.proofs.row_for.Goals as goal
 
 pub returns : goal.returns

@@ -2,7 +2,6 @@
 -- Assumes nothing.
 use mathlib.Core.Path.{refl, sym, ◌∙◌}
 use native.Mathlib.Omega.{arith}
-use borrow.Author.Rules.{rules}
 use Rattle.book.specs.Plan.{target}
 use Rattle.book.proofs.Laws.{target_other, target_own}
 use Rattle.book.proofs.target_of.Goals as goal

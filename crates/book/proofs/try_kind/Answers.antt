@@ -1,11 +1,10 @@
 -- A plan that stops, or is not wanted, leaves tables and index; else each is left by its own work, as the definition has it.
 -- Assumes nothing.
-use mathlib.Core.Path.{sym, ◌∙◌}
+use mathlib.Core.Path.{sym}
 use borrow.Author.Tests.{not-true, not-false}
 use Rattle.book.specs.Book.{book, carried}
 use Rattle.book.specs.Ledger.{ledger, index_after}
 use Rattle.book.proofs.Laws.{tried_stop, tried_idle, tried_done}
-use borrow.Author.Rules.{rules}
 use Rattle.book.proofs.try_kind.Goals as goal
 
 pub returns-then-not-wanted : goal.returns-then-not-wanted

@@ -1,7 +1,6 @@
 -- The case of what was found decides.
 -- Assumes nothing.
 use mathlib.Core.Path.{refl}
-use borrow.Author.Rules.{rules}
 use Rattle.book.specs.Plan.{update_plan}
 use Rattle.book.proofs.update_plan.Goals as goal
 

@@ -2,7 +2,6 @@ use mathlib.Core.Path.{sym, ◌∙◌}
 use native.Mathlib.Omega.{arith}
 use Rattle.symbols.specs.Entries.{entries}
 use Rattle.engines.proofs.Cases.{entry_walk, entry_hint}
-use borrow.Author.Rules.{rules}
 use Rattle.engines.proofs.find_entry.Goals as goal
 
 pub returns-then-ix-eq0 : goal.returns-then-ix-eq0

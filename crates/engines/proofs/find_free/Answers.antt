@@ -2,7 +2,6 @@ use mathlib.Core.Path.{sym, ◌∙◌}
 use native.Mathlib.Omega.{arith}
 use Rattle.rows.specs.Rows.{rows}
 use Rattle.engines.proofs.Cases.{free_walk, free_index}
-use borrow.Author.Rules.{rules}
 use Rattle.engines.proofs.find_free.Goals as goal
 
 pub returns-then-ix-eq0 : goal.returns-then-ix-eq0

@@ -6,7 +6,6 @@ use Rattle.facts.specs.declared.Found.TheVariants.{At}
 use Rattle.symbols.specs.Entries.{entries}
 use Rattle.symbols.specs.Find.{is_symbol}
 use Rattle.engines.proofs.Cases.{hint_right, hint_wrong}
-use borrow.Author.Rules.{rules}
 use Rattle.engines.proofs.follow_hint.Goals as goal
 
 pub returns-then-is_symbol_at : goal.returns-then-is_symbol_at

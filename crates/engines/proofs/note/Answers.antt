@@ -3,7 +3,6 @@ use native.Mathlib.Omega.{arith}
 use Rattle.rows.specs.Rows.{rows}
 use Rattle.engines.specs.Engines.{noted}
 use Rattle.engines.proofs.Alone.{noted_none}
-use borrow.Author.Rules.{rules}
 use Rattle.engines.proofs.note.Goals as goal
 
 pub returns-then-ix-eq0 : goal.returns-then-ix-eq0

@@ -1,10 +1,10 @@
 use borrow.Author.Rules.{rules}
 use mathlib.Core.Path.{◌≡◌, refl, sym, ap, ◌∙◌}
-use Prim.Native.Nat.{ℕ, ◌+◌, ◌-◌, ◌/◌, ◌≤◌, ◌<◌}
+use Prim.Native.Nat.{◌+◌}
 use native.Mathlib.Omega.{arith}
-use lib.ListN.{length, get_or, drop}
+use lib.ListN.{get_or, drop}
 use Rattle.rows.specs.declared.Row.{Row}
-use Rattle.rows.specs.Rows.{rows, row_count, zero_row}
+use Rattle.rows.specs.Rows.{rows, zero_row}
 use Rattle.rows.proofs.Tables.{length_rows}
 use Rattle.index.specs.Index.{each_row}
 use Rattle.index.proofs.Cases.{each_more, each_end}

@@ -1,13 +1,8 @@
-use borrow.Author.Rules.{rules}
-use mathlib.Core.Path.{◌≡◌, refl, sym, ap, ◌∙◌}
-use Prim.Native.Nat.{ℕ, ◌+◌, ◌-◌, ◌/◌, ◌≤◌, ◌<◌}
-use native.Mathlib.Omega.{arith}
-use lib.ListN.{length, get_or, drop}
-use Rattle.rows.specs.declared.Row.{Row}
-use Rattle.rows.specs.Rows.{rows, row_count, zero_row}
-use Rattle.rows.proofs.Tables.{length_rows}
+use mathlib.Core.Path.{◌≡◌}
+use Prim.Native.Nat.{◌-◌, ◌≤◌}
+use lib.ListN.{length, drop}
+use Rattle.rows.specs.Rows.{rows, row_count}
 use Rattle.index.specs.Index.{each_row}
-use Rattle.index.proofs.Cases.{each_more, each_end}
 use Rattle.engines.specs.Engines.{left}
 use Rattle.engines.proofs.note_clear.Given as goal
 

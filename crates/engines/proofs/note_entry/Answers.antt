@@ -3,7 +3,6 @@ use Prim.Native.Nat.{ℕ}
 use lib.ListN.{set}
 use Rattle.index.specs.Index.{hint_at}
 use Rattle.engines.specs.Engines.{hinted_to}
-use borrow.Author.Rules.{rules}
 use Rattle.engines.proofs.note_entry.Goals as goal
 
 pub returns-in-Keep : goal.returns-in-Keep

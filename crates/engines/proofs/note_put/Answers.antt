@@ -3,7 +3,6 @@ use mathlib.Core.Bool.{true, false}
 use lib.ListN.{get_or}
 use Rattle.rows.specs.Rows.{rows, zero_row, free}
 use Rattle.engines.proofs.Cases.{put_nothing, put_comes, put_goes, put_stays}
-use borrow.Author.Rules.{rules}
 use Rattle.engines.proofs.note_put.Goals as goal
 
 pub returns-then-leaves : goal.returns-then-leaves

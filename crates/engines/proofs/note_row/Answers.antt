@@ -1,6 +1,5 @@
 use mathlib.Core.Path.{sym, ◌∙◌}
 use Rattle.engines.proofs.Cases.{left_yes, left_no}
-use borrow.Author.Rules.{rules}
 use Rattle.engines.proofs.note_row.Goals as goal
 
 pub returns-then-of_symbol : goal.returns-then-of_symbol

@@ -2,7 +2,6 @@ use mathlib.Core.Path.{ap, ◌∙◌}
 use mathlib.Core.List.{List}
 use Prim.Native.Nat.{ℕ}
 use Rattle.index.specs.Index.{placed, taken, came}
-use borrow.Author.Rules.{rules}
 use Rattle.index.proofs.come.Goals as goal
 
 pub returns : goal.returns

@@ -1,16 +1,9 @@
 -- Each number below i is 0; the loop ends at the hints or, in a shorter memory, at its end.
 -- Assumes nothing.
-use mathlib.Core.Logic.{inl, inr, ⊎_elim}
-use mathlib.Core.List.{List}
-use Prim.Native.Nat.{ℕ, ◌+◌, ◌<◌}
-use lib.ListN.{set}
-use mathlib.Core.Path.{◌≡◌, refl, sym, ap, ◌∙◌}
-use Prim.Native.Nat.{◌≤◌, ◌-◌, suc}
-use native.Mathlib.Omega.{arith}
-use lib.ListN.{length, length-set}
-use borrow.Author.Rules.{rules}
+use mathlib.Core.Path.{◌≡◌}
+use Prim.Native.Nat.{◌≤◌, ◌-◌}
+use lib.ListN.{length}
 use Rattle.index.specs.Index.{front, zeroed}
-use Rattle.index.proofs.Cases.{front_is, zeroed_none, zeroed_more, zeroed_end}
 use Rattle.index.proofs.empty.Given as goal
 
 abbrev pub invariant-loop-i : goal.invariant-loop-i

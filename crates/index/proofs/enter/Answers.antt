@@ -1,10 +1,9 @@
 -- A row is live, free or neither, and each has its clause.
 -- Assumes nothing.
-use mathlib.Core.Path.{◌≡◌, sym, ap, ◌∙◌}
+use mathlib.Core.Path.{◌≡◌, sym, ◌∙◌}
 use mathlib.Core.Bool.{true, false}
 use Rattle.rows.specs.Rows.{live, free}
 use Rattle.index.proofs.Cases.{entered_live, entered_free, entered_else}
-use borrow.Author.Rules.{rules}
 use Rattle.index.proofs.enter.Goals as goal
 
 pub returns-then-is_live : goal.returns-then-is_live

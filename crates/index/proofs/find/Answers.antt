@@ -1,14 +1,13 @@
 -- The search from slot p on, with the steps that are left, gives what the whole search gives.
 -- Assumes nothing.
-use borrow.Author.Rules.{rules}
-use mathlib.Core.Path.{◌≡◌, refl, sym, ap, ◌∙◌}
+use mathlib.Core.Path.{◌≡◌, sym, ap, ◌∙◌}
 use mathlib.Core.Bool.{true, false}
-use Prim.Native.Nat.{ℕ, ◌+◌, ◌-◌, ◌%◌, ◌≤◌, ◌<◌}
+use Prim.Native.Nat.{ℕ, ◌%◌}
 use native.Mathlib.Omega.{arith}
 use lib.ListN.{get_or}
-use Rattle.facts.specs.declared.Found.TheVariants.{At, Nothing}
+use Rattle.facts.specs.declared.Found.TheVariants.{At}
 use Rattle.rows.specs.Rows.{rows}
-use Rattle.index.specs.Index.{slots, fits, probe, looked}
+use Rattle.index.specs.Index.{fits}
 use Rattle.index.proofs.Cases.{hash_below, look_start, look_stop, look_hit, look_on, look_end}
 use Rattle.index.proofs.find.Goals as goal
 

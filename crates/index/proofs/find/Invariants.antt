@@ -1,15 +1,9 @@
 -- The search from slot p on, with the steps that are left, gives what the whole search gives.
 -- Assumes nothing.
-use borrow.Author.Rules.{rules}
-use mathlib.Core.Path.{◌≡◌, refl, sym, ap, ◌∙◌}
-use mathlib.Core.Bool.{true, false}
-use Prim.Native.Nat.{ℕ, ◌+◌, ◌-◌, ◌%◌, ◌≤◌, ◌<◌}
-use native.Mathlib.Omega.{arith}
-use lib.ListN.{get_or}
-use Rattle.facts.specs.declared.Found.TheVariants.{At, Nothing}
+use mathlib.Core.Path.{◌≡◌}
+use Prim.Native.Nat.{◌-◌, ◌≤◌, ◌<◌}
 use Rattle.rows.specs.Rows.{rows}
-use Rattle.index.specs.Index.{slots, fits, probe, looked}
-use Rattle.index.proofs.Cases.{hash_below, look_start, look_stop, look_hit, look_on, look_end}
+use Rattle.index.specs.Index.{slots, probe, looked}
 use Rattle.index.proofs.find.Given as goal
 
 abbrev pub invariant-loop-n : goal.invariant-loop-n

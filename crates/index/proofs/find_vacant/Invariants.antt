@@ -1,12 +1,8 @@
 -- The search from slot p on, with the steps that are left, gives what the whole search gives.
 -- Assumes nothing.
-use borrow.Author.Rules.{rules}
-use mathlib.Core.Path.{◌≡◌, refl, sym, ap, ◌∙◌}
-use Prim.Native.Nat.{ℕ, ◌+◌, ◌-◌, ◌%◌, ◌≤◌, ◌<◌}
-use native.Mathlib.Omega.{arith}
-use lib.ListN.{get_or}
+use mathlib.Core.Path.{◌≡◌}
+use Prim.Native.Nat.{◌-◌, ◌≤◌, ◌<◌}
 use Rattle.index.specs.Index.{slots, vacant, hash}
-use Rattle.index.proofs.Cases.{hash_below, vacant_start, vacant_stop, vacant_on, vacant_end}
 use Rattle.index.proofs.find_vacant.Given as goal
 
 abbrev pub invariant-loop-n : goal.invariant-loop-n

@@ -1,11 +1,8 @@
 -- The search from block b on gives what the whole search gives.
 -- Assumes nothing.
-use mathlib.Core.Path.{◌≡◌, refl, sym, ap, ◌∙◌}
-use Prim.Native.Nat.{ℕ, ◌+◌, ◌-◌, ◌≤◌, ◌<◌}
-use native.Mathlib.Omega.{arith}
-use borrow.Author.Rules.{rules}
-use Rattle.index.specs.Index.{blocks, block_from, count_of}
-use Rattle.index.proofs.Cases.{block_hit, block_on, block_end}
+use mathlib.Core.Path.{◌≡◌}
+use Prim.Native.Nat.{◌-◌, ◌≤◌}
+use Rattle.index.specs.Index.{blocks, block_from}
 use Rattle.index.proofs.first_block.Given as goal
 
 abbrev pub invariant-loop-b : goal.invariant-loop-b

@@ -3,10 +3,9 @@
 use mathlib.Core.Path.{sym, ap, ◌∙◌}
 use Prim.Native.Nat.{ℕ, ◌+◌, ◌/◌, ◌<◌}
 use native.Mathlib.Omega.{arith}
-use lib.ListN.{get_or, set}
+use lib.ListN.{set}
 use Rattle.index.specs.Index.{count_of}
 use Rattle.index.proofs.Cases.{freed_one, freed_full}
-use borrow.Author.Rules.{rules}
 use Rattle.index.proofs.gone.Goals as goal
 
 pub returns-then-n-lt64 : goal.returns-then-n-lt64

@@ -5,7 +5,6 @@ use native.Mathlib.Omega.{arith}
 use Rattle.rows.specs.Rows.{rows}
 use Rattle.rows.specs.Find.{is_order}
 use Rattle.index.proofs.Cases.{fits_other, fits_same}
-use borrow.Author.Rules.{rules}
 use Rattle.index.proofs.is_row.Goals as goal
 
 pub returns-then-s-tag_of : goal.returns-then-s-tag_of

@@ -4,7 +4,6 @@ use mathlib.Core.Path.{sym, ◌∙◌}
 use native.Mathlib.Omega.{arith}
 use Rattle.rows.specs.Rows.{rows}
 use Rattle.index.proofs.Cases.{free_none, free_at, block_below}
-use borrow.Author.Rules.{rules}
 use Rattle.index.proofs.lowest_free.Goals as goal
 
 pub returns-in_default : goal.returns-in_default

@@ -2,7 +2,6 @@ use mathlib.Core.Path.{sym, ◌∙◌}
 use native.Mathlib.Omega.{arith}
 use Rattle.rows.specs.Rows.{rows}
 use Rattle.index.proofs.Cases.{room_full, room_left}
-use borrow.Author.Rules.{rules}
 use Rattle.index.proofs.make_room.Goals as goal
 
 pub returns-then-word-ge-FULL : goal.returns-then-word-ge-FULL

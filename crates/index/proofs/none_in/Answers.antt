@@ -3,7 +3,6 @@
 use mathlib.Core.Path.{sym}
 use mathlib.Core.Bool.{true≢false}
 use Rattle.index.proofs.Cases.{eight_zero}
-use borrow.Author.Rules.{rules}
 use Rattle.index.proofs.none_in.Goals as goal
 
 pub returns-then-ix-lt8 : goal.returns-then-ix-lt8

@@ -2,7 +2,6 @@
 -- Assumes nothing.
 use Rattle.index.specs.Index.{packed, tag_of}
 use mathlib.Core.Path.{refl}
-use borrow.Author.Rules.{rules}
 use Rattle.index.proofs.pack.Goals as goal
 
 pub returns : goal.returns

@@ -7,7 +7,6 @@ use native.Mathlib.Omega.{arith}
 use lib.ListN.{set}
 use Rattle.index.specs.Index.{packed}
 use Rattle.index.proofs.Cases.{placed_full, placed_none, placed_at}
-use borrow.Author.Rules.{rules}
 use Rattle.index.proofs.place.Goals as goal
 
 pub returns-then-used-ge32768 : goal.returns-then-used-ge32768

@@ -2,7 +2,6 @@
 -- Assumes nothing.
 use mathlib.Core.Path.{sym}
 use lib.Seq.{set_out}
-use borrow.Author.Rules.{rules}
 use Rattle.index.proofs.put_word.Goals as goal
 
 pub returns-else-p-ix : goal.returns-else-p-ix

@@ -1,7 +1,6 @@
 use mathlib.Core.Path.{ap, ◌∙◌}
 use Rattle.rows.specs.Rows.{rows}
 use Rattle.index.specs.Index.{entered, each_row, built}
-use borrow.Author.Rules.{rules}
 use Rattle.index.proofs.rebuild.Goals as goal
 
 pub returns : goal.returns

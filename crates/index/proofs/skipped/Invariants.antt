@@ -1,12 +1,8 @@
 -- Eight blocks without a free row are passed at once, and the search from there on gives what the whole search gives.
 -- Assumes nothing.
-use mathlib.Core.Path.{◌≡◌, ◌∙◌}
-use Prim.Native.Nat.{◌+◌, ◌-◌, ◌≤◌}
-use native.Mathlib.Omega.{arith}
-use borrow.Author.Rules.{rules}
-use borrow.Author.Tests.{not-false}
+use mathlib.Core.Path.{◌≡◌}
+use Prim.Native.Nat.{◌-◌, ◌≤◌}
 use Rattle.index.specs.Index.{blocks, block_from}
-use Rattle.index.proofs.Cases.{block_start, blocks_on}
 use Rattle.index.proofs.skipped.Given as goal
 
 abbrev pub invariant-loop-b : goal.invariant-loop-b

@@ -2,7 +2,6 @@
 -- Assumes nothing.
 use Rattle.index.specs.Index.{hash}
 use mathlib.Core.Path.{refl}
-use borrow.Author.Rules.{rules}
 use Rattle.index.proofs.start_of.Goals as goal
 
 pub returns : goal.returns

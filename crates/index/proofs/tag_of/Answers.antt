@@ -2,7 +2,6 @@
 -- Assumes nothing.
 use Rattle.index.specs.Index.{tag_of}
 use mathlib.Core.Path.{refl}
-use borrow.Author.Rules.{rules}
 use Rattle.index.proofs.tag_of.Goals as goal
 
 pub returns : goal.returns

@@ -3,10 +3,9 @@
 use mathlib.Core.Path.{sym, ap, ◌∙◌}
 use Prim.Native.Nat.{ℕ, ◌+◌, ◌-◌, ◌/◌, ◌<◌}
 use native.Mathlib.Omega.{arith}
-use lib.ListN.{get_or, set}
+use lib.ListN.{set}
 use Rattle.index.specs.Index.{count_of}
 use Rattle.index.proofs.Cases.{taken_one, taken_none}
-use borrow.Author.Rules.{rules}
 use Rattle.index.proofs.take.Goals as goal
 
 pub returns-then-n-gt0 : goal.returns-then-n-gt0

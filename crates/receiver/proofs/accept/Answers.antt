@@ -1,9 +1,7 @@
 -- The packet worked, the stop and the highest number told: one law.
 -- Assumes nothing.
-use mathlib.Core.Path.{◌∙◌}
 use Rattle.receiver.specs.Lent.{lent}
 use Rattle.receiver.proofs.Calls.{worked_grows, worked_told}
-use borrow.Author.Rules.{rules}
 use Rattle.receiver.proofs.accept.Goals as goal
 
 pub overflow_sub-result : goal.overflow_sub-result

@@ -5,7 +5,6 @@ use Rattle.arbitration.proofs.Answers.{judge_old, judge_far, judge_taken, judge_
 use mathlib.Core.Path.{sym, ◌∙◌}
 use Rattle.shelf.specs.Shelf.{slot_at}
 use Rattle.wire.specs.Records.{rec}
-use borrow.Author.Rules.{rules}
 use Rattle.receiver.proofs.answer_to.Goals as goal
 
 pub returns-then-number-next : goal.returns-then-number-next

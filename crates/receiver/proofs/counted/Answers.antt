@@ -1,7 +1,6 @@
 -- Each case adds one to its own count.
 -- Assumes nothing.
 use mathlib.Core.Path.{refl}
-use borrow.Author.Rules.{rules}
 use Rattle.receiver.proofs.counted.Goals as goal
 
 pub returns-in-Taken : goal.returns-in-Taken

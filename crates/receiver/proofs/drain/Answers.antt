@@ -1,12 +1,10 @@
 -- The loop keeps: the turns that are left, from here, give the end of all of them.
 -- Assumes nothing.
-use mathlib.Core.Path.{◌≡◌, refl, sym, ap, ◌∙◌}
-use Prim.Native.Nat.{ℕ, ◌+◌, ◌-◌, ◌≤◌}
+use mathlib.Core.Path.{refl, sym, ap, ◌∙◌}
+use Prim.Native.Nat.{ℕ, ◌+◌, ◌≤◌}
 use native.Mathlib.Nat.{sub-zero}
 use native.Mathlib.Omega.{arith}
-use borrow.Author.Rules.{rules}
 use borrow.Author.Tests.{not-true, not-false}
-use lib.ListN.{length}
 use Rattle.arbitration.specs.Receive.{drain as drained}
 use Rattle.arbitration.proofs.Turns.{loop_step, loop_rest, loop_end, turn_next}
 use Rattle.shelf.specs.Store.{shelf_store}

@@ -1,16 +1,11 @@
 -- The loop keeps: the turns that are left, from here, give the end of all of them.
 -- Assumes nothing.
-use mathlib.Core.Path.{◌≡◌, refl, sym, ap, ◌∙◌}
-use Prim.Native.Nat.{ℕ, ◌+◌, ◌-◌, ◌≤◌}
-use native.Mathlib.Nat.{sub-zero}
-use native.Mathlib.Omega.{arith}
-use borrow.Author.Rules.{rules}
-use borrow.Author.Tests.{not-true, not-false}
+use mathlib.Core.Path.{◌≡◌}
+use Prim.Native.Nat.{◌+◌, ◌-◌, ◌≤◌}
 use lib.ListN.{length}
 use Rattle.arbitration.specs.Receive.{drain as drained}
-use Rattle.arbitration.proofs.Turns.{loop_step, loop_rest, loop_end, turn_next}
 use Rattle.shelf.specs.Store.{shelf_store}
-use Rattle.receiver.specs.Lent.{ledger_engine, Rx, rx}
+use Rattle.receiver.specs.Lent.{ledger_engine, rx}
 use Rattle.receiver.proofs.drain.Given as goal
 
 abbrev pub invariant-loop-i : goal.invariant-loop-i

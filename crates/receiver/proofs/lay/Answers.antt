@@ -9,7 +9,6 @@ use Rattle.arbitration.specs.Receive.{drain as drained}
 use Rattle.shelf.specs.Store.{shelf_store}
 use Rattle.receiver.specs.Lent.{ledger_engine, rx}
 use Rattle.receiver.proofs.Direct.{own_next, own_rest, own_then}
-use borrow.Author.Rules.{rules}
 use Rattle.receiver.proofs.lay.Goals as goal
 
 pub returns-then-not-t : goal.returns-then-not-t

@@ -5,7 +5,6 @@ use Rattle.shelf.specs.Store.{shelf_store}
 use Rattle.wire.specs.Records.{rec}
 use Rattle.receiver.specs.Lent.{ledger_engine, working_of}
 use Rattle.receiver.proofs.Records.{offered}
-use borrow.Author.Rules.{rules}
 use Rattle.receiver.proofs.offer.Goals as goal
 
 pub returns-in-Taken : goal.returns-in-Taken

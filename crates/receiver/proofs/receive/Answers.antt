@@ -8,7 +8,6 @@ use Rattle.packet.proofs.Good.{good_framing, refused_framing, bad_framing}
 use Rattle.receiver.specs.Lent.{real, lent}
 use Rattle.receiver.proofs.Accounts.{refused_sizes, refused_next, by_frame, refused_packet, next_most}
 use Rattle.receiver.proofs.Real.{real_laws}
-use borrow.Author.Rules.{rules}
 use Rattle.receiver.proofs.receive.Goals as goal
 
 pub returns-then-not-sizes_ok : goal.returns-then-not-sizes_ok

@@ -3,7 +3,6 @@
 use borrow.Author.Tests.{not-true, not-false}
 use Rattle.facts.specs.Pick.{both}
 use Rattle.receiver.specs.Lent.{tables_ok, sizes_ok}
-use borrow.Author.Rules.{rules}
 use Rattle.receiver.proofs.sizes_ok.Goals as goal
 
 pub returns-then-not-good_rows : goal.returns-then-not-good_rows

@@ -1,10 +1,8 @@
 -- A bad size leaves all as it is; else the three wipes make the zeros.
 -- Assumes nothing.
-use mathlib.Core.Path.{◌∙◌}
 use borrow.Author.Tests.{not-true, not-false}
 use Rattle.facts.specs.Pick.{pick}
 use Rattle.receiver.specs.Lent.{started}
-use borrow.Author.Rules.{rules}
 use Rattle.receiver.proofs.start.Goals as goal
 
 pub returns-then-not-sizes_ok : goal.returns-then-not-sizes_ok

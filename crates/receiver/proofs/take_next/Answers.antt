@@ -3,7 +3,6 @@
 use Rattle.book.specs.Book.{book}
 use Rattle.book.specs.Ledger.{ledger}
 use Rattle.receiver.proofs.Calls.{came_broken, came_goes}
-use borrow.Author.Rules.{rules}
 use Rattle.receiver.proofs.take_next.Goals as goal
 
 pub returns-then-a-ne0 : goal.returns-then-a-ne0

@@ -1,6 +1,6 @@
 -- By the slot for next: one law for each exit.
 -- Assumes nothing.
-use mathlib.Core.Path.{refl, sym, ◌∙◌}
+use mathlib.Core.Path.{sym, ◌∙◌}
 use native.Mathlib.Omega.{arith}
 use Rattle.book.specs.Book.{book}
 use Rattle.book.specs.Ledger.{ledger}
@@ -8,7 +8,6 @@ use Rattle.receiver.specs.Lent.{real}
 use Rattle.receiver.proofs.Exits.{turn_empty, turn_other, turn_long}
 use Rattle.receiver.proofs.Real.{real_laws}
 use Rattle.receiver.proofs.Calls.{slot_broken, slot_goes}
-use borrow.Author.Rules.{rules}
 use Rattle.receiver.proofs.turn.Goals as goal
 
 pub returns-then-n-eq0 : goal.returns-then-n-eq0

@@ -1,17 +1,14 @@
 -- The loop keeps: the records that are left, from here, give the end of all of them.
 -- Assumes nothing.
 use Rattle.receiver.specs.Lent.{ledger_engine, working_of}
-use mathlib.Core.Path.{◌≡◌, refl, ap, ◌∙◌}
-use Prim.Native.Nat.{◌+◌, ◌-◌, ◌*◌, ◌≤◌}
+use mathlib.Core.Path.{refl, ap, ◌∙◌}
 use native.Mathlib.Omega.{arith}
-use lib.ListN.{length, drop}
-use Rattle.packet.specs.Packet.{frames_from}
 use Rattle.packet.specs.declared.Head.{Head}
 use Rattle.arbitration.specs.Receive.{no_counts}
-use Rattle.arbitration.specs.Loops.{working, work as work_all, total}
+use Rattle.arbitration.specs.Loops.{working, work as work_all}
 use Rattle.shelf.specs.Store.{shelf_store}
 use Rattle.receiver.proofs.Records.{left_from, worked_bounds, next_inside, next_frames, next_works, next_good, first_frames, last_works, same_record}
-use Rattle.wire.specs.Records.{Rec, records}
+use Rattle.wire.specs.Records.{Rec}
 use Rattle.receiver.proofs.work.Goals as goal
 
 pub loop-at-init : goal.loop-at-init

@@ -1,7 +1,6 @@
 -- A part of 74 bytes that comes back zeroed is an empty slot put (part_put); without such a slot nothing changes.
 -- Assumes nothing.
 use mathlib.Core.Path.{refl}
-use borrow.Author.Rules.{rules}
 use Rattle.arbitration.specs.Slots.{empty_slot}
 use Rattle.shelf.proofs.Laws.{part_put, put_past, empty_part}
 use Rattle.shelf.proofs.empty.Goals as goal

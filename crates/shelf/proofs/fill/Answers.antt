@@ -1,6 +1,5 @@
 -- Number and length stored in front, and the body's part behind them, are the slot (filled).
 -- Assumes nothing.
-use borrow.Author.Rules.{rules}
 use Rattle.shelf.proofs.Laws.{filled}
 use Rattle.shelf.proofs.fill.Goals as goal
 

@@ -1,9 +1,8 @@
 -- The loop keeps: top is the largest number of the first i slots.
 -- Assumes nothing.
-use mathlib.Core.Path.{◌≡◌, refl, ap, ◌∙◌}
-use Prim.Native.Nat.{ℕ, ◌%◌, ◌-◌, ◌≤◌}
+use mathlib.Core.Path.{refl, ap, ◌∙◌}
+use Prim.Native.Nat.{ℕ}
 use native.Mathlib.Omega.{arith}
-use borrow.Author.Rules.{rules}
 use Rattle.arbitration.specs.Receive.{highest as highest_number}
 use Rattle.shelf.specs.Store.{shelf_store}
 use Rattle.shelf.proofs.Laws.{highest_more}

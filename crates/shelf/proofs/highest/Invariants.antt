@@ -1,12 +1,9 @@
 -- The loop keeps: top is the largest number of the first i slots.
 -- Assumes nothing.
-use mathlib.Core.Path.{◌≡◌, refl, ap, ◌∙◌}
-use Prim.Native.Nat.{ℕ, ◌%◌, ◌-◌, ◌≤◌}
-use native.Mathlib.Omega.{arith}
-use borrow.Author.Rules.{rules}
+use mathlib.Core.Path.{◌≡◌}
+use Prim.Native.Nat.{◌%◌, ◌-◌, ◌≤◌}
 use Rattle.arbitration.specs.Receive.{highest as highest_number}
 use Rattle.shelf.specs.Store.{shelf_store}
-use Rattle.shelf.proofs.Laws.{highest_more}
 use Rattle.shelf.proofs.highest.Given as goal
 
 abbrev pub invariant-loop-i : goal.invariant-loop-i

@@ -1,7 +1,6 @@
 -- Number, length and bytes decide in the order of same_slot.
 -- Assumes nothing.
 use mathlib.Core.Path.{◌∙◌, sym}
-use borrow.Author.Rules.{rules}
 use Rattle.shelf.proofs.Laws.{other_number, other_length, bytes_decide}
 use Rattle.shelf.proofs.holds.Goals as goal
 

@@ -1,6 +1,5 @@
 -- A part of 74 bytes that comes back as a slot's bytes is that slot put (part_put); without such a slot nothing changes.
 -- Assumes nothing.
-use borrow.Author.Rules.{rules}
 use Rattle.wire.proofs.Laws.{length_padded}
 use Rattle.arbitration.specs.Slots.{slot_for}
 use Rattle.shelf.proofs.Laws.{part_put, put_past}

@@ -1,10 +1,9 @@
 -- The loop keeps: the bytes below k agree. One that differs decides, and 64 that agree are the same list.
 -- Assumes nothing.
 use mathlib.Core.Path.{◌≡◌}
-use Prim.Native.Nat.{ℕ, ◌≤◌, ◌<◌, ◌+◌, ◌-◌}
+use Prim.Native.Nat.{ℕ, ◌+◌}
 use native.Mathlib.Omega.{arith}
 use lib.ListN.{get_or}
-use borrow.Author.Rules.{rules}
 use borrow.Author.Count.{below_more}
 use Rattle.shelf.proofs.Laws.{one_differs, all_same}
 use Rattle.shelf.proofs.same_bytes.Goals as goal

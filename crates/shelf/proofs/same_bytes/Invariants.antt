@@ -2,11 +2,7 @@
 -- Assumes nothing.
 use mathlib.Core.Path.{◌≡◌}
 use Prim.Native.Nat.{ℕ, ◌≤◌, ◌<◌, ◌+◌, ◌-◌}
-use native.Mathlib.Omega.{arith}
 use lib.ListN.{get_or}
-use borrow.Author.Rules.{rules}
-use borrow.Author.Count.{below_more}
-use Rattle.shelf.proofs.Laws.{one_differs, all_same}
 use Rattle.shelf.proofs.same_bytes.Given as goal
 
 abbrev pub invariant-loop-k : goal.invariant-loop-k

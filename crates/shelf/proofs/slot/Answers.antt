@@ -1,6 +1,5 @@
 -- A slot that is there is a piece of 74 bytes; a list of pieces read past its end gives none.
 -- Assumes nothing.
-use borrow.Author.Rules.{rules}
 use Rattle.shelf.proofs.Laws.{slot_in, slot_past}
 use Rattle.shelf.proofs.slot.Goals as goal
 

@@ -1,6 +1,5 @@
 -- A slot that is not there has no body; one that is there has 64 bytes, of which the length takes the first or all.
 -- Assumes nothing.
-use borrow.Author.Rules.{rules}
 use Rattle.shelf.proofs.Laws.{body_none, body_long, body_in}
 use Rattle.shelf.proofs.slot_body.Goals as goal
 

@@ -1,7 +1,6 @@
 -- The two bytes behind the number, as a number, by the contracts of slot and u16_at.
 -- Assumes nothing.
 use mathlib.Core.Path.{◌∙◌}
-use borrow.Author.Rules.{rules}
 use Rattle.shelf.proofs.Laws.{len_is}
 use Rattle.shelf.proofs.slot_len.Goals as goal
 

@@ -1,7 +1,6 @@
 -- The first eight bytes of the slot, as a number, by the contracts of slot and u64_at.
 -- Assumes nothing.
 use mathlib.Core.Path.{◌∙◌}
-use borrow.Author.Rules.{rules}
 use Rattle.shelf.proofs.Laws.{number_is}
 use Rattle.shelf.proofs.slot_number.Goals as goal
 

@@ -3,7 +3,6 @@
 use mathlib.Core.Path.{◌≡◌, sym, ◌∙◌}
 use mathlib.Core.Bool.{true, false}
 use borrow.Author.Tests.{not-true, not-false}
-use borrow.Author.Rules.{rules}
 use Rattle.facts.specs.Pick.{both}
 use Rattle.rows.specs.Find.{of_key}
 use Rattle.views.specs.Ladder.{at_price}

@@ -3,7 +3,6 @@
 use mathlib.Core.Path.{◌≡◌, sym, ◌∙◌}
 use mathlib.Core.Bool.{true, false}
 use borrow.Author.Tests.{not-true, not-false}
-use borrow.Author.Rules.{rules}
 use Rattle.facts.specs.Pick.{pick}
 use Rattle.views.specs.Views.{good_tables, counts_view}
 use Rattle.views.proofs.counts.Goals as goal

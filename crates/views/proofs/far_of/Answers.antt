@@ -2,7 +2,6 @@
 -- Assumes nothing.
 use mathlib.Core.Path.{◌≡◌, sym, ◌∙◌}
 use borrow.Author.Tests.{eq-eqb, ne_eqb}
-use borrow.Author.Rules.{rules}
 use Rattle.facts.specs.Pick.{pick}
 use Rattle.rows.specs.Keys.{side_in}
 use Rattle.views.specs.Ladder.{far}

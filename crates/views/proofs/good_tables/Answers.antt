@@ -4,7 +4,6 @@ use mathlib.Core.Path.{◌≡◌, sym, ◌∙◌}
 use mathlib.Core.Bool.{true, false}
 use lib.ListN.{length}
 use borrow.Author.Tests.{not-true, not-false}
-use borrow.Author.Rules.{rules}
 use Rattle.facts.specs.Pick.{both}
 use Rattle.rows.specs.Rows.{good_rows}
 use Rattle.views.specs.Views.{good_tables}

@@ -1,6 +1,5 @@
 -- Each side is its own case of the definition.
 -- Assumes nothing.
-use borrow.Author.Rules.{rules}
 use Rattle.views.specs.Ladder.{key_of}
 use Rattle.views.proofs.key_of.Goals as goal
 

@@ -4,11 +4,10 @@ use mathlib.Core.Path.{◌≡◌, refl, sym, ap, ◌∙◌}
 use Prim.Native.Nat.{◌+◌}
 use native.Mathlib.Omega.{arith}
 use lib.ListN.{length}
-use borrow.Author.Rules.{rules}
 use borrow.Author.Tests.{not-true, not-false}
 use Rattle.rows.specs.Rows.{rows}
 use Rattle.rows.proofs.Tables.{length_rows}
-use Rattle.views.specs.Ladder.{far, level_of, ladder, put_level}
+use Rattle.views.specs.Ladder.{far, level_of, put_level}
 use Rattle.views.proofs.Laws.{places_few, ladder_length, ladder_from, ladder_start, ladder_next, ladder_end}
 use Rattle.views.proofs.Runs.{laid, laid_step, laid_end, run_none, run_all}
 use Rattle.views.proofs.ladder_of.Goals as goal

@@ -1,16 +1,12 @@
 -- The levels left from low on, put from place j on, give what all levels put from the front give; each turn takes the nearest level off.
 -- Assumes nothing.
-use mathlib.Core.Path.{◌≡◌, refl, sym, ap, ◌∙◌}
+use mathlib.Core.Path.{◌≡◌}
 use Prim.Native.Nat.{◌+◌}
-use native.Mathlib.Omega.{arith}
 use lib.ListN.{length}
-use borrow.Author.Rules.{rules}
-use borrow.Author.Tests.{not-true, not-false}
 use Rattle.rows.specs.Rows.{rows}
-use Rattle.rows.proofs.Tables.{length_rows}
-use Rattle.views.specs.Ladder.{far, level_of, ladder, put_level}
-use Rattle.views.proofs.Laws.{places_few, ladder_length, ladder_from, ladder_start, ladder_next, ladder_end}
-use Rattle.views.proofs.Runs.{laid, laid_step, laid_end, run_none, run_all}
+use Rattle.views.specs.Ladder.{ladder}
+use Rattle.views.proofs.Laws.{ladder_from}
+use Rattle.views.proofs.Runs.{laid}
 use Rattle.views.proofs.ladder_of.Given as goal
 
 abbrev pub invariant-loop-key : goal.invariant-loop-key

@@ -2,15 +2,12 @@
 -- Assumes nothing.
 use mathlib.Core.Path.{◌≡◌, sym, ap, ◌∙◌}
 use mathlib.Core.Bool.{true, false}
-use mathlib.Core.Logic.{⊎_elim}
-use Prim.Native.Nat.{◌≤◌, ◌+◌, ◌-◌}
 use native.Mathlib.Omega.{arith}
-use lib.ListN.{get_or, drop}
-use borrow.Author.Rules.{rules}
+use lib.ListN.{get_or}
 use Rattle.facts.specs.Sums.{sum_by, count_by}
 use Rattle.facts.proofs.SumLaws.{only_yes, only_no}
 use Rattle.rows.specs.declared.Row.{Row}
-use Rattle.rows.specs.Rows.{rows, row_count, zero_row}
+use Rattle.rows.specs.Rows.{rows, zero_row}
 use Rattle.rows.proofs.Walks.{sum_row, sum_past, count_yes, count_no, count_past}
 use Rattle.views.specs.Ladder.{at_price, size_at, level_of}
 use Rattle.views.proofs.Laws.{shares_fit, orders_fit}
@@ -52,14 +49,14 @@ loop-i-preserved c =
     let z : c.row_at-r.result.size ≡ r.size = ap (λ (r : Row). r.size) c.row_at-r.ensures in
     let s = sum_row (size_at a.key a.price) a.t.now l.i (omega arith) in
     elim c.if-at_price.branch [
-    then-at_price w ↦
-    let y : p r ≡ true = ap p (sym c.row_at-r.ensures) ∙ (sym c.at_price.ensures ∙ w.if-at_price.true) in
-    let o = only_yes p (λ r. r.size) r y in
-    (omega arith, omega arith, omega (arith, l.invariant.2), omega (arith, l.invariant.3, count_yes p a.t.now l.i (omega arith) y))
-    | else-at_price w ↦
-    let y : p r ≡ false = ap p (sym c.row_at-r.ensures) ∙ (sym c.at_price.ensures ∙ w.if-at_price.false) in
-    let o = only_no p (λ r. r.size) r y in
-    (omega arith, omega arith, omega (arith, l.invariant.2), omega (arith, l.invariant.3, count_no p a.t.now l.i (omega arith) y))
+      | then-at_price w ↦
+          let y : p r ≡ true = ap p (sym c.row_at-r.ensures) ∙ (sym c.at_price.ensures ∙ w.if-at_price.true) in
+          let o = only_yes p (λ r. r.size) r y in
+          (omega arith, omega arith, omega (arith, l.invariant.2), omega (arith, l.invariant.3, count_yes p a.t.now l.i (omega arith) y))
+      | else-at_price w ↦
+          let y : p r ≡ false = ap p (sym c.row_at-r.ensures) ∙ (sym c.at_price.ensures ∙ w.if-at_price.false) in
+          let o = only_no p (λ r. r.size) r y in
+          (omega arith, omega arith, omega (arith, l.invariant.2), omega (arith, l.invariant.3, count_no p a.t.now l.i (omega arith) y))
     ]
 
 pub returns : goal.returns

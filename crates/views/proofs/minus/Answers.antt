@@ -2,7 +2,6 @@
 -- Assumes nothing.
 use mir.Syntax.{w64}
 use mir.ValLaws.{to_z-of_z}
-use borrow.Author.Rules.{rules}
 use Rattle.views.proofs.Signs.{minus_fits, price_signed}
 use Rattle.views.proofs.minus.Goals as goal
 

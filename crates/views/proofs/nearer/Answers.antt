@@ -4,7 +4,6 @@ use mathlib.Core.Path.{◌≡◌, sym, ◌∙◌}
 use mathlib.Core.Bool.{true}
 use native.Mathlib.Omega.{arith}
 use borrow.Author.Tests.{not-true, not-false}
-use borrow.Author.Rules.{rules}
 use Rattle.rows.specs.Find.{of_key}
 use Rattle.views.proofs.Laws.{key_price, near_other, near_below, near_min}
 use Rattle.views.proofs.nearer.Goals as goal

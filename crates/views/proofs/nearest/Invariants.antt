@@ -1,15 +1,12 @@
 -- The nearer of the best so far and the nearest among the rows left is the nearest of all; each turn takes one row off.
 -- Assumes nothing.
-use mathlib.Core.Path.{◌≡◌, sym, ap, ◌∙◌}
+use mathlib.Core.Path.{◌≡◌}
 use Prim.Native.Nat.{◌≤◌, ◌-◌, min}
-use native.Mathlib.Omega.{arith}
-use lib.ListN.{get_or, drop}
-use borrow.Author.Rules.{rules}
-use Rattle.rows.specs.Rows.{rows, row_count, zero_row}
+use lib.ListN.{drop}
+use Rattle.rows.specs.Rows.{rows, row_count}
 use Rattle.ascend.specs.Ascend.{least_from}
 use Rattle.views.specs.Ladder.{places_of}
-use Rattle.views.specs.Nearest.{beyond, near}
-use Rattle.views.proofs.Laws.{near_top, scan_start, scan_row, scan_end}
+use Rattle.views.specs.Nearest.{beyond}
 use Rattle.views.proofs.nearest.Given as goal
 
 abbrev pub invariant-loop-i : goal.invariant-loop-i

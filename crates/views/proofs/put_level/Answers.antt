@@ -3,7 +3,6 @@
 use mathlib.Core.Path.{sym}
 use native.Mathlib.Omega.{arith}
 use lib.ListN.{length-set}
-use borrow.Author.Rules.{rules}
 use Rattle.views.proofs.Runs.{level_written, level_past}
 use Rattle.views.proofs.put_level.Goals as goal
 

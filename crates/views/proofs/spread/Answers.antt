@@ -2,7 +2,6 @@
 -- Assumes nothing.
 use mathlib.Core.Path.{◌≡◌, ◌∙◌}
 use native.Mathlib.Omega.{arith}
-use borrow.Author.Rules.{rules}
 use Rattle.views.specs.Views.{view_fault}
 use Rattle.views.proofs.ViewLaws.{spread_refused, spread_shown}
 use Rattle.views.proofs.spread.Goals as goal

@@ -6,7 +6,6 @@ use native.Mathlib.Omega.{arith}
 use lib.IntN.{pos, ◌-ℤ◌}
 use mir.Syntax.{w64}
 use mir.ValLaws.{to_z-of_z}
-use borrow.Author.Rules.{rules}
 use Rattle.facts.specs.Limits.{most_price}
 use Rattle.rows.specs.Rows.{rows}
 use Rattle.views.proofs.Signs.{minus_fits}

@@ -2,7 +2,6 @@
 -- Assumes nothing.
 use mathlib.Core.Path.{sym, ◌∙◌}
 use borrow.Author.Tests.{not-true, not-false}
-use borrow.Author.Rules.{rules}
 use Rattle.views.proofs.ViewLaws.{sizes_first, then_symbol, no_fault}
 use Rattle.views.proofs.view_fault.Goals as goal
 
