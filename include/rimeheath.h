@@ -1,8 +1,8 @@
 /* Rimeheath for C: the order book of the MIAX Pearl Equities Depth of Market feed (DoM 1.3.b, and 1.3 of 2020), kept in memory that the
  * caller lends.
  *
- * The calls are proved functions of the crate `api`; what each does is stated there as an equation. tools/archive writes the archive to
- * link, target/staticlib/libapi.a, for x86-64 Linux, and examples/first.c is a first program:
+ * The calls are proved functions of the crate `api_c`, each a call of `api`; what each does is stated there as an equation. tools/archive
+ * writes the archive to link, target/staticlib/libapi.a, for x86-64 Linux, and examples/first.c is a first program:
  *
  *     cc -std=c99 -Iinclude examples/first.c target/staticlib/libapi.a -o first
  *

@@ -2,7 +2,10 @@
 """programs.py NAME..: proves and builds these programs, where a source of theirs has changed, as target/bin/NAME.
 
 rt builds a program only of a proved crate, as crates/NAME/out/NAME, and runs it once on no input. It is copied from there, so that a later
-run of rt in that folder changes nothing of what is in use. tools/rimeheath.py calls this too."""
+run of rt in that folder changes nothing of what is in use. tools/rimeheath.py calls this too.
+
+programs.py --over-ci: takes all programs that `rt ci` has just proved, built and run, so that they are not proved once more. It is for
+.ci/run, right behind an `rt ci` that passed; a program of which a source has changed since it was built is left to be built anew."""
 import collections
 import fcntl
 import hashlib
@@ -49,6 +52,16 @@ def crates_of(program):
     return [name for name in needs if name in reached]
 
 
+# The files that are proved and compiled for these crates.
+def sources_of(crates):
+    files = [f"{ROOT}/crates.txt"]
+    for crate in crates:
+        for part in ("src", "specs", "proofs"):
+            for folder, _, names in os.walk(f"{ROOT}/crates/{crate}/{part}"):
+                files += [f"{folder}/{n}" for n in names if n.endswith((".rt", ".antt"))]
+    return sorted(f for f in files if os.path.isfile(f))
+
+
 def sum_of_file(path):
     with open(path, "rb") as f:
         return hashlib.sha256(f.read()).hexdigest()
@@ -56,12 +69,7 @@ def sum_of_file(path):
 
 # A sum over all that is proved and compiled: contents, so that a file put back with an old time counts too.
 def sum_of_sources(crates):
-    files = [f"{ROOT}/crates.txt"]
-    for crate in crates:
-        for part in ("src", "specs", "proofs"):
-            for folder, _, names in os.walk(f"{ROOT}/crates/{crate}/{part}"):
-                files += [f"{folder}/{n}" for n in names if n.endswith((".rt", ".antt"))]
-    lines = [f"{sum_of_file(f)} {os.path.relpath(f, ROOT)}" for f in sorted(files) if os.path.isfile(f)]
+    lines = [f"{sum_of_file(f)} {os.path.relpath(f, ROOT)}" for f in sources_of(crates)]
     return hashlib.sha256("\n".join(lines).encode(errors="surrogateescape")).hexdigest()
 
 
@@ -100,14 +108,19 @@ def make_ready(program):
             fcntl.flock(lock, fcntl.LOCK_EX)
         sources = sum_of_sources(crates)
         if not is_built(program, sources):
-            build(program, crates)
-            record = record_of(program, sources)
+            take(program, build(program, crates), sources)
 
-            def write(path):
-                with open(path, "w") as f:
-                    f.write(record)
 
-            put(f"{ROOT}/target/rimeheath/{program}", write)
+# What is made of these sources becomes the program that is in use.
+def take(program, made, sources):
+    put(f"{ROOT}/target/bin/{program}", lambda path: shutil.copy(made, path))
+    record = record_of(program, sources)
+
+    def write(path):
+        with open(path, "w") as f:
+            f.write(record)
+
+    put(f"{ROOT}/target/rimeheath/{program}", write)
 
 
 # Has rt prove and build the program, and tells each crate that is being proved, in the order in which rt comes to them, and how long the one
@@ -142,14 +155,29 @@ def build(program, crates):
     if rt.returncode != 0 or not os.access(made, os.X_OK):
         tell("".join(said))
         raise NotBuilt(f"the program {program} could not be built")
-    put(f"{ROOT}/target/bin/{program}", lambda path: shutil.copy(made, path))
     if last:
         tell(f"rimeheath: proved and built, {time.monotonic() - began:.0f} s{took()}\n")
+    return made
+
+
+def over_ci():
+    for program in sorted(os.listdir(f"{ROOT}/crates")):
+        crates, made = crates_of(program), f"{ROOT}/crates/{program}/out/{program}"
+        if program not in crates or not os.path.isfile(f"{ROOT}/crates/{program}/src/main.rt") or not os.access(made, os.X_OK):
+            continue
+        sources = sum_of_sources(crates)
+        if any(os.stat(it).st_mtime_ns >= os.stat(made).st_mtime_ns for it in sources_of(crates)):
+            tell(f"programs: a source of {program} has changed since rt ci built it\n")
+            continue
+        take(program, made, sources)
+    return 0
 
 
 def main(names):
+    if names == ["--over-ci"]:
+        return over_ci()
     if not names:
-        tell("usage: python3 tools/programs.py NAME..\n")
+        tell("usage: python3 tools/programs.py NAME..|--over-ci\n")
         return 2
     for name in names:
         if not os.path.isfile(f"{ROOT}/crates/{name}/src/main.rt"):
