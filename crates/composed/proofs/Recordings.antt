@@ -1,12 +1,12 @@
 -- Packets laid one behind the other stay so with one more behind them, and no other packets lie there (laid_once); a packet with its length is what was written of it.
 -- Assumes nothing.
-use Prim.Native.Nat.{ℕ, ◌+◌, ◌≤◌, ◌<◌}
+use Prim.Native.Nat.{ℕ, ◌+◌, ◌≤◌}
 use mathlib.Core.Path.{◌≡◌, refl, sym, ap, subst, ◌∙◌}
 use mathlib.Core.Logic.{inl, inr}
 use mathlib.Core.List.{List, [], ◌∷◌, ◌++◌, append_assoc, append-nil}
 use native.Mathlib.Omega.{arith}
 use lib.ListN.{length, take, drop, length-append, length-drop, length-take, take-append-drop}
-use lib.Seq.{sets, length-sets, sets-eq, take_at, drop_at, take_all, take-add, take-append-le, drop-append-le, length-take-le}
+use lib.Seq.{sets, length-sets, sets-eq, take_at, drop_at, take-add, take-append-le, drop-append-le, length-take-le}
 use borrow.Author.Tests.{le-leb, leb-true}
 use native.Mathlib.Nat.{add-zero, zero-add, add_assoc}
 use Rattle.facts.specs.Limits.{packet_most}
@@ -16,19 +16,19 @@ use Rattle.facts.proofs.Stores.{sets_append}
 use Rattle.editions.specs.declared.Edition.{Edition}
 use Rattle.wire.specs.Le.{le, to_le, field, Bytes}
 use Rattle.wire.proofs.Bytewise.{bytes_drop}
-use Rattle.wire.proofs.Laws.{length_to_le, le_to_le}
-use Rattle.layout.specs.Shape.{Shape, number, cut, joined}
+use Rattle.wire.proofs.Laws.{le_to_le}
+use Rattle.layout.specs.Shape.{number, cut, joined}
 use Rattle.layout.proofs.Laws.{joined_cut}
 use Rattle.packet.specs.Packet.{read_packet}
 use Rattle.packet.specs.declared.Packet.{Packet}
 use Rattle.packet.proofs.Good.{good_framing, framing_size}
 use Rattle.trips.specs.Records.{length_first}
-use Rattle.writer.specs.Append.{Writing, writing, room_number, packet_appended}
+use Rattle.writer.specs.Append.{writing, room_number, packet_appended}
 use Rattle.writer.specs.declared.Wrote.{Wrote}
 use Rattle.writer.specs.Behind.{next_to}
 use Rattle.writer.proofs.Laws.{length_first_lem, put_stored, good_here}
-use Rattle.writer.proofs.Behind.{Stored, stored_is}
-use Rattle.recording.specs.Whole.{packets_of, rest_of, InFront, Laid, Inside}
+use Rattle.writer.proofs.Behind.{stored_is}
+use Rattle.recording.specs.Whole.{packets_of, rest_of, InFront, Laid}
 use Rattle.recording.proofs.Packets.{packets_laid, laid_once}
 use Rattle.composed.specs.Recordings.{recording_bytes, packets_appended, AllTaken, OneMore}
 

@@ -1,11 +1,9 @@
 -- A message does to a book of the other edition what it did to the first: it is read as the same message, the searches find the same places, and the entry that it leaves is retyped as its body is.
 -- Assumes nothing.
-use Prim.Native.Nat.{ℕ, ◌≤◌}
-use mathlib.Core.Path.{◌≡◌, refl, sym, ap, ◌∙◌, subst}
-use mathlib.Core.Bool.{Bool, true, false}
+use Prim.Native.Nat.{ℕ}
+use mathlib.Core.Path.{◌≡◌, refl, ap, ◌∙◌}
+use mathlib.Core.Bool.{true}
 use mathlib.Core.List.{List}
-use lib.Dec.{eqb}
-use Rattle.facts.specs.Pick.{pick}
 use Rattle.editions.specs.declared.Edition.{Edition}
 use Rattle.fields.specs.declared.Body.{Body}
 use Rattle.fields.specs.declared.Symbol.{Symbol}
@@ -14,12 +12,12 @@ use Rattle.symbols.specs.Entries.{id_of}
 use Rattle.book.specs.declared.Clock.{Clock}
 use Rattle.book.specs.declared.Plan.{Plan}
 use Rattle.book.specs.Plan.{Finds, plan_by}
-use Rattle.book.specs.Book.{Book, book, Effect, effect, scans, planned, carried, applied}
+use Rattle.book.specs.Book.{Book, book, effect, scans, planned, carried, applied}
 use Rattle.orders.specs.Work.{committed}
 use Rattle.retype.specs.Types.{types_ok}
 use Rattle.retype.specs.Retyped.{Asked, retyped}
-use Rattle.retype.proofs.Laws.{retyped_good, retyped_read}
-use Rattle.mornings.specs.Tables.{entries_to, book_to}
+use Rattle.retype.proofs.Laws.{retyped_read}
+use Rattle.mornings.specs.Tables.{book_to}
 use Rattle.mornings.proofs.Entries.{symbol_to, find_to, place_to, entered_to}
 
 -- of a message's bytes the plan asks the symbol ID of an update alone

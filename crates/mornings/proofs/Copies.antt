@@ -1,20 +1,20 @@
 -- With true copies of a list no copy differs from the first, in either edition, so that every answer is the same: converted copies are true copies of the converted list.
 -- Assumes nothing.
-use Prim.Native.Nat.{ℕ, ◌+◌, ◌-◌, ◌≤◌, ◌<◌}
+use Prim.Native.Nat.{ℕ, ◌-◌, ◌<◌}
 use mathlib.Core.Path.{◌≡◌, refl, sym, ap, subst, ◌∙◌}
-use mathlib.Core.Bool.{Bool, true, false}
+use mathlib.Core.Bool.{true}
 use mathlib.Core.List.{List, [], ◌∷◌, ◌++◌, map}
 use native.Mathlib.Omega.{arith}
 use lib.ListN.{length, get_or, length-map, get_or-map}
 use Rattle.editions.specs.declared.Edition.{Edition}
-use Rattle.wire.specs.Records.{Rec, rec, Frames, bad, records}
+use Rattle.wire.specs.Records.{Rec, Frames}
 use Rattle.body.specs.Read.{good_body}
 use Rattle.packet.specs.Packet.{Why, framing}
 use Rattle.arbitration.specs.declared.Counts.{Counts}
 use Rattle.arbitration.specs.Receive.{records_of, accepted, said, run, counts_of, count}
 use Rattle.arbitration.specs.Receive as theory
-use Rattle.arbitration.specs.Lists.{Every, WellFormed, TrueCopy, Copies, Numbered, Copy, msg}
-use Rattle.arbitration.proofs.Halves.{Ready, start_ready, run_ready, none_differs}
+use Rattle.arbitration.specs.Lists.{Every, WellFormed, Copies, Numbered, Copy}
+use Rattle.arbitration.proofs.Halves.{start_ready, run_ready, none_differs}
 use Rattle.arbitration.proofs.Packets.{every_accepted}
 use Rattle.shelf.specs.Store.{shelf_store}
 use Rattle.receiver.specs.Receiver.{Keeps}

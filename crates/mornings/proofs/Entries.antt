@@ -1,30 +1,28 @@
 -- A table's entries are retyped one by one: searches go by type byte and symbol ID, which stay, and an entry put is retyped as its body is.
 -- Assumes nothing.
-use Prim.Native.Nat.{ℕ, zero, suc, ◌+◌, ◌-◌, ◌*◌, ◌/◌, ◌≤◌, ◌<◌}
+use Prim.Native.Nat.{ℕ, zero, suc, ◌+◌, ◌*◌, ◌/◌, ◌<◌}
 use mathlib.Core.Path.{◌≡◌, refl, sym, ap, ap₂, ◌∙◌, subst}
-use mathlib.Core.Bool.{Bool, true, false}
+use mathlib.Core.Bool.{Bool, true}
 use mathlib.Core.List.{List, [], ◌∷◌, ◌++◌, map}
 use native.Mathlib.Omega.{arith}
-use native.Mathlib.Nat.{mod-lt, mod_def, mul-div_right}
-use lib.ListN.{length, get_or, set, drop, replicate, length-drop, length-map, length-append}
+use native.Mathlib.Nat.{mod-lt, mod_def}
+use lib.ListN.{length, set, drop, replicate, length-drop, length-map, length-append}
 use lib.Seq.{drop_at}
 use lib.Dec.{eqb}
 use Rattle.facts.specs.Limits.{entry_size}
 use Rattle.facts.specs.Pick.{pick, both}
-use Rattle.facts.specs.Pieces.{pieces, join}
+use Rattle.facts.specs.Pieces.{join}
 use Rattle.facts.specs.Search.{first, or_else}
 use Rattle.facts.specs.Sums.{count_by, sum_by, only_if}
 use Rattle.facts.specs.declared.Found.{Found}
-use Rattle.facts.proofs.PieceLaws.{Wide, length_join, length_pieces, pieces_rest, pieces_replicate, join_pieces, map_set}
+use Rattle.facts.proofs.PieceLaws.{Wide, length_join, length_pieces, pieces_rest, pieces_replicate, map_set}
 use Rattle.wire.proofs.Laws.{get_or_padded}
 use Rattle.editions.specs.declared.Edition.{Edition}
-use Rattle.kinds.specs.Table.{kind_length}
 use Rattle.kinds.specs.declared.Kind.{Kind}
 use Rattle.fields.specs.Fields.{symbol_of}
-use Rattle.fields.specs.declared.Symbol.{Symbol}
 use Rattle.body.specs.Read.{good_body}
 use Rattle.body.proofs.Laws.{Framed, framed_is, good_framed}
-use Rattle.symbols.specs.Entries.{entries, entries_rest, entry_of, put_entry, used, free_entry, id_of}
+use Rattle.symbols.specs.Entries.{entries, entries_rest, entry_of, put_entry, used, free_entry}
 use Rattle.symbols.specs.Find.{is_symbol, find_symbol, find_free_entry, place_for, count_used}
 use Rattle.symbols.specs.Work.{entered}
 use Rattle.symbols.specs.declared.EntryWork.{EntryWork}

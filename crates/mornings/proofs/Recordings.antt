@@ -1,30 +1,28 @@
 -- A converted recording has the first one's packets, each converted, and the same rest; they are heard alongside, refused before and after, so that the sheets are made of the same but for byte 20.
 -- Assumes nothing.
-use Prim.Native.Nat.{ℕ, ◌+◌, ◌-◌, ◌≤◌, ◌<◌}
+use Prim.Native.Nat.{ℕ, ◌+◌, ◌-◌, ◌≤◌}
 use mathlib.Core.Path.{◌≡◌, refl, sym, ap, subst, ◌∙◌}
 use mathlib.Core.Bool.{Bool, true, false}
-use mathlib.Core.Logic.{◌⊎◌, inl, inr}
-use mathlib.Core.List.{List, [], ◌∷◌, ◌++◌, map}
+use mathlib.Core.Logic.{inl, inr}
+use mathlib.Core.List.{List, [], ◌∷◌, ◌++◌}
 use native.Mathlib.Omega.{arith}
 use lib.ListN.{length, take, drop, length-append, length-take, length-drop}
 use lib.Seq.{take_at, drop_at, drop-drop, length-take-le}
-use lib.Dec.{leb, ltb}
-use Rattle.facts.specs.Pick.{pick, both}
+use lib.Dec.{ltb}
+use Rattle.facts.specs.Pick.{pick}
 use Rattle.facts.specs.Limits.{packet_most, hold_least}
 use Rattle.facts.specs.Pieces.{join}
 use Rattle.editions.specs.declared.Edition.{Edition}
 use Rattle.wire.specs.Le.{le, field}
-use Rattle.wire.specs.Records.{Rec, Frames, bad, records}
-use Rattle.fields.specs.Fields.{bad_at}
+use Rattle.wire.specs.Records.{Rec, bad, records}
 use Rattle.packet.specs.Packet.{Framing, framing}
 use Rattle.packet.proofs.Good.{AllGood, framing_fine, Fine}
 use Rattle.arbitration.specs.Stream.{each}
-use Rattle.receiver.specs.Lent.{Lent, state_of, orders_of, symbols_of, sizes_ok, received, received_all, fresh}
+use Rattle.receiver.specs.Lent.{Lent, state_of, orders_of, symbols_of, sizes_ok, received, received_all}
 use Rattle.receiver.specs.declared.State.{State}
 use Rattle.receiver.specs.declared.Received.{Received}
-use Rattle.recording.specs.declared.Fed.{Fed}
-use Rattle.recording.specs.Stream.{more, Standing, noted, too_long, heard, hears, Hearing, hearing, byte, stream_in, cut, Feeding, took}
-use Rattle.recording.specs.Whole.{packets_of, rest_of, InFront, Laid, Inside, waiting, fed_all, began, opened_over}
+use Rattle.recording.specs.Stream.{more, Standing, noted, too_long, heard, hears, Hearing, hearing, byte, took}
+use Rattle.recording.specs.Whole.{packets_of, rest_of, InFront, Laid, Inside, began}
 use Rattle.recording.proofs.Packets.{packets_laid, laid_once}
 use Rattle.recording.proofs.Heard.{all_heard, packets_heard, cut_rest}
 use Rattle.recording.proofs.FromStart.{any_pieces}
@@ -33,13 +31,12 @@ use Rattle.answer_sheet.specs.Types.{untyped, in_edition}
 use Rattle.answer_sheet.specs.Sheet.{lines_of}
 use Rattle.retype.specs.Types.{types_ok}
 use Rattle.retype.specs.Retyped.{Asked}
-use Rattle.conversion.specs.Piece.{Piece, whole_front, packet_in_front, piece_of}
+use Rattle.conversion.specs.Piece.{Piece, whole_front, packet_in_front}
 use Rattle.conversion.specs.Kept.{Becomes, taken, refused}
 use Rattle.conversion.proofs.Pieces.{not_whole, is_whole, passed_length, piece_none, piece_more}
 use Rattle.conversion.proofs.Passing.{becomes}
-use Rattle.mornings.specs.Tables.{entries_to}
 use Rattle.mornings.specs.Mornings.{packet_to, packets_to, recording_to, SameMorning, whole_or_cut, lines_after, sheet_in}
-use Rattle.mornings.specs.Alongside.{Two, FramesAlike, both_bad, both_good, ReceivedAlike, both_accepted, both_refused, Refusing, by_number, by_place}
+use Rattle.mornings.specs.Alongside.{FramesAlike, both_bad, both_good, ReceivedAlike, both_accepted, both_refused, Refusing, by_number, by_place}
 use Rattle.mornings.proofs.Runs.{two, meant_to, Pair, fresh_pair, call_pair, calls_pair, pair_same}
 use Rattle.mornings.proofs.Sheets.{lines_alike}
 

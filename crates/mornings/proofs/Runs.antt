@@ -1,30 +1,27 @@
 -- A receiver of the one edition and one of the other, which is given the same packets converted, go alongside from a start: each body means the same to the other's book, and packets are refused before and after.
 -- Assumes nothing.
-use Prim.Native.Nat.{ℕ, ◌≤◌}
+use Prim.Native.Nat.{ℕ}
 use mathlib.Core.Path.{◌≡◌, refl, sym, ap, subst, ◌∙◌}
 use mathlib.Core.Bool.{Bool, true, false}
-use mathlib.Core.Logic.{◌⊎◌, inl, inr}
 use mathlib.Core.List.{List, [], ◌∷◌, map}
 use lib.Dec.{eqb}
 use lib.ListN.{length, replicate}
 use Rattle.facts.specs.Limits.{shelf_size}
 use Rattle.facts.specs.Pick.{pick}
 use Rattle.editions.specs.declared.Edition.{Edition}
-use Rattle.wire.specs.Records.{Rec, rec, Frames, bad, records}
+use Rattle.wire.specs.Records.{Rec}
 use Rattle.body.specs.Read.{good_body}
-use Rattle.packet.specs.Packet.{Why, framing}
-use Rattle.packet.proofs.Laws.{GoodRec}
-use Rattle.packet.proofs.Good.{AllGood, framing_fine}
+use Rattle.packet.specs.Packet.{framing}
+use Rattle.packet.proofs.Good.{AllGood}
 use Rattle.book.specs.Book.{Book, book, Effect, applied}
 use Rattle.book.specs.Plan.{clock}
 use Rattle.book.proofs.Ledgers.{Sure}
-use Rattle.arbitration.specs.Engine.{Applied, ok as ok', broke}
+use Rattle.arbitration.specs.Engine.{ok as ok', broke}
 use Rattle.arbitration.specs.Same.{Alike, both_ok, both_broke}
-use Rattle.arbitration.specs.Meaning.{Means, Meant, none, more, Close, close}
+use Rattle.arbitration.specs.Meaning.{Means, Meant, none, more, Close}
 use Rattle.arbitration.proofs.MeaningLaws.{close_agrees}
 use Rattle.shelf.specs.Store.{shelf_store}
-use Rattle.receiver.specs.Parts.{engine_of}
-use Rattle.receiver.specs.Receiver.{Keeps, receives}
+use Rattle.receiver.specs.Receiver.{receives}
 use Rattle.receiver.specs.Lent.{tables_ok, sizes_ok, book_engine, book_rules, plain, Lent, plain_of, received, received_all, real, fresh, zero_book}
 use Rattle.receiver.specs.declared.Received.{Received}
 use Rattle.receiver.proofs.Real.{plain_laws, fresh_started, sizes_are, rows_sized}
@@ -34,7 +31,7 @@ use Rattle.receiver.proofs.Engines.{call_follows, zero_sure}
 use Rattle.retype.specs.Types.{types_ok}
 use Rattle.retype.specs.Retyped.{Asked, retyped}
 use Rattle.retype.proofs.Laws.{retyped_good}
-use Rattle.mornings.specs.Tables.{entries_to, book_to}
+use Rattle.mornings.specs.Tables.{book_to}
 use Rattle.conversion.specs.Kept.{recs_to}
 use Rattle.mornings.specs.Mornings.{SameMorning}
 use Rattle.mornings.specs.Alongside.{Two, FramesAlike, ReceivedAlike, Alongside}

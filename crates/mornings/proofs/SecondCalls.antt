@@ -1,19 +1,17 @@
 -- Of a recording and the same converted, call by call from a start: the shelves hold what they held, retyped, so that each account has the repeats of the other and those that byte 20 alone had kept apart.
 -- Assumes nothing.
 use Prim.Native.Nat.{ℕ}
-use mathlib.Core.Path.{◌≡◌, refl, sym, ap, subst, ◌∙◌}
+use mathlib.Core.Path.{◌≡◌, refl, sym, subst, ◌∙◌}
 use mathlib.Core.Bool.{Bool, true, false}
 use mathlib.Core.Logic.{◌⊎◌, inl, inr}
 use mathlib.Core.List.{List, [], ◌∷◌}
 use native.Mathlib.Omega.{arith}
-use lib.ListN.{length}
-use Rattle.facts.specs.Limits.{shelf_size}
 use Rattle.facts.specs.Pick.{pick, both}
 use Rattle.editions.specs.declared.Edition.{Edition}
-use Rattle.wire.specs.Records.{Rec, bad, records}
+use Rattle.wire.specs.Records.{Rec, records}
 use Rattle.fields.specs.Fields.{refusal}
-use Rattle.packet.specs.Packet.{Why, alone, placed, Framing, framing}
-use Rattle.packet.proofs.Good.{AllGood, framing_fine, Fine}
+use Rattle.packet.specs.Packet.{Framing, framing}
+use Rattle.packet.proofs.Good.{AllGood}
 use Rattle.book.specs.Book.{Book}
 use Rattle.arbitration.specs.Engine.{Engine}
 use Rattle.arbitration.specs.Receive.{records_of, said, told, counts_of}
@@ -22,8 +20,8 @@ use Rattle.arbitration.specs.Lists.{Every, Numbered, Bounded}
 use Rattle.arbitration.specs.Meaning.{Close, close}
 use Rattle.arbitration.specs.declared.Counts.{Counts}
 use Rattle.shelf.specs.Store.{shelf_store}
-use Rattle.receiver.specs.Receiver.{next_ok, refused_by, Handles, handled, handled_by, fit, receives}
-use Rattle.receiver.specs.Lent.{tables_ok, sizes_ok, book_engine, plain, Lent, plain_of, received, received_all, fresh}
+use Rattle.receiver.specs.Receiver.{next_ok, Handles, handled, handled_by, fit, receives}
+use Rattle.receiver.specs.Lent.{sizes_ok, book_engine, plain, Lent, plain_of, received, received_all, fresh}
 use Rattle.receiver.specs.declared.Account.{Account}
 use Rattle.receiver.specs.declared.Received.{Received}
 use Rattle.receiver.proofs.Real.{plain_laws, fresh_started, sizes_are}
@@ -33,11 +31,9 @@ use Rattle.retype.specs.Types.{types_ok}
 use Rattle.retype.specs.Retyped.{Asked, retyped}
 use Rattle.conversion.specs.Kept.{Becomes, taken, refused, recs_to}
 use Rattle.conversion.proofs.Passing.{becomes}
-use Rattle.mornings.specs.Tables.{book_to}
 use Rattle.mornings.specs.Mornings.{packet_to, packets_to}
-use Rattle.mornings.specs.Alongside.{FramesAlike, both_bad, both_good, Refusing, by_number, by_place}
+use Rattle.mornings.specs.Alongside.{Refusing, by_number, by_place}
 use Rattle.mornings.specs.Seconds.{both_empty, Kept, Firm, CountsTo, SomeMerged, AccountTo, ReceivedTo, accepted_to, refused_to}
-use Rattle.mornings.proofs.Entries.{length_to}
 use Rattle.mornings.proofs.Runs.{two, meant_to, sized_to, Pair, fresh_pair, call_pair}
 use Rattle.mornings.proofs.Alongside.{refusing}
 use Rattle.mornings.proofs.Recordings.{all_good, frames_to}

@@ -7,15 +7,11 @@ use mathlib.Core.List.{List, [], ◌∷◌, ◌++◌, map}
 use Rattle.facts.specs.Pick.{pick}
 use Rattle.facts.specs.Pieces.{join}
 use Rattle.editions.specs.declared.Edition.{Edition}
-use Rattle.fields.specs.Fields.{symbol_of}
-use Rattle.fields.specs.declared.Symbol.{Symbol}
-use Rattle.body.specs.Shown.{security_in}
 use Rattle.body.specs.declared.Security.{Security}
 use Rattle.rows.specs.Rows.{rows}
 use Rattle.rows.specs.Find.{count_live}
 use Rattle.rows.specs.declared.Row.{Row}
-use Rattle.symbols.specs.Entries.{entries, used}
-use Rattle.symbols.specs.Find.{count_used}
+use Rattle.symbols.specs.Entries.{entries}
 use Rattle.receiver.specs.declared.State.{State}
 use Rattle.answer_sheet.specs.declared.Recording.{Recording}
 use Rattle.answer_sheet.specs.Lines.{Line}

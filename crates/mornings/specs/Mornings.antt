@@ -1,9 +1,7 @@
 -- "One morning's recording to suit every edition we teach" (document 00): what is said of a recording and of what `convert` makes of it.
-use Rattle.std.specs.Prelude.{ℕ, ◌≡◌, Bool, true, false, List, [], ◌∷◌, map}
+use Rattle.std.specs.Prelude.{ℕ, ◌≡◌, Bool, true, false, List, [], map}
 use Rattle.editions.specs.declared.Edition.{Edition}
-use Rattle.receiver.specs.declared.State.{State}
 use Rattle.receiver.specs.Lent.{Lent, orders_of, symbols_of, state_of}
-use Rattle.recording.specs.declared.Stream.{Stream}
 use Rattle.recording.specs.declared.Fed.{Fed}
 use Rattle.recording.specs.Stream.{cut, Feeding}
 use Rattle.recording.specs.Whole.{fed_all, opened_over}

@@ -1,14 +1,14 @@
 -- One text behind another is one text, since a store past the end of a buffer changes nothing: an append needs no room, and what it leaves and where the whole would end is decided all the same.
 -- Assumes nothing.
-use Prim.Native.Nat.{ℕ, suc, ◌+◌, ◌-◌, ◌≤◌, ◌<◌, min}
+use Prim.Native.Nat.{ℕ, ◌+◌, ◌-◌, ◌≤◌, ◌<◌, min}
 use mathlib.Core.Path.{◌≡◌, refl, sym, ap, ◌∙◌}
 use mathlib.Core.List.{List, [], ◌∷◌, ◌++◌, map, append-nil}
 use native.Mathlib.Decide.{dec_le}
 use native.Mathlib.Nat.{zero-add}
 use native.Mathlib.Omega.{arith}
 use native.Mathlib.Numerals.{add-one}
-use lib.ListN.{length, get_or, take, drop, set, length-set, length-append, length-take, take-append-drop, drop_of_length-le}
-use lib.Seq.{sets, length-sets, sets-eq, set_out, take-suc, take_all}
+use lib.ListN.{length, get_or, take, drop, length-append, length-take, take-append-drop, drop_of_length-le}
+use lib.Seq.{sets, length-sets, sets-eq, take-suc, take_all}
 use Rattle.facts.proofs.Picks.{no_second}
 use Rattle.facts.proofs.Stores.{sets_past, sets_append}
 use Rattle.text.specs.Text.{last_place, Wrote, first_texts}

@@ -1,13 +1,13 @@
 -- What the loops of `--type` keep, each law by one byte off the front: bytes of a range, digits, and a name stored over spaces.
 -- Assumes nothing.
-use mathlib.Core.Path.{◌≡◌, refl, sym, ap, ◌∙◌}
-use mathlib.Core.Bool.{Bool, true, false}
+use mathlib.Core.Path.{◌≡◌, refl, ap, ◌∙◌}
+use mathlib.Core.Bool.{true, false}
 use mathlib.Core.List.{List, [], ◌∷◌, ◌++◌}
 use Prim.Native.Nat.{ℕ, ◌+◌, ◌-◌, ◌*◌, ◌≤◌, ◌<◌, min}
 use native.Mathlib.Numerals.{add-one}
 use native.Mathlib.Omega.{arith}
-use lib.ListN.{length, get_or, set, drop, replicate, length-drop, length-append, length-replicate, get_or-replicate, drop_of_length-le}
-use lib.Seq.{sets, drop-cons, drop-append-le, get_or-drop}
+use lib.ListN.{length, get_or, set, drop, replicate, length-append, drop_of_length-le}
+use lib.Seq.{sets, drop-cons, drop-append-le}
 use borrow.Author.Tests.{le-leb, lt-leb}
 use Rattle.facts.specs.Pick.{pick, both}
 use Rattle.facts.proofs.PieceLaws.{same_left}

@@ -1,15 +1,7 @@
 -- The loop keeps: the first i entries are written; each turn writes one more.
 -- Assumes nothing.
-use Prim.Native.Nat.{◌≤◌, ◌-◌}
-use mathlib.Core.List.{[]}
-use lib.ListN.{get_or}
 use borrow.Author.Rules.{rules}
-use Rattle.rows.specs.Rows.{rows}
-use Rattle.symbols.specs.Entries.{entries}
-use Rattle.text.specs.Text.{Wrote, first_texts}
-use Rattle.text.proofs.Laws.{wrote_as, wrote_kept, texts_none, texts_more, texts_all}
-use Rattle.answer_sheet.specs.Lines.{text_of}
-use Rattle.answer_sheet.specs.Sheet.{entry_lines}
+use Rattle.text.proofs.Laws.{wrote_as, texts_none, texts_more, texts_all}
 use Rattle.answer_sheet.proofs.Views.{entries_are}
 use Rattle.answer_sheet.proofs.all_entries.Goals as goal
 

@@ -3,14 +3,11 @@
 use Prim.Native.Nat.{◌≤◌, ◌-◌}
 use mathlib.Core.List.{[]}
 use lib.ListN.{get_or}
-use borrow.Author.Rules.{rules}
 use Rattle.rows.specs.Rows.{rows}
 use Rattle.symbols.specs.Entries.{entries}
 use Rattle.text.specs.Text.{Wrote, first_texts}
-use Rattle.text.proofs.Laws.{wrote_as, wrote_kept, texts_none, texts_more, texts_all}
 use Rattle.answer_sheet.specs.Lines.{text_of}
 use Rattle.answer_sheet.specs.Sheet.{entry_lines}
-use Rattle.answer_sheet.proofs.Views.{entries_are}
 use Rattle.answer_sheet.proofs.all_entries.Given as goal
 
 abbrev pub invariant-loop-i : goal.invariant-loop-i

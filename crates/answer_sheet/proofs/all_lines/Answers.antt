@@ -4,7 +4,6 @@ use Rattle.text.proofs.Laws.{wrote_as}
 use Rattle.answer_sheet.specs.Sheet.{lines_of, sheet_of}
 use Rattle.answer_sheet.proofs.Lines.{lines_then}
 use Rattle.answer_sheet.proofs.Exits.{sizes_good, sizes_lines}
-use borrow.Author.Rules.{rules}
 use Rattle.answer_sheet.proofs.all_lines.Goals as goal
 
 pub all_entries-requires : goal.all_entries-requires

@@ -2,7 +2,6 @@
 -- Assumes nothing.
 use Rattle.answer_sheet.specs.Sheet.{level_at}
 use mathlib.Core.Path.{refl}
-use borrow.Author.Rules.{rules}
 use Rattle.answer_sheet.proofs.level_in.Goals as goal
 
 pub returns : goal.returns

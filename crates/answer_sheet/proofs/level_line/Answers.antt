@@ -2,7 +2,6 @@
 -- Assumes nothing.
 use Rattle.answer_sheet.proofs.Lines.{level_text}
 use Rattle.text.proofs.Laws.{wrote_as, wrote_then}
-use borrow.Author.Rules.{rules}
 use Rattle.answer_sheet.proofs.level_line.Goals as goal
 
 pub returns : goal.returns

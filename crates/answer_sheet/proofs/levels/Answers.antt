@@ -1,12 +1,11 @@
 -- The loop keeps: the first i levels are written; each turn writes one more.
 -- Assumes nothing.
-use Prim.Native.Nat.{◌≤◌, ◌-◌}
 use borrow.Author.Rules.{rules}
 use mathlib.Core.Path.{ap}
 use Rattle.views.specs.declared.Level.{Level}
-use Rattle.answer_sheet.specs.Sheet.{level_value, level_at}
-use Rattle.text.specs.Text.{Wrote, line_of, first_texts}
-use Rattle.text.proofs.Laws.{wrote_as, wrote_kept, texts_none, texts_more, texts_all}
+use Rattle.answer_sheet.specs.Sheet.{level_value}
+use Rattle.text.specs.Text.{line_of}
+use Rattle.text.proofs.Laws.{wrote_as, texts_none, texts_more, texts_all}
 use Rattle.answer_sheet.proofs.levels.Goals as goal
 
 pub loop-i-init : goal.loop-i-init

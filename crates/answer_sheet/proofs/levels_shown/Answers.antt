@@ -2,7 +2,6 @@
 -- Assumes nothing.
 use Rattle.answer_sheet.specs.Sheet.{levels_shown, level_count}
 use native.Mathlib.Omega.{arith}
-use borrow.Author.Rules.{rules}
 use Rattle.answer_sheet.proofs.levels_shown.Goals as goal
 
 pub returns-then-n-lt-LEVELS_SHOWN : goal.returns-then-n-lt-LEVELS_SHOWN

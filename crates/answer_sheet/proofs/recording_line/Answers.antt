@@ -3,7 +3,6 @@
 use Rattle.answer_sheet.specs.Keys.{recording_key, whole_word, cut_word}
 use Rattle.answer_sheet.specs.Sheet.{recording_word}
 use Rattle.text.specs.Text.{line_of}
-use borrow.Author.Rules.{rules}
 use Rattle.answer_sheet.proofs.recording_line.Goals as goal
 
 pub returns-in-Whole : goal.returns-in-Whole

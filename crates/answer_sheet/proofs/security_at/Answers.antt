@@ -2,7 +2,6 @@
 -- Assumes nothing.
 use mathlib.Core.Path.{ap, ◌∙◌}
 use Rattle.body.specs.Shown.{security_in}
-use borrow.Author.Rules.{rules}
 use Rattle.answer_sheet.proofs.security_at.Goals as goal
 
 pub returns : goal.returns

@@ -3,7 +3,6 @@
 use mathlib.Core.Path.{refl}
 use Rattle.text.proofs.Laws.{wrote_as}
 use Rattle.answer_sheet.proofs.Views.{ladder_lines, run_fits}
-use borrow.Author.Rules.{rules}
 use Rattle.answer_sheet.proofs.side_lines.Goals as goal
 
 pub levels-requires : goal.levels-requires

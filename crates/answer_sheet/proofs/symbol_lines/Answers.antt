@@ -6,7 +6,6 @@ use Rattle.answer_sheet.specs.Lines.{plain, line_text}
 use Rattle.answer_sheet.proofs.Lines.{lines_between}
 use Rattle.text.specs.Text.{decimal_of, ticker_of}
 use Rattle.text.proofs.Laws.{wrote_as, wrote_then}
-use borrow.Author.Rules.{rules}
 use Rattle.answer_sheet.proofs.symbol_lines.Goals as goal
 
 pub returns : goal.returns

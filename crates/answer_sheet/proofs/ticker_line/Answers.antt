@@ -3,7 +3,6 @@
 use Rattle.answer_sheet.specs.Keys.{ticker_key}
 use Rattle.text.specs.Text.{line_of}
 use Rattle.text.proofs.Laws.{wrote_then}
-use borrow.Author.Rules.{rules}
 use Rattle.answer_sheet.proofs.ticker_line.Goals as goal
 
 pub returns : goal.returns

@@ -1,7 +1,6 @@
 -- Zeros in the place of what lies behind the bytes held.
 -- Assumes nothing.
 use Rattle.recording.proofs.Exits.{clear_zeros}
-use borrow.Author.Rules.{rules}
 use Rattle.recording.proofs.clear.Goals as goal
 
 pub returns : goal.returns

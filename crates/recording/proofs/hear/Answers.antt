@@ -5,7 +5,6 @@ use Rattle.receiver.specs.Lent.{handled}
 use Rattle.recording.specs.Stream.{standing_of}
 use Rattle.recording.specs.declared.Stream.{Stream}
 use Rattle.recording.proofs.Exits.{heard_accepted, heard_refused, heard_bad, missed_as}
-use borrow.Author.Rules.{rules}
 use Rattle.recording.proofs.hear.Goals as goal
 
 pub returns-in-Accepted : goal.returns-in-Accepted

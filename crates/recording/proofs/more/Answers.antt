@@ -2,7 +2,6 @@
 -- Assumes nothing.
 use Rattle.recording.specs.Stream.{more}
 use native.Mathlib.Omega.{arith}
-use borrow.Author.Rules.{rules}
 use Rattle.recording.proofs.more.Goals as goal
 
 pub returns-then-a-b : goal.returns-then-a-b

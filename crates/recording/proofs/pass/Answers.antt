@@ -1,7 +1,6 @@
 -- Where the end of the over-long packet comes first it is bad; else all that is there is passed over.
 -- Assumes nothing.
 use Rattle.recording.proofs.Exits.{passed_whole, passed_part}
-use borrow.Author.Rules.{rules}
 use Rattle.recording.proofs.pass.Goals as goal
 
 pub returns-then-skip-left : goal.returns-then-skip-left

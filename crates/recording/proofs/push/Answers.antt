@@ -1,7 +1,6 @@
 -- One law for each exit: the first byte, an over-long packet, one byte more kept, a whole packet.
 -- Assumes nothing.
 use Rattle.recording.proofs.Exits.{push_first, push_over, push_keeps, push_gives}
-use borrow.Author.Rules.{rules}
 use Rattle.recording.proofs.push.Goals as goal
 
 pub returns-then-held-eq0 : goal.returns-then-held-eq0

@@ -1,12 +1,8 @@
 -- The loop keeps: what is left of the chunk, from here, gives the end of all.
 -- Assumes nothing.
-use mathlib.Core.Path.{◌≡◌, refl, ◌∙◌}
-use Prim.Native.Nat.{◌-◌, ◌≤◌}
+use mathlib.Core.Path.{refl, ◌∙◌}
 use native.Mathlib.Omega.{arith}
 use borrow.Author.Rules.{rules}
-use lib.ListN.{length, drop}
-use Rattle.arbitration.specs.Stream.{each}
-use Rattle.recording.specs.Stream.{hearing_of, byte}
 use Rattle.recording.proofs.Exits.{ran}
 use Rattle.recording.proofs.run.Goals as goal
 

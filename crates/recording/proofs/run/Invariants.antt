@@ -1,13 +1,10 @@
 -- The loop keeps: what is left of the chunk, from here, gives the end of all.
 -- Assumes nothing.
-use mathlib.Core.Path.{◌≡◌, refl, ◌∙◌}
+use mathlib.Core.Path.{◌≡◌}
 use Prim.Native.Nat.{◌-◌, ◌≤◌}
-use native.Mathlib.Omega.{arith}
-use borrow.Author.Rules.{rules}
 use lib.ListN.{length, drop}
 use Rattle.arbitration.specs.Stream.{each}
 use Rattle.recording.specs.Stream.{hearing_of, byte}
-use Rattle.recording.proofs.Exits.{ran}
 use Rattle.recording.proofs.run.Given as goal
 
 abbrev pub invariant-loop-at : goal.invariant-loop-at

@@ -3,7 +3,6 @@
 use native.Mathlib.Omega.{arith}
 use Rattle.recording.proofs.Exits.{step_passes, step_gives, step_pushes}
 use Rattle.recording.specs.Stream.{hearing_of}
-use borrow.Author.Rules.{rules}
 use Rattle.recording.proofs.step.Goals as goal
 
 pub returns-then-k-ne0 : goal.returns-then-k-ne0

@@ -2,7 +2,6 @@
 -- Assumes nothing.
 use mathlib.Core.Path.{sym}
 use lib.Seq.{set_out}
-use borrow.Author.Rules.{rules}
 use Rattle.recording.proofs.store.Goals as goal
 
 pub returns-then-hold-at : goal.returns-then-hold-at

@@ -1,10 +1,7 @@
 -- The loop keeps: the first i bytes of s are written; each turn writes one more.
 -- Assumes nothing.
-use Prim.Native.Nat.{◌≤◌, ◌-◌}
-use lib.ListN.{length, take}
 use borrow.Author.Rules.{rules}
-use Rattle.text.specs.Text.{Wrote}
-use Rattle.text.proofs.Laws.{wrote_none, wrote_more, wrote_all, wrote_kept}
+use Rattle.text.proofs.Laws.{wrote_none, wrote_more, wrote_all}
 use Rattle.text.proofs.bytes.Goals as goal
 
 pub loop-i-init : goal.loop-i-init

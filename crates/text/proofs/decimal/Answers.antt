@@ -1,10 +1,10 @@
 -- The loop keeps: the digits of `rest`, then those in d behind place i, are the digits of n; each turn moves the lowest digit of `rest` over. There are at most twenty, so i stays in the array.
 -- Assumes nothing.
-use Prim.Native.Nat.{◌+◌, ◌-◌, ◌/◌, ◌≤◌, ◌<◌}
-use mathlib.Core.Path.{◌≡◌, refl}
-use mathlib.Core.List.{◌++◌, append-nil}
+use Prim.Native.Nat.{◌-◌, ◌/◌, ◌≤◌, ◌<◌}
+use mathlib.Core.Path.{refl}
+use mathlib.Core.List.{append-nil}
 use native.Mathlib.Omega.{arith}
-use lib.ListN.{length, drop, length-set}
+use lib.ListN.{length-set}
 use borrow.Author.Rules.{rules}
 use Rattle.text.specs.Text.{decimal_of}
 use Rattle.text.proofs.Laws.{wrote_as}

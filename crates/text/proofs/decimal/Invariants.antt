@@ -1,14 +1,10 @@
 -- The loop keeps: the digits of `rest`, then those in d behind place i, are the digits of n; each turn moves the lowest digit of `rest` over. There are at most twenty, so i stays in the array.
 -- Assumes nothing.
-use Prim.Native.Nat.{◌+◌, ◌-◌, ◌/◌, ◌≤◌, ◌<◌}
-use mathlib.Core.Path.{◌≡◌, refl}
-use mathlib.Core.List.{◌++◌, append-nil}
-use native.Mathlib.Omega.{arith}
-use lib.ListN.{length, drop, length-set}
-use borrow.Author.Rules.{rules}
+use Prim.Native.Nat.{◌+◌, ◌≤◌}
+use mathlib.Core.Path.{◌≡◌}
+use mathlib.Core.List.{◌++◌}
+use lib.ListN.{length, drop}
 use Rattle.text.specs.Text.{decimal_of}
-use Rattle.text.proofs.Laws.{wrote_as}
-use Rattle.text.proofs.DecimalLaws.{decimal_some, decimal_longer, decimal_le, spell_more, spell_last}
 use Rattle.text.proofs.decimal.Given as goal
 
 abbrev pub invariant-loop-rest : goal.invariant-loop-rest

@@ -1,6 +1,5 @@
 -- Below 0 the number is turned round by way of -(n + 1), which fits; else it is its own magnitude.
 -- Assumes nothing.
-use borrow.Author.Rules.{rules}
 use Rattle.text.proofs.SignedLaws.{ok_up, ok_turned, is_turned, ok_same}
 use Rattle.text.proofs.magnitude.Goals as goal
 

@@ -1,11 +1,8 @@
 -- The loop keeps: the first i bytes of s are written, each as it is shown; each turn writes one more.
 -- Assumes nothing.
-use Prim.Native.Nat.{◌≤◌, ◌-◌}
-use mathlib.Core.List.{map}
-use lib.ListN.{length, take}
 use borrow.Author.Rules.{rules}
-use Rattle.text.specs.Text.{Wrote, shown_of}
-use Rattle.text.proofs.Laws.{wrote_none, map_more, map_all, wrote_kept, wrote_byte}
+use Rattle.text.specs.Text.{shown_of}
+use Rattle.text.proofs.Laws.{wrote_none, map_more, map_all, wrote_byte}
 use Rattle.text.proofs.show.Goals as goal
 
 pub loop-i-init : goal.loop-i-init

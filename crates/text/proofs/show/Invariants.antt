@@ -3,9 +3,7 @@
 use Prim.Native.Nat.{◌≤◌, ◌-◌}
 use mathlib.Core.List.{map}
 use lib.ListN.{length, take}
-use borrow.Author.Rules.{rules}
 use Rattle.text.specs.Text.{Wrote, shown_of}
-use Rattle.text.proofs.Laws.{wrote_none, map_more, map_all, wrote_kept, wrote_byte}
 use Rattle.text.proofs.show.Given as goal
 
 abbrev pub invariant-loop-i : goal.invariant-loop-i

@@ -1,6 +1,5 @@
 -- A minus sign and the magnitude below 0, else the magnitude alone.
 -- Assumes nothing.
-use borrow.Author.Rules.{rules}
 use Rattle.text.proofs.Laws.{wrote_as, wrote_then}
 use Rattle.text.proofs.SignedLaws.{shows_neg, shows_pos}
 use Rattle.text.proofs.signed.Goals as goal

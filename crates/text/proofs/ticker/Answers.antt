@@ -3,7 +3,6 @@
 use mathlib.Core.Path.{sym, ap}
 use mathlib.Core.List.{map}
 use lib.Seq.{length-take-le}
-use borrow.Author.Rules.{rules}
 use Rattle.text.specs.Text.{shown_of, ticker_of}
 use Rattle.text.proofs.Laws.{wrote_as}
 use Rattle.text.proofs.ticker.Goals as goal

@@ -1,10 +1,6 @@
 -- The loop keeps: trimming the first n bytes gives what trimming all gives; a space at their end goes, and the first other byte stops it.
 -- Assumes nothing.
-use Prim.Native.Nat.{◌≤◌}
-use mathlib.Core.Path.{◌≡◌}
-use lib.ListN.{length, take}
 use borrow.Author.Rules.{rules}
-use Rattle.text.specs.Text.{trim_of}
 use Rattle.text.proofs.TickerLaws.{trim_start, trim_down, trim_stop, trim_none}
 use Rattle.text.proofs.trimmed.Goals as goal
 

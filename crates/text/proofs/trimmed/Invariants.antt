@@ -3,9 +3,7 @@
 use Prim.Native.Nat.{◌≤◌}
 use mathlib.Core.Path.{◌≡◌}
 use lib.ListN.{length, take}
-use borrow.Author.Rules.{rules}
 use Rattle.text.specs.Text.{trim_of}
-use Rattle.text.proofs.TickerLaws.{trim_start, trim_down, trim_stop, trim_none}
 use Rattle.text.proofs.trimmed.Given as goal
 
 abbrev pub invariant-loop-n : goal.invariant-loop-n

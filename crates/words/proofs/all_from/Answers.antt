@@ -1,11 +1,7 @@
 -- The test of the bytes from i on gives what the whole test gives; each turn takes one off.
 -- Assumes nothing.
-use mathlib.Core.Path.{◌≡◌, refl, sym, ◌∙◌}
-use Prim.Native.Nat.{◌≤◌, ◌-◌}
+use mathlib.Core.Path.{refl, sym, ◌∙◌}
 use native.Mathlib.Omega.{arith}
-use lib.ListN.{length, drop}
-use borrow.Author.Rules.{rules}
-use Rattle.words.specs.Types.{all_from}
 use Rattle.words.proofs.TypeLaws.{range_below, range_above, range_more, range_end}
 use Rattle.words.proofs.all_from.Goals as goal
 

@@ -1,12 +1,9 @@
 -- The test of the bytes from i on gives what the whole test gives; each turn takes one off.
 -- Assumes nothing.
-use mathlib.Core.Path.{◌≡◌, refl, sym, ◌∙◌}
+use mathlib.Core.Path.{◌≡◌}
 use Prim.Native.Nat.{◌≤◌, ◌-◌}
-use native.Mathlib.Omega.{arith}
 use lib.ListN.{length, drop}
-use borrow.Author.Rules.{rules}
 use Rattle.words.specs.Types.{all_from}
-use Rattle.words.proofs.TypeLaws.{range_below, range_above, range_more, range_end}
 use Rattle.words.proofs.all_from.Given as goal
 
 abbrev pub invariant-loop-i : goal.invariant-loop-i

@@ -3,7 +3,6 @@
 use mathlib.Core.Path.{refl}
 use Rattle.wire.specs.Le.{to_le}
 use Rattle.words.specs.Types.{by_id}
-use borrow.Author.Rules.{rules}
 use Rattle.words.proofs.by_id.Goals as goal
 
 pub returns : goal.returns

@@ -1,12 +1,9 @@
 -- What is left of the name, stored from here on, gives the whole of it stored over the spaces.
 -- Assumes nothing.
-use mathlib.Core.Path.{◌≡◌, sym, ◌∙◌}
-use Prim.Native.Nat.{◌+◌, ◌-◌, ◌≤◌}
+use mathlib.Core.Path.{sym, ◌∙◌}
+use Prim.Native.Nat.{◌+◌}
 use native.Mathlib.Omega.{arith}
-use lib.ListN.{length, drop, length-set}
-use lib.Seq.{sets}
-use borrow.Author.Rules.{rules}
-use Rattle.words.specs.Types.{by_ticker}
+use lib.ListN.{length-set}
 use Rattle.words.proofs.TypeLaws.{store_more, store_end, unnamed_length, name_over_spaces}
 use Rattle.words.proofs.by_ticker.Goals as goal
 

@@ -1,13 +1,10 @@
 -- What is left of the name, stored from here on, gives the whole of it stored over the spaces.
 -- Assumes nothing.
-use mathlib.Core.Path.{◌≡◌, sym, ◌∙◌}
+use mathlib.Core.Path.{◌≡◌}
 use Prim.Native.Nat.{◌+◌, ◌-◌, ◌≤◌}
-use native.Mathlib.Omega.{arith}
-use lib.ListN.{length, drop, length-set}
+use lib.ListN.{length, drop}
 use lib.Seq.{sets}
-use borrow.Author.Rules.{rules}
 use Rattle.words.specs.Types.{by_ticker}
-use Rattle.words.proofs.TypeLaws.{store_more, store_end, unnamed_length, name_over_spaces}
 use Rattle.words.proofs.by_ticker.Given as goal
 
 abbrev pub invariant-loop-i : goal.invariant-loop-i

@@ -1,12 +1,9 @@
 -- What the digits from i on say behind n is what all of them say; they say n or more, so the loop may stop above the largest ID.
 -- Assumes nothing.
-use mathlib.Core.Path.{◌≡◌, refl, sym, ◌∙◌}
-use Prim.Native.Nat.{ℕ, ◌-◌, ◌*◌, ◌+◌, ◌≤◌}
-use native.Mathlib.Omega.{arith}
-use lib.ListN.{length, get_or, drop}
-use borrow.Author.Rules.{rules}
+use mathlib.Core.Path.{◌≡◌}
+use Prim.Native.Nat.{◌-◌, ◌≤◌}
+use lib.ListN.{length, drop}
 use Rattle.words.specs.Types.{decimal_from}
-use Rattle.words.proofs.TypeLaws.{decimal_more, decimal_end, decimal_grows}
 use Rattle.words.proofs.decimal_of.Given as goal
 
 abbrev pub invariant-loop-i : goal.invariant-loop-i

@@ -4,7 +4,6 @@ use borrow.Author.Tests.{le-leb, lt-leb, eq-eqb, ne_eqb, not-true, not-false}
 use Rattle.facts.specs.Pick.{pick, both}
 use Rattle.words.specs.Words.{edition_word, edition_asked}
 use Rattle.facts.proofs.SameLaws.{same_told}
-use borrow.Author.Rules.{rules}
 use Rattle.words.proofs.edition_asked.Goals as goal
 
 pub returns-then-count-le1 : goal.returns-then-count-le1

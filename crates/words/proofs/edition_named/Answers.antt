@@ -3,7 +3,6 @@
 use Rattle.facts.specs.Pick.{pick, either}
 use Rattle.words.specs.Words.{name13, name13a, name13b, edition_named}
 use Rattle.facts.proofs.SameLaws.{same_told}
-use borrow.Author.Rules.{rules}
 use Rattle.words.proofs.edition_named.Goals as goal
 
 pub returns-then-same : goal.returns-then-same

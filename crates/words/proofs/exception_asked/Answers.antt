@@ -1,12 +1,11 @@
 -- Each test is the definition's own, in its order.
 -- Assumes nothing.
-use mathlib.Core.Path.{sym, ap, ◌∙◌}
+use mathlib.Core.Path.{ap}
 use lib.ListN.{length}
 use borrow.Author.Tests.{le-leb, lt-leb, not-true, not-false}
 use Rattle.facts.specs.Pick.{pick, both}
 use Rattle.words.specs.Types.{asking, exception_asked}
 use Rattle.words.specs.declared.TypeWord.{TypeWord}
-use borrow.Author.Rules.{rules}
 use Rattle.words.proofs.exception_asked.Goals as goal
 
 pub returns-then-all_from : goal.returns-then-all_from

@@ -1,9 +1,7 @@
 -- The number told is the ID where it is small enough, and above the largest where the ID is.
 -- Assumes nothing.
-use native.Mathlib.Omega.{arith}
 use Rattle.words.specs.Types.{decimal_from}
 use Rattle.words.proofs.TypeLaws.{id_wrong, id_known}
-use borrow.Author.Rules.{rules}
 use Rattle.words.proofs.id_asked.Goals as goal
 
 pub returns-then-n-gt-MOST_ID : goal.returns-then-n-gt-MOST_ID

@@ -8,7 +8,6 @@ use lib.Seq.{length-take-le}
 use borrow.Author.Tests.{le-leb, lt-leb, eq-eqb, ne_eqb}
 use Rattle.facts.specs.Pick.{pick, both}
 use Rattle.words.specs.Types.{type_asked}
-use borrow.Author.Rules.{rules}
 use Rattle.words.proofs.type_asked.Goals as goal
 
 pub returns-then-n-eq1 : goal.returns-then-n-eq1

@@ -1,7 +1,6 @@
 -- The bytes are the definition's one by one.
 -- Assumes nothing.
 use mathlib.Core.Path.{refl}
-use borrow.Author.Rules.{rules}
 use Rattle.words.specs.Types.{by_ticker}
 use Rattle.words.proofs.unnamed.Goals as goal
 
