@@ -70,12 +70,7 @@ fn lend(
     answer(rt, err, piece, packet);
 }
 
-fn answer(
-    rt: &(impl Env + Input + Print),
-    err: &impl Print,
-    piece: &mut [u8],
-    packet: &mut [u8],
-) {
+fn answer(rt: &(impl Env + Input + Print), err: &impl Print, piece: &mut [u8], packet: &mut [u8]) {
     match edition_asked(rt) {
         Named::Known(e) => work(rt, err, e, piece, packet),
         Named::Unknown => {
@@ -370,13 +365,7 @@ fn with_record(s: State, used: usize) -> State {
 }
 
 // The packet so far behind its length, unless it is empty.
-fn end_packet(
-    out: &impl Print,
-    err: &impl Print,
-    e: Edition,
-    packet: &[u8],
-    s: State,
-) -> Step {
+fn end_packet(out: &impl Print, err: &impl Print, e: Edition, packet: &[u8], s: State) -> Step {
     let used = s.used;
     if used == 0 {
         return Step::On(s);
