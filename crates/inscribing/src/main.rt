@@ -5,8 +5,10 @@
 use editions::Edition;
 use keys::Form;
 use kinds::Kind;
-use libc::{STDERR_FILENO, STDIN_FILENO, STDOUT_FILENO};
 use line_in::{Expected, Line, Slip};
+use std::env::Env;
+use std::io;
+use std::io::{ErrorKind, Read};
 use styles::Style;
 use words::Named;
 use writer::Wrote;
@@ -21,7 +23,7 @@ const LENGTH_FIRST: usize = facts::PACKET_MOST + 2;
 const ROOM: usize = 512;
 
 // How far the text was composed: lines, records and packets that are done, and the bytes of the packet so far.
-#[derive(Drop)]
+#[derive(Clone, Copy)]
 pub struct State {
     pub lines: u64,
     pub records: u64,
@@ -37,7 +39,7 @@ pub enum Step {
 }
 
 // How many bytes stand at the front of the piece and are no whole line yet.
-#[derive(Drop)]
+#[derive(Clone, Copy)]
 pub struct Flow {
     pub held: usize,
     pub state: State,
@@ -52,44 +54,62 @@ pub enum Outcome {
 }
 
 // Each array is lent once, and no element of one is read or stored here.
-fn main() {
+fn main(rt: HostRuntime) {
     let mut piece = [0u8; PIECE];
     let mut packet = [0u8; facts::PACKET_MOST];
-    lend(&mut piece, &mut packet);
+    lend(&rt, &rt.stderr(), &mut piece, &mut packet);
 }
 
 // The arrays become slices here: at an array's reference no length is asked, however long it is.
-fn lend(piece: &mut [u8; PIECE], packet: &mut [u8; facts::PACKET_MOST]) {
-    answer(piece, packet);
+fn lend(
+    rt: &(impl Env + Input + Print),
+    err: &impl Print,
+    piece: &mut [u8; PIECE],
+    packet: &mut [u8; facts::PACKET_MOST],
+) {
+    answer(rt, err, piece, packet);
 }
 
-fn answer(piece: &mut [u8], packet: &mut [u8]) {
-    match edition_asked() {
-        Named::Known(e) => work(e, piece, packet),
+fn answer(rt: &(impl Env + Input + Print), err: &impl Print, piece: &mut [u8], packet: &mut [u8]) {
+    match edition_asked(rt) {
+        Named::Known(e) => work(rt, err, e, piece, packet),
         Named::Unknown => {
             say(
+                err,
                 b"rimeheath: compose takes no word but --edition with 1.3, 1.3.a or 1.3.b; the text comes on standard input\n",
             );
         }
     }
 }
 
-fn say(words: &[u8]) {
-    io::write_all(STDERR_FILENO, words);
+// Words on standard error, which is the last place where anything could be told.
+fn say(err: &impl Print, words: &[u8]) {
+    let _ = err.write_all(words);
+}
+
+// What the system refused, and why.
+fn fail(err: &impl Print, what: &str, e: io::Error) {
+    let _ = println!(err; "rimeheath: {what}: {e}");
 }
 
 // The edition that the words ask for.
-fn edition_asked() -> Named {
+fn edition_asked(rt: &impl Env) -> Named {
     let mut first = [0u8; 16];
     let mut second = [0u8; 16];
-    let n = os::arg(1, &mut first);
-    let m = os::arg(2, &mut second);
-    words::edition_asked(os::arg_count(), &first[..n], &second[..m])
+    let n = streams::word(rt, 1, &mut first);
+    let m = streams::word(rt, 2, &mut second);
+    words::edition_asked(streams::word_count(rt), &first[..n], &second[..m])
 }
 
 // ---- the text
 
-fn work(e: Edition, piece: &mut [u8], packet: &mut [u8]) {
+fn work(
+    rt: &(impl Input + Print),
+    err: &impl Print,
+    e: Edition,
+    piece: &mut [u8],
+    packet: &mut [u8],
+) {
     let start = Flow {
         held: 0,
         state: State {
@@ -99,62 +119,73 @@ fn work(e: Edition, piece: &mut [u8], packet: &mut [u8]) {
             used: 0,
         },
     };
-    match read_all(e, piece, packet, start) {
-        Outcome::End(f) => finish(e, piece, packet, f),
-        Outcome::More(_) => not_composed(),
+    match read_all(rt, err, &mut rt.reader(), e, piece, packet, start) {
+        Outcome::End(f) => finish(rt, err, e, piece, packet, f),
+        Outcome::More(_) => not_composed(err),
         Outcome::Over => {}
     }
 }
 
 // Never reached with this program's piece and packet.
-fn not_composed() {
-    say(b"rimeheath: the text was not composed\n");
+fn not_composed(err: &impl Print) {
+    say(err, b"rimeheath: the text was not composed\n");
 }
 
 // A proved loop has to end, so it counts its pieces up to a number that no text reaches.
-fn read_all(e: Edition, piece: &mut [u8], packet: &mut [u8], start: Flow) -> Outcome {
+fn read_all(
+    out: &impl Print,
+    err: &impl Print,
+    from: &mut impl Read,
+    e: Edition,
+    piece: &mut [u8],
+    packet: &mut [u8],
+    start: Flow,
+) -> Outcome {
     let mut f = start;
-    let mut turns: u64 = 0;
-    while turns < u64::MAX {
-        let t = turn(e, piece, packet, f);
+    for _ in 0..u64::MAX {
+        let t = turn(out, err, from, e, piece, packet, f);
         let Outcome::More(next) = t else {
             return t;
         };
         f = next;
-        turns = turns + 1;
     }
     Outcome::More(f)
 }
 
 // Reads once, behind what is held. A read that a signal broke off is tried again.
-fn turn(e: Edition, piece: &mut [u8], packet: &mut [u8], f: Flow) -> Outcome {
+fn turn(
+    out: &impl Print,
+    err: &impl Print,
+    from: &mut impl Read,
+    e: Edition,
+    piece: &mut [u8],
+    packet: &mut [u8],
+    f: Flow,
+) -> Outcome {
     let held = f.held;
     if piece.len() <= held {
-        not_composed();
+        not_composed(err);
         return Outcome::Over;
     }
-    let got = libc::read(STDIN_FILENO, &mut piece[held..]);
-    if got < 0 {
-        return unread(f);
+    match from.read(&mut piece[held..]) {
+        Ok(0) => Outcome::End(f),
+        Ok(n) => take_lines(out, err, e, piece, held + n, packet, f.state),
+        Err(x) => unread(err, x, f),
     }
-    if got == 0 {
-        return Outcome::End(f);
-    }
-    let n = io::count(got, &piece[held..]);
-    let s = f.state;
-    take_lines(e, piece, held + n, packet, s)
 }
 
-fn unread(f: Flow) -> Outcome {
-    if os::errno() == libc::EINTR {
+fn unread(err: &impl Print, x: io::Error, f: Flow) -> Outcome {
+    if x.kind() == ErrorKind::Interrupted {
         return Outcome::More(f);
     }
-    os::fail(b"rimeheath: standard input");
+    fail(err, "standard input", x);
     Outcome::Over
 }
 
 // Composes the whole lines of the first `have` bytes and keeps what is behind them.
 fn take_lines(
+    out: &impl Print,
+    err: &impl Print,
     e: Edition,
     piece: &mut [u8],
     have: usize,
@@ -166,9 +197,9 @@ fn take_lines(
     while at < have {
         let n = line_at(piece, at, have);
         if have - at <= n {
-            return keep(e, piece, at, have, packet, s);
+            return keep(out, err, e, piece, at, have, packet, s);
         }
-        let t = take_line(e, part(piece, at, n), packet, s);
+        let t = take_line(out, err, e, part(piece, at, n), packet, s);
         let Step::On(next) = t else {
             return Outcome::Over;
         };
@@ -196,6 +227,8 @@ fn line_at(piece: &[u8], at: usize, have: usize) -> usize {
 
 // A line whose end has not come waits at the front for it, but one that is too long already is told at once.
 fn keep(
+    out: &impl Print,
+    err: &impl Print,
     e: Edition,
     piece: &mut [u8],
     at: usize,
@@ -210,9 +243,9 @@ fn keep(
             state: s,
         });
     }
-    match take_line(e, text::front(piece, held), packet, s) {
+    match take_line(out, err, e, text::front(piece, held), packet, s) {
         Step::On(_) => {
-            not_composed();
+            not_composed(err);
             Outcome::Over
         }
         Step::Over => Outcome::Over,
@@ -235,37 +268,51 @@ fn to_front(piece: &mut [u8], start: usize, end: usize) -> usize {
 }
 
 // What is held at the end of the text is a last line without a line feed; then the last packet ends.
-fn finish(e: Edition, piece: &[u8], packet: &mut [u8], f: Flow) {
+fn finish(
+    out: &impl Print,
+    err: &impl Print,
+    e: Edition,
+    piece: &[u8],
+    packet: &mut [u8],
+    f: Flow,
+) {
     let held = f.held;
     let s = f.state;
     if held == 0 {
-        return close(e, packet, s);
+        return close(out, err, e, packet, s);
     }
-    match take_line(e, text::front(piece, held), packet, s) {
-        Step::On(next) => close(e, packet, next),
+    match take_line(out, err, e, text::front(piece, held), packet, s) {
+        Step::On(next) => close(out, err, e, packet, next),
         Step::Over => {}
     }
 }
 
-fn close(e: Edition, packet: &[u8], s: State) {
-    match end_packet(e, packet, s) {
-        Step::On(next) => tell_counts(next),
+fn close(out: &impl Print, err: &impl Print, e: Edition, packet: &[u8], s: State) {
+    match end_packet(out, err, e, packet, s) {
+        Step::On(next) => tell_counts(err, next),
         Step::Over => {}
     }
 }
 
 // ---- lines
 
-fn take_line(e: Edition, line: &[u8], packet: &mut [u8], before: State) -> Step {
+fn take_line(
+    out: &impl Print,
+    err: &impl Print,
+    e: Edition,
+    line: &[u8],
+    packet: &mut [u8],
+    before: State,
+) -> Step {
     let s = next_line(before);
     let mut body = [0u8; 42];
     let l = line_in::read_line(e, line, &mut body);
     match l {
-        Line::Blank => end_packet(e, packet, s),
+        Line::Blank => end_packet(out, err, e, packet, s),
         Line::Comment => Step::On(s),
-        Line::Record(number, n) => take_record(e, number, &body, n, packet, s),
+        Line::Record(number, n) => take_record(err, e, number, &body, n, packet, s),
         Line::Wrong(x) => {
-            tell_slip(e, s.lines, x);
+            tell_slip(err, e, s.lines, x);
             Step::Over
         }
     }
@@ -287,6 +334,7 @@ fn next(n: u64) -> u64 {
 
 // A record, whose body has n bytes, behind the packet so far.
 fn take_record(
+    err: &impl Print,
     e: Edition,
     number: u64,
     body: &[u8; 42],
@@ -297,11 +345,11 @@ fn take_record(
     match writer::append(e, packet, s.used, number, text::front(body, n)) {
         Wrote::Length(used) => Step::On(with_record(s, used)),
         Wrote::Refused(r) => {
-            tell_refused(s.lines, r.number);
+            tell_refused(err, s.lines, r.number);
             Step::Over
         }
         Wrote::Bad(_) => {
-            not_composed();
+            not_composed(err);
             Step::Over
         }
     }
@@ -317,28 +365,28 @@ fn with_record(s: State, used: usize) -> State {
 }
 
 // The packet so far behind its length, unless it is empty.
-fn end_packet(e: Edition, packet: &[u8], s: State) -> Step {
+fn end_packet(out: &impl Print, err: &impl Print, e: Edition, packet: &[u8], s: State) -> Step {
     let used = s.used;
     if used == 0 {
         return Step::On(s);
     }
     let mut whole = [0u8; LENGTH_FIRST];
     match writer::append_packet(e, &mut whole, 0, text::front(packet, used)) {
-        Wrote::Length(n) => hand_on(text::front(&whole, n), s),
+        Wrote::Length(n) => hand_on(out, err, text::front(&whole, n), s),
         Wrote::Refused(_) => {
-            not_composed();
+            not_composed(err);
             Step::Over
         }
         Wrote::Bad(_) => {
-            not_composed();
+            not_composed(err);
             Step::Over
         }
     }
 }
 
-fn hand_on(whole: &[u8], s: State) -> Step {
-    if !io::write_all(STDOUT_FILENO, whole) {
-        os::fail(b"rimeheath: standard output");
+fn hand_on(out: &impl Print, err: &impl Print, whole: &[u8], s: State) -> Step {
+    if let Err(x) = out.write_all(whole) {
+        fail(err, "standard output", x);
         return Step::Over;
     }
     Step::On(State {
@@ -352,10 +400,10 @@ fn hand_on(whole: &[u8], s: State) -> Step {
 // ---- what is said
 
 // By this last line it is known that all was composed.
-fn tell_counts(s: State) {
+fn tell_counts(err: &impl Print, s: State) {
     let mut out = [0u8; ROOM];
     let n = put_counts(&mut out, s);
-    say(text::front(&out, n));
+    say(err, text::front(&out, n));
 }
 
 fn put_counts(out: &mut [u8], s: State) -> usize {
@@ -377,13 +425,13 @@ fn put_count(out: &mut [u8], at: usize, n: u64, thing: &[u8]) -> usize {
 }
 
 // A record that its packet has no room for. No other refusal is left, since the line was judged.
-fn tell_refused(line: u64, number: u8) {
+fn tell_refused(err: &impl Print, line: u64, number: u8) {
     if number != 1 {
-        return not_composed();
+        return not_composed(err);
     }
     let mut out = [0u8; ROOM];
     let n = put_full(&mut out, line);
-    say(text::front(&out, n));
+    say(err, text::front(&out, n));
 }
 
 fn put_full(out: &mut [u8], line: u64) -> usize {
@@ -395,10 +443,10 @@ fn put_full(out: &mut [u8], line: u64) -> usize {
     )
 }
 
-fn tell_slip(e: Edition, line: u64, x: Slip) {
+fn tell_slip(err: &impl Print, e: Edition, line: u64, x: Slip) {
     let mut out = [0u8; ROOM];
     let n = put_slip(&mut out, e, line, x);
-    say(text::front(&out, n));
+    say(err, text::front(&out, n));
 }
 
 fn put_slip(out: &mut [u8], e: Edition, line: u64, x: Slip) -> usize {
@@ -453,11 +501,9 @@ fn put_keys(out: &mut [u8], at: usize, e: Edition, k: Kind) -> usize {
 
 fn put_each(out: &mut [u8], at: usize, e: Edition, k: Kind, n: usize) -> usize {
     let mut o = at;
-    let mut i: usize = 0;
-    while i < n {
+    for i in 0..n {
         o = put_between(out, o, i, n - i);
         o = put_key(out, o, e, k, i);
-        i = i + 1;
     }
     o
 }

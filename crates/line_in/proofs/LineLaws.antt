@@ -1,12 +1,10 @@
 -- What a line says, case by case, each by the definition's own test.
 -- Assumes nothing.
-use Prim.Native.Nat.{ℕ, suc, ◌+◌, ◌-◌, ◌≤◌, ◌<◌}
-use mathlib.Core.Path.{◌≡◌, refl, sym, ap, ◌∙◌}
-use mathlib.Core.Bool.{Bool, true, false}
+use Prim.Native.Nat.{ℕ, ◌+◌, ◌-◌, ◌≤◌, ◌<◌}
+use mathlib.Core.Path.{◌≡◌, refl, ap, ◌∙◌}
 use mathlib.Core.List.{List, [], ◌∷◌}
 use native.Mathlib.Omega.{arith}
-use lib.ListN.{length, take, drop, get_or, replicate}
-use lib.Dec.{eqb, leb}
+use lib.ListN.{length, take, drop, get_or}
 use borrow.Author.Tests.{eq-eqb, ne_eqb, le-leb, lt-leb}
 use Rattle.facts.specs.Limits.{last_number}
 use Rattle.facts.specs.Pick.{pick}
@@ -17,15 +15,15 @@ use Rattle.kinds.specs.declared.Kind.{Kind}
 use Rattle.kinds.proofs.Laws.{lengths}
 use Rattle.figures.specs.Figures.{number_in}
 use Rattle.figures.specs.declared.Figure.{Figure}
-use Rattle.spans.specs.Spans.{Word, word, words_at, is_note, uncommented, blanks, filled}
+use Rattle.spans.specs.Spans.{Word, word, words_at, blanks, filled}
 use Rattle.keys.specs.Keys.{entries_of, blank_body, kind_named}
 use mathlib.Core.Logic.{⊎_elim}
 use Rattle.keys.proofs.Laws.{blank_type}
 use Rattle.line_in.specs.declared.Expected.{Expected}
 use Rattle.line_in.specs.declared.Slip.{Slip}
 use Rattle.line_in.specs.declared.Line.{Line}
-use Rattle.line_in.specs.Lines.{Draft, draft, Taken, well, slipped, slip_at, Reading, reading, missing, judged, whole, finished, take_all, blank_draft, of_kind, named, numbered, of_words, line_most, read_line}
-use Rattle.line_in.proofs.Laws.{rest, Starts, words_from, starts, words_end, words_word, is_note_lem, no_note, rest_from, rest_end, rest_note, rest_word}
+use Rattle.line_in.specs.Lines.{Draft, Taken, well, slipped, slip_at, reading, missing, judged, whole, finished, take_all, blank_draft, of_kind, named, numbered, of_words, line_most, read_line}
+use Rattle.line_in.proofs.Laws.{rest, words_from, starts, words_end, words_word, is_note_lem, no_note}
 
 -- ---- the fields, which are taken or not
 module _ (ed : Edition) (n : ℕ) (k : Kind) (end : ℕ) (t : Taken) (out : List ℕ) where

@@ -1,5 +1,5 @@
 -- What a line says (docs/TEXT.md, "What a line says"): a record, or where it is wrong and what was expected there.
-use Rattle.std.specs.Prelude.{ℕ, suc, ◌+◌, ◌/◌, Bool, List, [], ◌∷◌, length, take, drop, get_or, set, replicate, eqb, leb, ltb}
+use Rattle.std.specs.Prelude.{ℕ, suc, ◌+◌, ◌/◌, List, [], ◌∷◌, length, take, drop, get_or, set, replicate, eqb, leb, ltb}
 use Rattle.std.proofs.lemmas.List.Edits.{sets}
 use Rattle.facts.specs.Limits.{last_number}
 use Rattle.facts.specs.Pick.{pick, both}
@@ -15,7 +15,6 @@ use Rattle.figures.specs.declared.Figure.{Figure}
 use Rattle.letters.specs.Letters.{Got, none, some}
 use Rattle.values.specs.Values.{value_in}
 use Rattle.keys.specs.Keys.{Entry, kind_named, entries_of, form_at, key_named, blank_body}
-use Rattle.keys.specs.declared.Form.{Form}
 use Rattle.line_in.specs.declared.Expected.{Expected}
 use Rattle.line_in.specs.declared.Slip.{Slip}
 use Rattle.line_in.specs.declared.Line.{Line}

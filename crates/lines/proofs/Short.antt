@@ -1,6 +1,6 @@
 -- A record's line is short: a number of 64 bits has at most 20 digits, a name 12 bytes, and each of at most ten fields a space, a key of 12 bytes, `=` and a value of 24.
 -- Assumes nothing.
-use Prim.Native.Nat.{ℕ, ◌+◌, ◌*◌, ◌^◌, ◌≤◌, ◌<◌}
+use Prim.Native.Nat.{ℕ, ◌*◌, ◌^◌, ◌≤◌, ◌<◌}
 use mathlib.Core.List.{List, [], ◌∷◌, ◌++◌}
 use native.Mathlib.Omega.{arith}
 use lib.ListN.{length, drop, get_or, length-append, length-take}

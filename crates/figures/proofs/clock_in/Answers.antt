@@ -1,7 +1,6 @@
 -- The test chooses as the definition does, and where it holds there are eight bytes.
 -- Assumes nothing.
 use Rattle.figures.proofs.FormLaws.{colons_long, clock_hours, clock_number}
-use borrow.Author.Rules.{rules}
 use Rattle.figures.proofs.clock_in.Goals as goal
 
 pub hours_in-requires : goal.hours_in-requires

@@ -1,7 +1,6 @@
 -- The three tests of the definition, in its order.
 -- Assumes nothing.
 use Rattle.figures.proofs.FormLaws.{colons_none, colons_first, colons_last}
-use borrow.Author.Rules.{rules}
 use Rattle.figures.proofs.colons.Goals as goal
 
 pub returns-then-s-ne8 : goal.returns-then-s-ne8

@@ -5,7 +5,6 @@ use native.Mathlib.Omega.{arith}
 use lib.Seq.{length-take-le}
 use Rattle.figures.proofs.NumberLaws.{told_most}
 use Rattle.figures.proofs.FormLaws.{hours_parts}
-use borrow.Author.Rules.{rules}
 use Rattle.figures.proofs.hours_in.Goals as goal
 
 pub slice_bounds-number_in-end : goal.slice_bounds-number_in-end

@@ -1,7 +1,6 @@
 -- One to six digits stand over six zeros, so the digits behind them are the zeros that are left; the six are one number.
 -- Assumes nothing.
 use Rattle.figures.proofs.FormLaws.{millionths_none, millionths_long, millionths_is}
-use borrow.Author.Rules.{rules}
 use Rattle.figures.proofs.millionths_in.Goals as goal
 
 pub returns-then-s-lt1 : goal.returns-then-s-lt1

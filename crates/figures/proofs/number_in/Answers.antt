@@ -1,11 +1,8 @@
 -- The number n of the digits before i, at most the most, goes on as all the digits do; each turn takes one digit or finds that none of it is a number.
 -- Assumes nothing.
-use Prim.Native.Nat.{◌-◌}
 use native.Mathlib.Omega.{arith}
 use mathlib.Core.Path.{refl}
-use lib.ListN.{length}
-use borrow.Author.Rules.{rules}
-use Rattle.figures.proofs.NumberLaws.{Read, number_none, read_below, read_above, read_past, read_more, read_end}
+use Rattle.figures.proofs.NumberLaws.{number_none, read_below, read_above, read_past, read_more, read_end}
 use Rattle.figures.proofs.number_in.Goals as goal
 
 pub returns-then-s-lt1 : goal.returns-then-s-lt1

@@ -6,7 +6,6 @@ use lib.Seq.{length-take-le}
 use Rattle.figures.specs.Figures.{AtMost}
 use Rattle.figures.proofs.NumberLaws.{told_most}
 use Rattle.figures.proofs.FormLaws.{told_millionths, price_parts, price_whole}
-use borrow.Author.Rules.{rules}
 use Rattle.figures.proofs.price_in.Goals as goal
 
 pub slice_bounds-number_in-end : goal.slice_bounds-number_in-end

@@ -4,7 +4,6 @@ use native.Mathlib.Omega.{arith}
 use mathlib.Core.Path.{refl}
 use Rattle.figures.specs.Figures.{priced}
 use Rattle.figures.proofs.NumberLaws.{at_most}
-use borrow.Author.Rules.{rules}
 use Rattle.figures.proofs.price_of.Goals as goal
 
 pub overflow_mul-result : goal.overflow_mul-result

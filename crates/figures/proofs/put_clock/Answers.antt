@@ -2,7 +2,6 @@
 -- Assumes nothing.
 use Rattle.text.proofs.Laws.{wrote_as}
 use Rattle.figures.proofs.FormLaws.{clock_day, clock_past}
-use borrow.Author.Rules.{rules}
 use Rattle.figures.proofs.put_clock.Goals as goal
 
 pub returns-then-n-lt-DAY : goal.returns-then-n-lt-DAY

@@ -2,7 +2,6 @@
 -- Assumes nothing.
 use Rattle.text.proofs.Laws.{wrote_then}
 use Rattle.figures.specs.Figures.{hours_text}
-use borrow.Author.Rules.{rules}
 use Rattle.figures.proofs.put_hours.Goals as goal
 
 pub returns : goal.returns

@@ -2,7 +2,6 @@
 -- Assumes nothing.
 use Rattle.text.proofs.Laws.{wrote_then}
 use Rattle.figures.specs.Figures.{price_text}
-use borrow.Author.Rules.{rules}
 use Rattle.figures.proofs.put_price.Goals as goal
 
 pub returns : goal.returns

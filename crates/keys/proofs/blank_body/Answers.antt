@@ -1,6 +1,5 @@
 -- Each arm is its clause of the definition.
 -- Assumes nothing.
-use borrow.Author.Rules.{rules}
 use Rattle.keys.specs.Keys.{blank_body}
 use Rattle.keys.proofs.blank_body.Goals as goal
 

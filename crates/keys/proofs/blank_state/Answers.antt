@@ -1,6 +1,5 @@
 -- The bytes are the definition's one by one.
 -- Assumes nothing.
-use borrow.Author.Rules.{rules}
 use mathlib.Core.Path.{refl}
 use Rattle.keys.specs.Keys.{blank_body}
 use Rattle.keys.proofs.blank_state.Goals as goal

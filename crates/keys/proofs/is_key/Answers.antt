@@ -1,6 +1,5 @@
 -- The row says the definition's field.
 -- Assumes nothing.
-use borrow.Author.Rules.{rules}
 use mathlib.Core.Path.{ap, ◌∙◌}
 use Rattle.facts.specs.Same.{same_bytes}
 use Rattle.keys.specs.Keys.{Entry}

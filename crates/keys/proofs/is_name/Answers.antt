@@ -1,6 +1,5 @@
 -- The label of the message is its name.
 -- Assumes nothing.
-use borrow.Author.Rules.{rules}
 use mathlib.Core.Path.{ap, ◌∙◌}
 use Rattle.facts.specs.Same.{same_bytes}
 use Rattle.keys.proofs.is_name.Goals as goal

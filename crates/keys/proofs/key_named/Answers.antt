@@ -1,12 +1,10 @@
 -- The loop keeps: what the search from field i on finds is what the whole search finds.
 -- Assumes nothing.
-use borrow.Author.Rules.{rules}
-use Prim.Native.Nat.{◌-◌, ◌≤◌, ◌<◌}
-use mathlib.Core.Path.{◌≡◌, refl, sym, ◌∙◌}
+use Prim.Native.Nat.{◌≤◌, ◌<◌}
+use mathlib.Core.Path.{refl, sym, ◌∙◌}
 use native.Mathlib.Omega.{arith}
-use lib.ListN.{length, drop}
+use lib.ListN.{length}
 use Rattle.facts.specs.Same.{same_bytes}
-use Rattle.facts.specs.Search.{first}
 use Rattle.facts.proofs.Searches.{first_hit, first_miss, first_end}
 use Rattle.keys.specs.Keys.{entries_of, no_entry, key_named}
 use Rattle.keys.proofs.key_named.Goals as goal

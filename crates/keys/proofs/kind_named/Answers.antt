@@ -1,13 +1,9 @@
 -- The loop keeps: the names from i on decide what all of them decide.
 -- Assumes nothing.
-use borrow.Author.Rules.{rules}
-use Prim.Native.Nat.{◌-◌, ◌≤◌}
-use mathlib.Core.Path.{◌≡◌, sym, ◌∙◌}
+use mathlib.Core.Path.{sym, ◌∙◌}
 use native.Mathlib.Omega.{arith}
-use lib.ListN.{drop}
 use Rattle.kinds.specs.declared.Kind.{Kind}
-use Rattle.keys.specs.Keys.{kind_named}
-use Rattle.keys.proofs.RowLaws.{kinds, named_of, named_all, named_hit, named_miss, named_end}
+use Rattle.keys.proofs.RowLaws.{kinds, named_all, named_hit, named_miss, named_end}
 use Rattle.keys.proofs.kind_named.Goals as goal
 
 pub loop-i-init : goal.loop-i-init

@@ -1,6 +1,5 @@
 -- Each arm's bytes without the spaces at their end are the definition's.
 -- Assumes nothing.
-use borrow.Author.Rules.{rules}
 use mathlib.Core.Path.{refl}
 use Rattle.facts.specs.Pick.{pick}
 use Rattle.text.specs.Text.{trim_cons, trim_of}

@@ -1,6 +1,5 @@
 -- The row says the definition's field.
 -- Assumes nothing.
-use borrow.Author.Rules.{rules}
 use mathlib.Core.Path.{ap}
 use Rattle.keys.specs.Keys.{Entry}
 use Rattle.text.proofs.Laws.{wrote_as}

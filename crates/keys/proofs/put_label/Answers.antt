@@ -1,6 +1,5 @@
 -- The bytes before the spaces at the end are what is written.
 -- Assumes nothing.
-use borrow.Author.Rules.{rules}
 use mathlib.Core.Path.{sym}
 use lib.Seq.{length-take-le}
 use Rattle.text.proofs.Laws.{wrote_as}

@@ -1,6 +1,5 @@
 -- The label of the message is its name.
 -- Assumes nothing.
-use borrow.Author.Rules.{rules}
 use Rattle.text.proofs.Laws.{wrote_as}
 use Rattle.keys.proofs.put_name.Goals as goal
 

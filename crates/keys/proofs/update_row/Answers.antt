@@ -1,6 +1,5 @@
 -- Each edition has a table of its own.
 -- Assumes nothing.
-use borrow.Author.Rules.{rules}
 use mathlib.Core.Path.{◌≡◌, sym, subst}
 use lib.ListN.{get_or}
 use Rattle.editions.specs.declared.Edition.{Edition}

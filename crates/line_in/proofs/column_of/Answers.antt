@@ -6,7 +6,6 @@ use lib.ListN.{get_or}
 use borrow.Author.Tests.{eq-eqb, ne_eqb}
 use Rattle.facts.specs.Pick.{pick}
 use Rattle.line_in.specs.Lines.{column_of}
-use borrow.Author.Rules.{rules}
 use Rattle.line_in.proofs.column_of.Goals as goal
 
 pub returns-then-c-eq0 : goal.returns-then-c-eq0

@@ -1,13 +1,9 @@
 -- The search from field i on gives what the whole search gives; each turn takes one off.
 -- Assumes nothing.
-use borrow.Author.Rules.{rules}
 use borrow.Author.Tests.{eq-eqb, ne_eqb}
-use Prim.Native.Nat.{ℕ, ◌-◌, ◌≤◌}
 use native.Mathlib.Omega.{arith}
-use mathlib.Core.Path.{◌≡◌, refl, sym, ap, ◌∙◌}
-use lib.ListN.{length, drop, get_or}
+use mathlib.Core.Path.{refl, sym, ap, ◌∙◌}
 use lib.Dec.{eqb}
-use Rattle.facts.specs.Search.{first}
 use Rattle.facts.proofs.Searches.{first_hit, first_miss, first_end}
 use Rattle.keys.specs.Keys.{Entry, no_entry, entries_of, form_at}
 use Rattle.keys.specs.declared.Form.{Form}

@@ -1,16 +1,11 @@
 -- The search from field i on gives what the whole search gives; each turn takes one off.
 -- Assumes nothing.
-use borrow.Author.Rules.{rules}
-use borrow.Author.Tests.{eq-eqb, ne_eqb}
-use Prim.Native.Nat.{ℕ, ◌-◌, ◌≤◌}
-use native.Mathlib.Omega.{arith}
-use mathlib.Core.Path.{◌≡◌, refl, sym, ap, ◌∙◌}
-use lib.ListN.{length, drop, get_or}
+use Prim.Native.Nat.{◌-◌, ◌≤◌}
+use mathlib.Core.Path.{◌≡◌}
+use lib.ListN.{length, drop}
 use lib.Dec.{eqb}
 use Rattle.facts.specs.Search.{first}
-use Rattle.facts.proofs.Searches.{first_hit, first_miss, first_end}
-use Rattle.keys.specs.Keys.{Entry, no_entry, entries_of, form_at}
-use Rattle.keys.specs.declared.Form.{Form}
+use Rattle.keys.specs.Keys.{Entry, entries_of}
 use Rattle.line_in.specs.Lines.{field_at}
 use Rattle.line_in.proofs.field_at.Given as goal
 

@@ -1,15 +1,13 @@
 -- The reader's code is 0 for a good body, else it has the place of the fault above 8 bits.
 -- Assumes nothing.
 use Prim.Native.Nat.{ℕ}
-use mathlib.Core.Path.{◌≡◌, refl, sym, ap, ◌∙◌}
-use mathlib.Core.List.{List}
+use mathlib.Core.Path.{ap, ◌∙◌}
 use lib.ListN.{length-take, take}
 use native.Mathlib.Omega.{arith}
 use Rattle.body.specs.Read.{judge_body, judged_code}
 use Rattle.line_in.specs.declared.Line.{Line}
 use Rattle.line_in.specs.Lines.{reading}
 use Rattle.line_in.proofs.FieldLaws.{judged_wrong, judged_well}
-use borrow.Author.Rules.{rules}
 use Rattle.line_in.proofs.judge.Goals as goal
 
 pub slice_bounds-judge-end : goal.slice_bounds-judge-end

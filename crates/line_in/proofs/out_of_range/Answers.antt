@@ -1,11 +1,10 @@
 -- By where the search for the field ended; a message has at most ten fields.
 -- Assumes nothing.
-use mathlib.Core.Path.{◌≡◌, refl, sym, ap, ◌∙◌}
+use mathlib.Core.Path.{sym, ◌∙◌}
 use native.Mathlib.Omega.{arith}
 use Rattle.keys.proofs.Laws.{most_fields_lem}
 use Rattle.line_in.specs.Lines.{field_at}
 use Rattle.line_in.proofs.FieldLaws.{field_inside, range_at, range_none}
-use borrow.Author.Rules.{rules}
 use Rattle.line_in.proofs.out_of_range.Goals as goal
 
 pub column_of-requires : goal.column_of-requires

@@ -1,17 +1,16 @@
 -- The words are taken over the blank body; then by what is missing, then by what the reader says.
 -- Assumes nothing.
 use Prim.Native.Nat.{ℕ}
-use mathlib.Core.Path.{◌≡◌, refl, sym, ap, ◌∙◌}
+use mathlib.Core.Path.{◌≡◌, sym, ap, ◌∙◌}
 use mathlib.Core.List.{List}
 use native.Mathlib.Omega.{arith}
-use lib.ListN.{length, drop, replicate}
+use lib.ListN.{length, replicate}
 use Rattle.line_in.specs.declared.Line.{Line}
 use Rattle.line_in.specs.declared.Took.{Took}
 use Rattle.line_in.specs.declared.Slip.{Slip}
 use Rattle.line_in.specs.Lines.{draft, well, took_as, take_all, blank_draft, reading}
 use Rattle.line_in.proofs.Laws.{rest}
 use Rattle.line_in.proofs.LineLaws.{fields_wrong, fields_needed, fields_whole, blank_long, length_most}
-use borrow.Author.Rules.{rules}
 use Rattle.line_in.proofs.read_fields.Goals as goal
 
 pub judge-requires : goal.judge-requires

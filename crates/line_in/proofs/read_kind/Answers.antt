@@ -1,19 +1,16 @@
 -- The blank body of a name that is none has type 0.
 -- Assumes nothing.
-use mathlib.Core.Path.{◌≡◌, refl, sym, ap, ◌∙◌}
-use Prim.Native.Nat.{ℕ, ◌-◌}
+use mathlib.Core.Path.{sym, ap, ◌∙◌}
+use Prim.Native.Nat.{ℕ}
 use mathlib.Core.List.{List}
-use native.Mathlib.Omega.{arith}
-use lib.ListN.{length, take, drop, get_or}
+use lib.ListN.{length, get_or}
 use Rattle.kinds.specs.declared.Kind.{Kind}
-use Rattle.keys.specs.Keys.{kind_named}
 use Rattle.keys.proofs.Laws.{blank_type}
 use Rattle.line_in.specs.declared.Line.{Line}
 use Rattle.line_in.specs.declared.Slip.{Slip}
 use Rattle.line_in.specs.Lines.{of_kind, reading}
 use Rattle.line_in.proofs.Laws.{rest}
 use Rattle.line_in.proofs.LineLaws.{kind_none, kind_some}
-use borrow.Author.Rules.{rules}
 use Rattle.line_in.proofs.read_kind.Goals as goal
 
 pub returns-then-blank-eq0 : goal.returns-then-blank-eq0

@@ -1,15 +1,13 @@
 -- By the first byte that is no blank: none, a comment, or the number's word.
 -- Assumes nothing.
-use mathlib.Core.Path.{◌≡◌, refl, sym, ap, ◌∙◌}
-use Prim.Native.Nat.{ℕ, ◌-◌}
+use mathlib.Core.Path.{ap, ◌∙◌}
 use native.Mathlib.Omega.{arith}
-use lib.ListN.{length, take, drop, length-drop}
+use lib.ListN.{drop, length-drop}
 use Rattle.spans.proofs.Laws.{filled_le}
 use Rattle.line_in.specs.declared.Line.{Line}
 use Rattle.line_in.specs.declared.Slip.{Slip}
 use Rattle.line_in.specs.Lines.{reading}
 use Rattle.line_in.proofs.LineLaws.{line_long, line_blank, line_comment, line_record}
-use borrow.Author.Rules.{rules}
 use Rattle.line_in.proofs.read_line.Goals as goal
 
 pub returns-then-s-gt-LINE_MOST : goal.returns-then-s-gt-LINE_MOST

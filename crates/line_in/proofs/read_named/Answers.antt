@@ -1,18 +1,16 @@
 -- The first word behind the number, if there is one before a comment.
 -- Assumes nothing.
-use mathlib.Core.Path.{◌≡◌, refl, sym, ap, ◌∙◌}
-use Prim.Native.Nat.{ℕ, ◌-◌}
-use mathlib.Core.List.{List}
+use mathlib.Core.Path.{ap, ◌∙◌}
+use Prim.Native.Nat.{◌-◌}
 use native.Mathlib.Omega.{arith}
-use lib.ListN.{length, take, drop, get_or, length-drop}
+use lib.ListN.{length, take, drop, length-drop}
 use Rattle.spans.specs.Spans.{word}
-use Rattle.spans.proofs.Laws.{blanks_le, filled_le}
+use Rattle.spans.proofs.Laws.{filled_le}
 use Rattle.line_in.specs.declared.Line.{Line}
 use Rattle.line_in.specs.declared.Slip.{Slip}
 use Rattle.line_in.specs.Lines.{reading}
 use Rattle.line_in.proofs.Laws.{rest, rest_from, starts, rest_end, rest_note, rest_word}
 use Rattle.line_in.proofs.LineLaws.{named_none, named_word}
-use borrow.Author.Rules.{rules}
 use Rattle.line_in.proofs.read_named.Goals as goal
 
 pub returns-then-s-at : goal.returns-then-s-at

@@ -1,8 +1,7 @@
 -- By what the first word says as a number.
 -- Assumes nothing.
-use mathlib.Core.Path.{◌≡◌, refl, sym, ap, ◌∙◌}
-use Prim.Native.Nat.{ℕ, ◌-◌}
-use native.Mathlib.Omega.{arith}
+use mathlib.Core.Path.{sym, ap, ◌∙◌}
+use Prim.Native.Nat.{◌-◌}
 use lib.ListN.{length, take, drop}
 use Rattle.facts.specs.Limits.{last_number}
 use Rattle.figures.specs.Figures.{number_in}
@@ -11,7 +10,6 @@ use Rattle.line_in.specs.declared.Slip.{Slip}
 use Rattle.line_in.specs.Lines.{reading}
 use Rattle.line_in.proofs.Laws.{rest}
 use Rattle.line_in.proofs.LineLaws.{number_none, number_zero, number_some}
-use borrow.Author.Rules.{rules}
 use Rattle.line_in.proofs.read_numbered.Goals as goal
 
 pub returns-then-n-eq0 : goal.returns-then-n-eq0

@@ -1,12 +1,10 @@
 -- A column that is not 0 says that the key stood before; else what value_in told is what the definition takes.
 -- Assumes nothing.
-use Prim.Native.Nat.{ℕ, suc}
-use mathlib.Core.Path.{◌≡◌, refl, sym, ap, ◌∙◌}
+use mathlib.Core.Path.{ap, ◌∙◌}
 use native.Mathlib.Omega.{arith}
 use borrow.Author.Tests.{not-true, not-false}
 use Rattle.line_in.specs.Lines.{draft, slipped}
 use Rattle.line_in.proofs.FieldLaws.{field_twice, field_well, field_wrong}
-use borrow.Author.Rules.{rules}
 use Rattle.line_in.proofs.take_field.Goals as goal
 
 pub returns-then-given-i-ne0 : goal.returns-then-given-i-ne0

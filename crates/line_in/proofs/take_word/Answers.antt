@@ -1,8 +1,8 @@
 -- The key is what stands before the first `=`, and a key of the message is one of at most ten.
 -- Assumes nothing.
 use Prim.Native.Nat.{◌-◌}
-use Prim.Native.Nat.{ℕ, suc, ◌+◌}
-use mathlib.Core.Path.{◌≡◌, refl, sym, ap, ◌∙◌}
+use Prim.Native.Nat.{ℕ, ◌+◌}
+use mathlib.Core.Path.{sym, ap, ◌∙◌}
 use mathlib.Core.List.{List}
 use native.Mathlib.Omega.{arith}
 use lib.ListN.{length, take, drop, length-take, length-drop}
@@ -13,7 +13,6 @@ use Rattle.keys.proofs.Laws.{most_fields_lem, named_inside}
 use Rattle.spans.specs.Spans.{word}
 use Rattle.line_in.specs.Lines.{draft, slipped, take_field}
 use Rattle.line_in.proofs.FieldLaws.{word_plain, word_key, key_unknown}
-use borrow.Author.Rules.{rules}
 use Rattle.line_in.proofs.take_word.Goals as goal
 
 pub returns-then-w-p : goal.returns-then-w-p

@@ -1,6 +1,5 @@
 -- Where the field has to be written the answer is the definition's first; else it is that of the comparison, turned round.
 -- Assumes nothing.
-use borrow.Author.Rules.{rules}
 use Rattle.line_out.proofs.Laws.{shown_needed, shown_other}
 use Rattle.line_out.proofs.is_shown.Goals as goal
 

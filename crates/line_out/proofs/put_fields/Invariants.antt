@@ -1,12 +1,7 @@
 -- The loop keeps: the texts of the first i fields are written; each turn writes one more.
 -- Assumes nothing.
 use Prim.Native.Nat.{◌≤◌, ◌-◌}
-use native.Mathlib.Omega.{arith}
-use lib.ListN.{length}
-use borrow.Author.Rules.{rules}
 use Rattle.text.specs.Text.{Wrote, first_texts}
-use Rattle.keys.specs.Keys.{entries_of}
-use Rattle.text.proofs.Laws.{wrote_kept, texts_none, texts_more, texts_all}
 use Rattle.line_out.specs.Lines.{field_text}
 use Rattle.line_out.proofs.put_fields.Given as goal
 

@@ -1,6 +1,5 @@
 -- Four appends, one behind another.
 -- Assumes nothing.
-use borrow.Author.Rules.{rules}
 use Rattle.text.proofs.Laws.{wrote_then}
 use Rattle.line_out.specs.Lines.{line_by}
 use Rattle.line_out.proofs.put_line.Goals as goal

@@ -1,6 +1,5 @@
 -- Four appends, one behind another.
 -- Assumes nothing.
-use borrow.Author.Rules.{rules}
 use Rattle.text.proofs.Laws.{wrote_then}
 use Rattle.line_out.proofs.put_pair.Goals as goal
 

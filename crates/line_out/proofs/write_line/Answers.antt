@@ -1,6 +1,5 @@
 -- The body is the definition's, with its zeros, and the message that of its first byte.
 -- Assumes nothing.
-use borrow.Author.Rules.{rules}
 use Rattle.text.proofs.Laws.{wrote_as}
 use Rattle.line_out.proofs.Laws.{line_told}
 use Rattle.line_out.proofs.write_line.Goals as goal

@@ -4,7 +4,6 @@ use mathlib.Core.Path.{refl, ap}
 use mathlib.Core.Bool.{true}
 use Rattle.letters.specs.Letters.{lettered}
 use Rattle.values.specs.Values.{in_bytes, stored_at}
-use borrow.Author.Rules.{rules}
 use Rattle.values.proofs.put_figure.Goals as goal
 
 pub returns-in-Is : goal.returns-in-Is

@@ -1,7 +1,6 @@
 -- The field was lent by itself, so what it holds afterwards stands in its place.
 -- Assumes nothing.
 use Rattle.values.proofs.FieldLaws.{letters_stored}
-use borrow.Author.Rules.{rules}
 use Rattle.values.proofs.put_letters.Goals as goal
 
 pub returns : goal.returns

@@ -2,7 +2,6 @@
 -- Assumes nothing.
 use Rattle.text.proofs.Laws.{wrote_as}
 use Rattle.values.proofs.FieldLaws.{number_text, price_text_lem, clock_text_lem, letters_text}
-use borrow.Author.Rules.{rules}
 use Rattle.values.proofs.put_value.Goals as goal
 
 pub returns-in-Number : goal.returns-in-Number

@@ -2,7 +2,6 @@
 -- Assumes nothing.
 use native.Mathlib.Omega.{arith}
 use Rattle.values.proofs.FieldLaws.{stored_out, number_stored, price_stored, clock_stored, text_stored}
-use borrow.Author.Rules.{rules}
 use Rattle.values.proofs.value_in.Goals as goal
 
 pub returns-then-body-w : goal.returns-then-body-w
