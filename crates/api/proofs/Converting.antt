@@ -1,12 +1,11 @@
 -- What is answered is handed on, case by case; an offset is one of reading, and small.
 -- Assumes nothing.
 use Prim.Native.Nat.{ℕ, ◌≤◌}
-use mathlib.Core.Path.{◌≡◌, refl, sym, ap, subst, ◌∙◌}
+use mathlib.Core.Path.{◌≡◌, refl, sym, ap, ◌∙◌}
 use mathlib.Core.List.{List}
 use native.Mathlib.Omega.{arith}
 use lib.ListN.{length}
 use Rattle.facts.specs.Limits.{packet_most}
-use Rattle.facts.specs.Pick.{pick}
 use Rattle.facts.proofs.Picks.{pick_ind}
 use Rattle.editions.specs.declared.Edition.{Edition}
 use Rattle.wire.specs.Records.{bad, records}
@@ -22,7 +21,7 @@ use Rattle.conversion.specs.declared.Converted.{Converted}
 use Rattle.conversion.specs.declared.Pieced.{Pieced}
 use Rattle.conversion.specs.Packet.{Conversion, conversion, converted_by, judged_first, converted}
 use Rattle.conversion.specs.Piece.{Turned, turned, pieced_number}
-use Rattle.api.specs.Conversions.{ConvertCall, convert_call, convert_code, updates_given, convert_answer, counts_given, piece_answer}
+use Rattle.api.specs.Conversions.{convert_call, convert_code, updates_given, convert_answer, counts_given, piece_answer}
 
 -- ---- a packet
 Small : Conversion → Type 0

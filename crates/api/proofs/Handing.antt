@@ -13,7 +13,6 @@ use Rattle.kinds.specs.Table.{type_of}
 use Rattle.kinds.specs.declared.Kind.{Kind}
 use Rattle.fields.specs.Fields.{decoded, body_number}
 use Rattle.fields.specs.declared.Fault.{Fault}
-use Rattle.fields.specs.declared.Body.{Body}
 use Rattle.body.specs.Read.{judge_body, judged_number, message, read_body}
 use Rattle.body.specs.declared.Judged.{Judged}
 use Rattle.body.proofs.Laws.{read_sound, judge_number}

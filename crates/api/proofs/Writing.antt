@@ -12,7 +12,7 @@ use Rattle.writer.specs.declared.Wrote.{Wrote}
 use Rattle.numbers.specs.Drafts.{draft_number, draft_body}
 use Rattle.writer.specs.Append.{Writing, writing, numbers_appended, packet_appended}
 use Rattle.writer.proofs.Behind.{append_small, packet_append_small}
-use Rattle.api.specs.Calls.{Call, call, FillCall, fill_call}
+use Rattle.api.specs.Calls.{Call, call, fill_call}
 use Rattle.api.specs.Writing.{wrote_code, length_told, write_answer, Small}
 
 -- ---- by the case of what was written

@@ -111,7 +111,7 @@ fn fail(rt: &impl Eprint, what: &str, e: io::Error) {
 
 // Words come in twos; one that is left alone is none of ours.
 fn take_words(rt: &impl Env, others: &mut [u8]) -> Asked {
-    let count = streams::word_count(rt);
+    let count = streams::word_count(rt, usize::MAX);
     let mut a = nothing_asked();
     let mut i: usize = 1;
     while i < count {

@@ -46,7 +46,11 @@ fn edition_asked(rt: &impl Env) -> Named {
     let mut second = [0u8; 16];
     let n = streams::word(rt, 1, &mut first);
     let m = streams::word(rt, 2, &mut second);
-    words::edition_asked(streams::word_count(rt), &first[..n], &second[..m])
+    words::edition_asked(
+        streams::word_count(rt, usize::MAX),
+        &first[..n],
+        &second[..m],
+    )
 }
 
 fn answer(

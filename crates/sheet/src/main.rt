@@ -137,7 +137,11 @@ fn edition_asked(rt: &impl Env) -> Named {
     let mut second = [0u8; 16];
     let n = streams::word(rt, 1, &mut first);
     let m = streams::word(rt, 2, &mut second);
-    words::edition_asked(streams::word_count(rt), &first[..n], &second[..m])
+    words::edition_asked(
+        streams::word_count(rt, usize::MAX),
+        &first[..n],
+        &second[..m],
+    )
 }
 
 // A sheet, in the edition that the words ask for; or one word alone.
@@ -150,7 +154,7 @@ fn task_asked(rt: &impl Env) -> Task {
 
 // One word is understood; a second makes both unknown. One that is too long for the array comes as an empty one, and is unknown like that.
 fn word_alone(rt: &impl Env) -> Task {
-    if 2 < streams::word_count(rt) {
+    if 2 < streams::word_count(rt, usize::MAX) {
         return Task::Unknown;
     }
     let mut word = [0u8; 16];

@@ -59,14 +59,16 @@ fn read_behind<R: Read>(from: &mut R, buf: &mut [u8], done: usize) -> io::Result
     read_once(from, &mut buf[done..])
 }
 
-// How many words the program was started with, its own name among them.
-pub fn word_count(rt: &impl Env) -> usize {
-    for i in 0..usize::MAX {
+// How many words the program was started with, its own name among them; from `most` on none is counted.
+pub fn word_count(rt: &impl Env, most: usize) -> usize
+    ensures { result ≤ most }
+{
+    for i in 0..most {
         if let Err(FillError::NotPresent) = rt.arg(i, &mut []) {
             return i;
         }
     }
-    usize::MAX
+    most
 }
 
 // Puts word i at the start of buf and returns its length: 0 where there is no such word, and where it is longer than buf.
@@ -174,7 +176,8 @@ mod tests {
     #[test]
     fn takes_words(rt: HostRuntime) {
         let mut buf = [0u8; 5];
-        assert_eq!(rt; word_count(&Three), 3);
+        assert_eq!(rt; word_count(&Three, usize::MAX), 3);
+        assert_eq!(rt; word_count(&Three, 2), 2);
         assert_eq!(rt; word(&Three, 0, &mut buf), 4);
         assert_eq!(rt; word(&Three, 1, &mut buf), 0);
         assert_eq!(rt; word(&Three, 3, &mut buf), 0);

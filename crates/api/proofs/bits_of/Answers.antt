@@ -1,7 +1,6 @@
 -- Below 0 the magnitude is at least 1 and is taken from 2^64; else it is the number's own bits.
 -- Assumes nothing.
 use Rattle.api.proofs.Bits.{some_away, bits_below, bits_same}
-use borrow.Author.Rules.{rules}
 use Rattle.api.proofs.bits_of.Goals as goal
 
 pub overflow_sub-result : goal.overflow_sub-result

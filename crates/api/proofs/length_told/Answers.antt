@@ -3,7 +3,6 @@
 use mathlib.Core.Path.{subst}
 use Rattle.api.specs.Writing.{Small}
 use Rattle.api.proofs.Writing.{told_case, told_bad}
-use borrow.Author.Rules.{rules}
 use Rattle.api.proofs.length_told.Goals as goal
 
 pub with_offset-requires : goal.with_offset-requires

@@ -1,7 +1,6 @@
 -- What the library answered is handed on as length_told says (write_told); an offset is that of the packet (append_packet_small).
 -- Assumes nothing.
 use Rattle.api.proofs.Writing.{write_told, append_packet_small}
-use borrow.Author.Rules.{rules}
 use Rattle.api.proofs.rimeheath_append_packet.Goals as goal
 
 pub length_told-requires : goal.length_told-requires

@@ -4,7 +4,6 @@ use mathlib.Core.Path.{sym, ◌∙◌}
 use native.Mathlib.Omega.{arith}
 use Rattle.body.proofs.Places.{judged_small}
 use Rattle.api.proofs.Handing.{body_refused, body_told}
-use borrow.Author.Rules.{rules}
 use Rattle.api.proofs.rimeheath_body.Goals as goal
 
 pub with_offset-requires : goal.with_offset-requires

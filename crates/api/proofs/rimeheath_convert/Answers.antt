@@ -2,7 +2,6 @@ use mathlib.Core.Path.{sym, ap, ◌∙◌}
 use native.Mathlib.Omega.{arith}
 use Rattle.conversion.specs.Packet.{Conversion}
 use Rattle.api.proofs.Converting.{convert_small, convert_told, convert_bad}
-use borrow.Author.Rules.{rules}
 use Rattle.api.proofs.rimeheath_convert.Goals as goal
 
 pub with_offset-requires : goal.with_offset-requires

@@ -1,5 +1,4 @@
 use Rattle.api.proofs.Converting.{piece_told}
-use borrow.Author.Rules.{rules}
 use Rattle.api.proofs.rimeheath_convert_piece.Goals as goal
 
 pub returns-in-Refused : goal.returns-in-Refused

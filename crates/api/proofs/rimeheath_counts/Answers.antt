@@ -3,7 +3,6 @@
 use Rattle.views.specs.Views.{counts_number}
 use Rattle.api.specs.Calls.{counts_answer}
 use Rattle.api.proofs.Handing.{counts_handed}
-use borrow.Author.Rules.{rules}
 use Rattle.api.proofs.rimeheath_counts.Goals as goal
 
 pub returns-in-Refused : goal.returns-in-Refused

@@ -3,7 +3,6 @@
 use Rattle.api.specs.Streams.{feed_answer}
 use Rattle.recording.specs.Stream.{fed_number}
 use Rattle.api.proofs.Streams.{feed_handed, feed_took}
-use borrow.Author.Rules.{rules}
 use Rattle.api.proofs.rimeheath_feed.Goals as goal
 
 pub returns-in-Refused : goal.returns-in-Refused

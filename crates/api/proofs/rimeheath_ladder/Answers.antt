@@ -3,7 +3,6 @@
 use Rattle.views.specs.Views.{ladder_number}
 use Rattle.api.specs.Calls.{ladder_answer}
 use Rattle.api.proofs.Handing.{ladder_handed}
-use borrow.Author.Rules.{rules}
 use Rattle.api.proofs.rimeheath_ladder.Goals as goal
 
 pub returns-in-Refused : goal.returns-in-Refused

@@ -5,7 +5,6 @@ use native.Mathlib.Omega.{arith}
 use Rattle.packet.proofs.Places.{packet_small}
 use Rattle.api.specs.Calls.{packet_answer}
 use Rattle.api.proofs.Handing.{packet_handed, packet_bad}
-use borrow.Author.Rules.{rules}
 use Rattle.api.proofs.rimeheath_packet.Goals as goal
 
 pub with_offset-requires : goal.with_offset-requires

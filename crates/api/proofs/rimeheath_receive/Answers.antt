@@ -7,7 +7,6 @@ use Rattle.receiver.specs.Lent.{Handled}
 use Rattle.receiver.proofs.Places.{bad_read}
 use Rattle.api.specs.Calls.{receive_answer}
 use Rattle.api.proofs.Handing.{receive_handed, receive_bad, receive_accepted}
-use borrow.Author.Rules.{rules}
 use Rattle.api.proofs.rimeheath_receive.Goals as goal
 
 pub with_offset-requires : goal.with_offset-requires

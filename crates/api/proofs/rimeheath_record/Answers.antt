@@ -5,7 +5,6 @@ use native.Mathlib.Omega.{arith}
 use Rattle.packet.proofs.Places.{record_small}
 use Rattle.api.specs.Calls.{record_answer}
 use Rattle.api.proofs.Handing.{record_handed, record_bad}
-use borrow.Author.Rules.{rules}
 use Rattle.api.proofs.rimeheath_record.Goals as goal
 
 pub with_offset-requires : goal.with_offset-requires

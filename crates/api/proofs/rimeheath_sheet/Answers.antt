@@ -3,7 +3,6 @@
 use Rattle.answer_sheet.specs.Sheet.{sheet_number}
 use Rattle.api.specs.Calls.{sheet_answer}
 use Rattle.api.proofs.Handing.{sheet_handed}
-use borrow.Author.Rules.{rules}
 use Rattle.api.proofs.rimeheath_sheet.Goals as goal
 
 pub returns-in-Refused : goal.returns-in-Refused

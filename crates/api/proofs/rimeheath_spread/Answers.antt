@@ -3,7 +3,6 @@
 use Rattle.views.specs.Views.{spread_number}
 use Rattle.api.specs.Calls.{spread_answer}
 use Rattle.api.proofs.Handing.{spread_handed, spread_is}
-use borrow.Author.Rules.{rules}
 use Rattle.api.proofs.rimeheath_spread.Goals as goal
 
 pub returns-in-Refused : goal.returns-in-Refused

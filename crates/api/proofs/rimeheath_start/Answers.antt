@@ -2,7 +2,6 @@
 -- Assumes nothing.
 use Rattle.api.specs.Calls.{start_answer}
 use Rattle.api.proofs.Handing.{start_handed, start_ready}
-use borrow.Author.Rules.{rules}
 use Rattle.api.proofs.rimeheath_start.Goals as goal
 
 pub returns-in-Refused : goal.returns-in-Refused

@@ -1,6 +1,5 @@
 -- The last number stands for an edition; the others are themselves, cut to their widths.
 -- Assumes nothing.
-use borrow.Author.Rules.{rules}
 use Rattle.api.proofs.state_in.Goals as goal
 
 pub returns : goal.returns

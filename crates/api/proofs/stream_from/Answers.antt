@@ -1,6 +1,5 @@
 -- The first four numbers are a receiver's state; of the last refusal's number the low 8 bits count; the others are themselves.
 -- Assumes nothing.
-use borrow.Author.Rules.{rules}
 use Rattle.api.proofs.stream_from.Goals as goal
 
 pub returns : goal.returns

@@ -1,6 +1,5 @@
 -- The first four numbers are the receiver's state; the others are themselves.
 -- Assumes nothing.
-use borrow.Author.Rules.{rules}
 use Rattle.api.proofs.stream_numbers.Goals as goal
 
 pub returns : goal.returns
