@@ -2,24 +2,23 @@
 // that C and Rust link. A crate is a library or a static library; this one is the archive, and `api` the library.
 #![tactic(auto)]
 
-ghost use Rattle.std.specs.Prelude.{◌≡◌, ◌<◌};
+ghost use Rattle.std.specs.Prelude.{◌≡◌};
 ghost use Rattle.editions.specs.Editions.{edition_of};
-ghost use Rattle.receiver.specs.Lent.{state_numbers, lent, received, started};
+ghost use Rattle.receiver.specs.Lent.{lent, received, started};
 ghost use Rattle.views.specs.Views.{ladder_view, spread_view, counts_view};
 ghost use Rattle.packet.specs.Record.{read_record};
 ghost use Rattle.packet.specs.Packet.{read_packet};
 ghost use Rattle.body.specs.Read.{judge_body, read_body};
 ghost use Rattle.answer_sheet.specs.Sheet.{sheet_view};
 ghost use Rattle.recording.specs.Stream.{opened, fed, cut as is_cut};
-ghost use Rattle.body.specs.Read.{with_offset};
 ghost use Rattle.retype.specs.Retyped.{asked};
 ghost use Rattle.conversion.specs.Packet.{converted};
 ghost use Rattle.conversion.specs.Piece.{turned_to};
 ghost use Rattle.writer.specs.Append.{numbers_appended, packet_appended};
-ghost use Rattle.api.specs.Writing.{wrote_code, length_told, write_answer, Small};
+ghost use Rattle.api.specs.Writing.{write_answer};
 ghost use Rattle.api.specs.Conversions.{convert_call, convert_answer, piece_answer};
-ghost use Rattle.api.specs.Calls.{state_in, account_numbers, side_asked, start_call, start_answer, receive_call, receive_answer, fill_call, ladder_answer, call, bits_of, spread_answer, counts_answer, packet_answer, record_answer, word_of, sheet_answer};
-ghost use Rattle.api.specs.Streams.{stream_numbers, stream_from, open_answer, feed_call, feed_answer};
+ghost use Rattle.api.specs.Calls.{state_in, side_asked, start_call, start_answer, receive_call, receive_answer, fill_call, ladder_answer, call, spread_answer, counts_answer, packet_answer, record_answer, word_of, sheet_answer};
+ghost use Rattle.api.specs.Streams.{stream_from, open_answer, feed_call, feed_answer};
 ghost use Rattle.api.specs.Messages.{body_answer};
 
 // Starts a receiver of an edition: the tables are zeroed, the index is made if one is lent, and state becomes next 1, second 0, stop 0 and the edition's number.

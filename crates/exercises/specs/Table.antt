@@ -1,5 +1,5 @@
 -- Document 01, "Exercises with known results": P1 to P12 as one table, each with its sentence, what a receiver gets, and the results. That the
--- definitions answer just so is `All-right` of proofs/Right.antt. Prices are in millionths. Where the paper names no capacity there is room for 4
+-- definitions answer just so is `all_right` of proofs/Right.antt. Prices are in millionths. Where the paper names no capacity there is room for 4
 -- orders and 1 symbol, which is all that is needed.
 use Rattle.std.specs.Prelude.{List, [], ◌∷◌, ◌++◌, replicate}
 use Rattle.exercises.specs.Messages.{numbered, system_time, symbol_update, add_order, modify_order, bit0_set, bit0_clear, execution, buy, sell, abc, letter_e, of_example, whole_example}

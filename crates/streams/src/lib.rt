@@ -1,7 +1,7 @@
 // What the programs take in: blocks of a reader, and the words that they were started with.
 #![tactic(auto)]
 
-ghost use Rattle.std.specs.Prelude.{◌≡◌, ◌≢◌, ℕ, List, ◌+◌, ◌<◌, ◌≤◌, length, take, drop, IfOk, OnErr};
+ghost use Rattle.std.specs.Prelude.{◌≡◌, ℕ, List, ◌+◌, ◌<◌, ◌≤◌, length, take, drop, IfOk, OnErr};
 ghost use Rattle.std.specs.Io.{ReadsAtMost};
 ghost use Rattle.std.specs.Io.KnownBytes.{Consumes, IsAtEnd, Keeps, ReadConsumes};
 
@@ -73,8 +73,7 @@ pub fn word_count(rt: &impl Env, most: usize) -> usize
 
 // Puts word i at the start of buf and returns its length: 0 where there is no such word, and where it is longer than buf.
 pub fn word(rt: &impl Env, i: usize, buf: &mut [u8]) -> usize
-    ensures fits { result ≤ length buf.new }
-    ensures front { result ≡ length (take result buf.new) }
+    ensures { result ≤ length buf.new }
 {
     match rt.arg(i, buf) {
         Ok(n) => n,
