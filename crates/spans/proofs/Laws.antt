@@ -3,7 +3,7 @@
 use mathlib.Core.Path.{◌≡◌, refl, sym, ap, subst, ◌∙◌}
 use mathlib.Core.Bool.{Bool, true, false, false≢true, ◌||◌}
 use mathlib.Core.List.{List, [], ◌∷◌, ◌++◌}
-use Prim.Native.Nat.{ℕ, zero, suc, ◌+◌, ◌≤◌, ◌<◌}
+use Prim.Native.Nat.{ℕ, suc, ◌+◌, ◌≤◌, ◌<◌}
 use native.Mathlib.Nat.{le_of_suc-le-suc, not-suc-le-zero}
 use native.Mathlib.Numerals.{add-one}
 use native.Mathlib.Omega.{arith}
@@ -14,7 +14,7 @@ use borrow.Author.Tests.{leb-true, eq-eqb, ne_eqb}
 use Rattle.facts.specs.Pick.{pick, either, both}
 use Rattle.facts.proofs.Picks.{both_true, pick_ind}
 use Rattle.words.specs.Types.{all_from}
-use Rattle.spans.specs.Spans.{blank, blanks, filled, word, opens, grown, Word, words_at, place_of}
+use Rattle.spans.specs.Spans.{blank, blanks, filled, word, opens, grown, words_at, place_of}
 
 -- ---- a blank
 -- the code's test goes from the left, the definition's from the right

@@ -1,11 +1,7 @@
 -- The test of the bytes from i on gives what the whole test gives; each turn takes one off.
 -- Assumes nothing.
-use mathlib.Core.Path.{◌≡◌, refl, sym, ◌∙◌}
-use Prim.Native.Nat.{◌≤◌, ◌-◌}
+use mathlib.Core.Path.{refl, sym, ◌∙◌}
 use native.Mathlib.Omega.{arith}
-use lib.ListN.{length, drop}
-use borrow.Author.Rules.{rules}
-use Rattle.letters.specs.Letters.{all_hex}
 use Rattle.letters.proofs.HexLaws.{hex_stop, hex_more, hex_end}
 use Rattle.letters.proofs.all_hex.Goals as goal
 

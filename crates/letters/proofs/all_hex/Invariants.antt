@@ -1,12 +1,9 @@
 -- The test of the bytes from i on gives what the whole test gives; each turn takes one off.
 -- Assumes nothing.
-use mathlib.Core.Path.{◌≡◌, refl, sym, ◌∙◌}
+use mathlib.Core.Path.{◌≡◌}
 use Prim.Native.Nat.{◌≤◌, ◌-◌}
-use native.Mathlib.Omega.{arith}
 use lib.ListN.{length, drop}
-use borrow.Author.Rules.{rules}
 use Rattle.letters.specs.Letters.{all_hex}
-use Rattle.letters.proofs.HexLaws.{hex_stop, hex_more, hex_end}
 use Rattle.letters.proofs.all_hex.Given as goal
 
 abbrev pub invariant-loop-i : goal.invariant-loop-i

@@ -1,10 +1,9 @@
 -- The loop keeps: each byte below i is a space; a list of spaces at every place is the list of that many spaces.
 -- Assumes nothing.
-use mathlib.Core.Path.{◌≡◌, refl, ap, ◌∙◌}
-use Prim.Native.Nat.{ℕ, ◌≤◌, ◌<◌, ◌-◌}
+use mathlib.Core.Path.{refl, ap, ◌∙◌}
+use Prim.Native.Nat.{ℕ}
 use native.Mathlib.Omega.{arith}
-use lib.ListN.{length, get_or, replicate, length-set}
-use borrow.Author.Rules.{rules}
+use lib.ListN.{replicate, length-set}
 use Rattle.facts.proofs.Lists.{write_more}
 use Rattle.facts.proofs.PieceLaws.{is_replicate}
 use Rattle.letters.proofs.fill.Goals as goal

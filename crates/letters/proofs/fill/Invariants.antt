@@ -1,12 +1,8 @@
 -- The loop keeps: each byte below i is a space; a list of spaces at every place is the list of that many spaces.
 -- Assumes nothing.
-use mathlib.Core.Path.{◌≡◌, refl, ap, ◌∙◌}
+use mathlib.Core.Path.{◌≡◌}
 use Prim.Native.Nat.{ℕ, ◌≤◌, ◌<◌, ◌-◌}
-use native.Mathlib.Omega.{arith}
-use lib.ListN.{length, get_or, replicate, length-set}
-use borrow.Author.Rules.{rules}
-use Rattle.facts.proofs.Lists.{write_more}
-use Rattle.facts.proofs.PieceLaws.{is_replicate}
+use lib.ListN.{length, get_or}
 use Rattle.letters.proofs.fill.Given as goal
 
 abbrev pub invariant-loop-i : goal.invariant-loop-i

@@ -1,6 +1,5 @@
 -- A digit below ten is a numeral, and any other a letter.
 -- Assumes nothing.
-use borrow.Author.Rules.{rules}
 use Rattle.letters.proofs.HexLaws.{char_low, char_high}
 use Rattle.letters.proofs.hex_char.Goals as goal
 

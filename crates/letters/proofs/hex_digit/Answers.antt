@@ -1,7 +1,6 @@
 -- The ranges are asked upwards, so each answer knows the range in which the byte lies.
 -- Assumes nothing.
 use native.Mathlib.Omega.{arith}
-use borrow.Author.Rules.{rules}
 use Rattle.letters.proofs.HexLaws.{below_digits, a_digit, below_capitals, a_capital, below_letters, a_letter, above_letters}
 use Rattle.letters.proofs.hex_digit.Goals as goal
 

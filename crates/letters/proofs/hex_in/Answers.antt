@@ -5,7 +5,6 @@ use Prim.Native.Nat.{◌-◌}
 use native.Mathlib.Omega.{arith}
 use lib.ListN.{length, drop, length-drop}
 use lib.Seq.{length-take-le}
-use borrow.Author.Rules.{rules}
 use borrow.Author.Tests.{not-true, not-false}
 use Rattle.letters.proofs.ReadLaws.{right_count, digits_only, hex_no, hex_yes}
 use Rattle.letters.proofs.hex_in.Goals as goal

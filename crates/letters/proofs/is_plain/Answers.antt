@@ -1,7 +1,6 @@
 -- The length decides first, then the range of the bytes.
 -- Assumes nothing.
 use lib.ListN.{length}
-use borrow.Author.Rules.{rules}
 use borrow.Author.Tests.{le-leb, lt-leb}
 use Rattle.facts.specs.Pick.{both}
 use Rattle.letters.specs.Letters.{is_plain}

@@ -2,7 +2,6 @@
 -- Assumes nothing.
 use mathlib.Core.Path.{sym, ◌∙◌}
 use lib.ListN.{length}
-use borrow.Author.Rules.{rules}
 use borrow.Author.Tests.{not-true, not-false}
 use Rattle.letters.proofs.ReadLaws.{plain_no, plain_yes}
 use Rattle.letters.proofs.plain_in.Goals as goal

@@ -1,6 +1,5 @@
 -- Two appends, the second where the first ended.
 -- Assumes nothing.
-use borrow.Author.Rules.{rules}
 use Rattle.text.proofs.Laws.{wrote_then, wrote_byte}
 use Rattle.letters.proofs.put_digits.Goals as goal
 

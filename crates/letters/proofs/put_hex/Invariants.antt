@@ -2,11 +2,8 @@
 -- Assumes nothing.
 use Prim.Native.Nat.{◌≤◌, ◌-◌}
 use lib.ListN.{length, take}
-use borrow.Author.Rules.{rules}
 use Rattle.text.specs.Text.{Wrote}
-use Rattle.text.proofs.Laws.{wrote_kept}
 use Rattle.letters.specs.Letters.{hex_of}
-use Rattle.letters.proofs.HexLaws.{digits_none, digits_more, digits_all}
 use Rattle.letters.proofs.put_hex.Given as goal
 
 abbrev pub invariant-loop-i : goal.invariant-loop-i

@@ -2,7 +2,6 @@
 -- Assumes nothing.
 use mathlib.Core.Path.{sym, ◌∙◌}
 use lib.Seq.{length-take-le}
-use borrow.Author.Rules.{rules}
 use Rattle.text.proofs.Laws.{wrote_then, wrote_as}
 use Rattle.letters.proofs.ReadLaws.{as_text, as_digits}
 use Rattle.letters.proofs.put_text.Goals as goal

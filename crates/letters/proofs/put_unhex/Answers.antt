@@ -1,10 +1,8 @@
 -- The loop keeps: each byte below i is what its two digits say.
 -- Assumes nothing.
-use mathlib.Core.Path.{◌≡◌}
-use Prim.Native.Nat.{ℕ, ◌≤◌, ◌<◌, ◌-◌, ◌+◌, ◌*◌}
+use Prim.Native.Nat.{◌+◌, ◌*◌}
 use native.Mathlib.Omega.{arith}
-use lib.ListN.{length, get_or, length-set}
-use borrow.Author.Rules.{rules}
+use lib.ListN.{length-set}
 use Rattle.facts.proofs.Lists.{write_more}
 use Rattle.letters.proofs.HexLaws.{byte_at, is_unhex, hex_at}
 use Rattle.letters.proofs.put_unhex.Goals as goal

@@ -1,12 +1,9 @@
 -- The loop keeps: each byte below i is what its two digits say.
 -- Assumes nothing.
 use mathlib.Core.Path.{◌≡◌}
-use Prim.Native.Nat.{ℕ, ◌≤◌, ◌<◌, ◌-◌, ◌+◌, ◌*◌}
-use native.Mathlib.Omega.{arith}
-use lib.ListN.{length, get_or, length-set}
-use borrow.Author.Rules.{rules}
-use Rattle.facts.proofs.Lists.{write_more}
-use Rattle.letters.proofs.HexLaws.{byte_at, is_unhex, hex_at}
+use Prim.Native.Nat.{ℕ, ◌≤◌, ◌<◌, ◌-◌, ◌*◌}
+use lib.ListN.{length, get_or}
+use Rattle.letters.proofs.HexLaws.{byte_at}
 use Rattle.letters.proofs.put_unhex.Given as goal
 
 abbrev pub invariant-loop-i : goal.invariant-loop-i

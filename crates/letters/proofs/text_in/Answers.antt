@@ -2,7 +2,6 @@
 -- Assumes nothing.
 use mathlib.Core.Path.{◌∙◌}
 use lib.ListN.{length}
-use borrow.Author.Rules.{rules}
 use Rattle.letters.proofs.ReadLaws.{short_plain, long_hex}
 use Rattle.letters.proofs.text_in.Goals as goal
 

@@ -1,11 +1,7 @@
 -- The first x of the whole is that of the bytes from i on, i places further; each turn takes one off.
 -- Assumes nothing.
-use mathlib.Core.Path.{◌≡◌, refl, sym, ◌∙◌}
-use Prim.Native.Nat.{◌+◌, ◌-◌}
+use mathlib.Core.Path.{sym, ◌∙◌}
 use native.Mathlib.Omega.{arith}
-use lib.ListN.{length, drop}
-use borrow.Author.Rules.{rules}
-use Rattle.spans.specs.Spans.{place_of}
 use Rattle.spans.proofs.Laws.{place_more, place_stop, place_end}
 use Rattle.spans.proofs.place_of.Goals as goal
 

@@ -1,12 +1,9 @@
 -- The first x of the whole is that of the bytes from i on, i places further; each turn takes one off.
 -- Assumes nothing.
-use mathlib.Core.Path.{◌≡◌, refl, sym, ◌∙◌}
+use mathlib.Core.Path.{◌≡◌}
 use Prim.Native.Nat.{◌+◌, ◌-◌}
-use native.Mathlib.Omega.{arith}
 use lib.ListN.{length, drop}
-use borrow.Author.Rules.{rules}
 use Rattle.spans.specs.Spans.{place_of}
-use Rattle.spans.proofs.Laws.{place_more, place_stop, place_end}
 use Rattle.spans.proofs.place_of.Given as goal
 
 abbrev pub invariant-loop-i : goal.invariant-loop-i

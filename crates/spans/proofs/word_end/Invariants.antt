@@ -1,12 +1,9 @@
 -- From each place that is reached the bytes that are no blanks lead to the same place; each turn takes one off.
 -- Assumes nothing.
-use mathlib.Core.Path.{◌≡◌, refl, sym, ◌∙◌}
+use mathlib.Core.Path.{◌≡◌}
 use Prim.Native.Nat.{◌+◌, ◌-◌}
-use native.Mathlib.Omega.{arith}
 use lib.ListN.{length, drop}
-use borrow.Author.Rules.{rules}
 use Rattle.spans.specs.Spans.{filled}
-use Rattle.spans.proofs.Laws.{filled_more, filled_stop, filled_end}
 use Rattle.spans.proofs.word_end.Given as goal
 
 abbrev pub invariant-loop-i : goal.invariant-loop-i

@@ -1,12 +1,8 @@
 -- From each place that is reached the blanks lead to the same place; each turn takes one off.
 -- Assumes nothing.
-use mathlib.Core.Path.{◌≡◌, refl, sym, ◌∙◌}
-use Prim.Native.Nat.{◌+◌, ◌-◌}
+use mathlib.Core.Path.{refl, sym, ◌∙◌}
 use native.Mathlib.Omega.{arith}
-use lib.ListN.{length, drop}
 use borrow.Author.Tests.{not-true, not-false}
-use borrow.Author.Rules.{rules}
-use Rattle.spans.specs.Spans.{blanks}
 use Rattle.spans.proofs.Laws.{blanks_more, blanks_stop, blanks_end}
 use Rattle.spans.proofs.word_start.Goals as goal
 
