@@ -22,7 +22,8 @@ use Rattle.views.specs.Ladder.{key_of, ladder, three_of, written}
 use Rattle.views.specs.Views.{good_tables, view_fault, LadderOut, ladder_out, ladder_view}
 use Rattle.views.specs.declared.Level.{Level}
 use Rattle.views.specs.declared.Side.{Side}
-use Rattle.views.specs.declared.LadderAnswer.{LadderAnswer}
+use Rattle.std.specs.Prelude.{Result, Ok}
+use Rattle.fields.specs.declared.Refusal.{Refusal}
 use Rattle.views.proofs.Theorems.{level_stands, run_length}
 use Rattle.views.proofs.ViewLaws.{no_fault}
 use Rattle.text.specs.Text.{line_of, first_texts}
@@ -83,8 +84,8 @@ module _ (side : Side) (id : ℕ) (key : List ℕ) (k : key ≡ side_key side) w
       ∙ sym (text_map (level_line side id) (take 10 ls))
 
 -- ---- the ladder of a symbol whose views are not refused
-module _ (side : Side) (id : ℕ) (orders symbols o : List ℕ) (f : view_fault id orders symbols ≡ 0) (a : LadderAnswer) (u : List ℕ) (e : ladder_out a u ≡ ladder_view side id orders symbols o) where
-  told : ladder_out a u ≡ ladder_out (LadderAnswer.Levels (length (ladder (key_of side id) (rows orders)))) (written (ladder (key_of side id) (rows orders)) o)
+module _ (side : Side) (id : ℕ) (orders symbols o : List ℕ) (f : view_fault id orders symbols ≡ 0) (a : Result ℕ Refusal) (u : List ℕ) (e : ladder_out a u ≡ ladder_view side id orders symbols o) where
+  told : ladder_out a u ≡ ladder_out (Ok (length (ladder (key_of side id) (rows orders)))) (written (ladder (key_of side id) (rows orders)) o)
   unfolding ladder_view pick
   told = e ∙ rw (eq-eqb (view_fault id orders symbols) 0 f)
 

@@ -11,11 +11,10 @@ ghost use Rattle.answer_sheet.specs.Keys.{recording_key, ticker_key, spread_key,
 ghost use Rattle.answer_sheet.specs.Lines.{text_of};
 ghost use Rattle.answer_sheet.specs.Sheet.{recording_word, head_lines, table_lines, marked_of, level_value, levels_shown, level_at, level_count, side_lines, spread_word, type_lines, symbol_lines, book_lines, entry_lines, all_entries, sheet_of, sheet_and, sheet_view, AreSizes};
 
-use body::Security;
 use editions::Edition;
 use fields::{Refusal, Symbol};
 use receiver::State;
-use views::{CountsAnswer, LadderAnswer, Level, Side, Sizes, SpreadAnswer};
+use views::{Level, Side, Sizes};
 
 // A buffer of this many bytes holds any sheet whole (`sheet_whole`).
 pub const SHEET_MOST: usize = 1_500_000;
@@ -31,13 +30,6 @@ const RUN_SIZE: usize = 3 * LEVELS_SHOWN;
 pub enum Recording {
     Whole,
     Cut,
-}
-
-// How many bytes the whole sheet has, written or not.
-#[derive(Clone, Copy)]
-pub enum SheetAnswer {
-    Length(usize),
-    Refused(Refusal),
 }
 
 fn recording_line(buf: &mut [u8], at: usize, word: Recording) -> usize
@@ -113,12 +105,12 @@ fn levels(buf: &mut [u8], at: usize, key: &[u8], run: &[u64], n: usize) -> usize
 }
 
 // How many of a ladder's levels a sheet shows.
-fn levels_shown(a: LadderAnswer) -> usize
+fn levels_shown(a: Result<usize, Refusal>) -> usize
     ensures { result ≡ min levels_shown (level_count a) }
 {
     match a {
-        LadderAnswer::Levels(n) => { if n < LEVELS_SHOWN { n } else { LEVELS_SHOWN } }
-        LadderAnswer::Refused(_) => 0,
+        Ok(n) => { if n < LEVELS_SHOWN { n } else { LEVELS_SHOWN } }
+        Err(_) => 0,
     }
 }
 
@@ -140,17 +132,17 @@ fn side_lines(
     levels(buf, at, key, &run, levels_shown(a))
 }
 
-fn spread_word(buf: &mut [u8], at: usize, a: SpreadAnswer) -> usize
+fn spread_word(buf: &mut [u8], at: usize, a: Result<Option<i64>, Refusal>) -> usize
     ensures { Wrote buf.old at (spread_word a) buf.new result }
 {
     match a {
-        SpreadAnswer::Of(z) => text::signed(buf, at, z),
-        SpreadAnswer::Empty => text::bytes(buf, at, b"none"),
-        SpreadAnswer::Refused(_) => at,
+        Ok(Some(z)) => text::signed(buf, at, z),
+        Ok(None) => text::bytes(buf, at, b"none"),
+        Err(_) => at,
     }
 }
 
-fn spread_line(buf: &mut [u8], at: usize, a: SpreadAnswer) -> usize
+fn spread_line(buf: &mut [u8], at: usize, a: Result<Option<i64>, Refusal>) -> usize
     ensures { Wrote buf.old at (line_of spread_key (spread_word a)) buf.new result }
 {
     let o = text::bytes(buf, at, b"spread=");
@@ -177,20 +169,20 @@ fn ticker_line(buf: &mut [u8], at: usize, t: [u8; 11]) -> usize
 }
 
 // The Security Type, where there is one: on a sheet of 1.3 alone.
-fn type_lines(buf: &mut [u8], at: usize, y: Security) -> usize
+fn type_lines(buf: &mut [u8], at: usize, y: Option<u8>) -> usize
     ensures { Wrote buf.old at (text_of (type_lines y)) buf.new result }
 {
     match y {
-        Security::Type(x) => {
+        Some(x) => {
             let o = text::bytes(buf, at, b"type=");
             let p = text::byte(buf, o, text::shown(x));
             text::byte(buf, p, b'\n')
         }
-        Security::Reserved => at,
+        None => at,
     }
 }
 
-fn symbol_lines(buf: &mut [u8], at: usize, y: Security, s: Symbol) -> usize
+fn symbol_lines(buf: &mut [u8], at: usize, y: Option<u8>, s: Symbol) -> usize
     ensures { Wrote buf.old at (text_of (symbol_lines y s)) buf.new result }
 {
     let ticker = s.ticker;
@@ -201,7 +193,7 @@ fn symbol_lines(buf: &mut [u8], at: usize, y: Security, s: Symbol) -> usize
 }
 
 // What byte 20 of entry i is in an edition.
-fn security_at(e: Edition, symbols: &[u8], i: usize) -> Security
+fn security_at(e: Edition, symbols: &[u8], i: usize) -> Option<u8>
     ensures { result ≡ security_in e (get_or (entries symbols.now) i []) }
 {
     body::security_in(e, symbols::entry_bytes(symbols, i))
@@ -270,15 +262,15 @@ pub fn sheet(
     state: State,
     bad: u64,
     word: Recording,
-) -> SheetAnswer
+) -> Result<usize, Refusal>
     ensures { sheet_and result buf.new ≡ sheet_view word bad state orders.now symbols.now buf.old }
 {
     let c = views::counts(orders, symbols);
-    let CountsAnswer::Are(sizes) = c else {
-        return SheetAnswer::Refused(Refusal { number: 6 });
+    let Ok(sizes) = c else {
+        return Err(Refusal { number: 6 });
     };
     if !receiver::next_ok(state.next) {
-        return SheetAnswer::Refused(Refusal { number: 6 });
+        return Err(Refusal { number: 6 });
     }
-    SheetAnswer::Length(all_lines(buf, orders, symbols, state, bad, word, sizes))
+    Ok(all_lines(buf, orders, symbols, state, bad, word, sizes))
 }

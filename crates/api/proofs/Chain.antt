@@ -9,7 +9,8 @@ use Rattle.book.specs.Plan.{clock}
 use Rattle.receiver.specs.Lent.{real, state_numbers, Lent, lent, orders_of, symbols_of, shelf_of, index_of, state_of, Handled, received}
 use Rattle.receiver.specs.declared.State.{State}
 use Rattle.receiver.specs.declared.Account.{Account}
-use Rattle.receiver.specs.declared.Received.{Received}
+use Rattle.std.specs.Prelude.{Result, Ok, Err}
+use Rattle.packet.specs.declared.Why.{Why}
 use Rattle.receiver.proofs.Accounts.{refused_same}
 use Rattle.api.specs.Calls.{state_in, receive_call, state_received, account_received, received_code, receive_answer}
 
@@ -40,10 +41,10 @@ module _ (k : Lent) (h : Held (state_of k)) (p m : List ℕ) where
   state_left : state_received (received k p).answer (state_of after) numbers ≡ state_numbers (state_of after)
   state_left = go (received k p).answer refl
     where
-      go : (a : Received) → (received k p).answer ≡ a → state_received a (state_of after) numbers ≡ state_numbers (state_of after)
-      go (Received.Accepted t) e = refl
-      go (Received.Refused r) e = ap (λ (x : Lent). state_numbers (state_of x)) (sym (refused_same (real k.edition) k p (λ (t : Account) q. let n : Received.Refused r ≡ Received.Accepted t = sym e ∙ q in let z : ◌≡◌ {A = ℕ} 0 1 = cc in absurd (omega arith))))
-      go (Received.Bad f) e = ap (λ (x : Lent). state_numbers (state_of x)) (sym (refused_same (real k.edition) k p (λ (t : Account) q. let n : Received.Bad f ≡ Received.Accepted t = sym e ∙ q in let z : ◌≡◌ {A = ℕ} 0 1 = cc in absurd (omega arith))))
+      go : (a : Result Account Why) → (received k p).answer ≡ a → state_received a (state_of after) numbers ≡ state_numbers (state_of after)
+      go (Ok t) e = refl
+      go (Err (Why.Alone r)) e = ap (λ (x : Lent). state_numbers (state_of x)) (sym (refused_same (real k.edition) k p (λ (t : Account) q. let n : Err (Why.Alone r) ≡ Ok t = sym e ∙ q in let z : ◌≡◌ {A = ℕ} 0 1 = cc in absurd (omega arith))))
+      go (Err (Why.Placed f)) e = ap (λ (x : Lent). state_numbers (state_of x)) (sym (refused_same (real k.edition) k p (λ (t : Account) q. let n : Err (Why.Placed f) ≡ Ok t = sym e ∙ q in let z : ◌≡◌ {A = ℕ} 0 1 = cc in absurd (omega arith))))
 
   pub next_call : receive_answer (received (lent (orders_of k) (symbols_of k) (shelf_of k) (index_of k) (state_in numbers)) p) numbers m
       ≡ receive_call (received_code (received k p).answer) (state_numbers (state_of after)) (account_received (received k p).answer m) (orders_of after) (symbols_of after) (shelf_of after) (index_of after)

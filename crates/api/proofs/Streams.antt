@@ -9,7 +9,8 @@ use Rattle.fields.specs.Fields.{bad_at}
 use Rattle.receiver.specs.declared.State.{State}
 use Rattle.receiver.specs.Lent.{state_numbers}
 use Rattle.recording.specs.declared.Stream.{Stream}
-use Rattle.recording.specs.declared.Fed.{Fed}
+use Rattle.std.specs.Prelude.{Result, Ok}
+use Rattle.fields.specs.declared.Refusal.{Refusal}
 use Rattle.recording.specs.Stream.{opened, cut, Feeding, feeding, fed, fed_number}
 use Rattle.recording.specs.Whole.{fed_on}
 use Rattle.api.specs.Calls.{state_in, call}
@@ -23,13 +24,13 @@ unfolding open_answer
 open_handed k v e n f = ap (λ (y : List ℕ). call 0 y) f ∙ ap open_answer e
 
 -- ---- a chunk
-module _ (x : Fed) (o s h ix w : List ℕ) (v : Feeding) (e : feeding x o s h ix w ≡ v) (l : List ℕ) where
-  pub feed_handed : (k : Fed) → x ≡ k → feed_answer (feeding k o s h ix w) l ≡ feed_answer v l
+module _ (x : Result Stream Refusal) (o s h ix w : List ℕ) (v : Feeding) (e : feeding x o s h ix w ≡ v) (l : List ℕ) where
+  pub feed_handed : (k : Result Stream Refusal) → x ≡ k → feed_answer (feeding k o s h ix w) l ≡ feed_answer v l
   feed_handed k q = handed (λ y. feed_answer y l) (λ y. feeding y o s h ix w) x k v q e
 
-  pub feed_took : (k : Stream) → x ≡ Fed.Took k → (n : List ℕ) → n ≡ stream_numbers k → feed_call 0 n o s h ix w ≡ feed_answer v l
+  pub feed_took : (k : Stream) → x ≡ Ok k → (n : List ℕ) → n ≡ stream_numbers k → feed_call 0 n o s h ix w ≡ feed_answer v l
   unfolding feed_answer fed_number
-  feed_took k q n f = ap (λ (y : List ℕ). feed_call 0 y o s h ix w) f ∙ feed_handed (Fed.Took k) q
+  feed_took k q n f = ap (λ (y : List ℕ). feed_call 0 y o s h ix w) f ∙ feed_handed (Ok k) q
 
 -- ---- one call after another
 -- a stream that a machine holds: its receiver's state, and the last bad packet's number in 8 bits
@@ -52,13 +53,13 @@ next_open q h = ap (λ (x : State). open_answer (opened x)) (state_back q h)
 -- speaks, where none is refused
 module _ (k : Stream) (held : HeldStream k) (o s h ix w : List ℕ) where
   abbrev left : Feeding
-  left = feeding (Fed.Took k) o s h ix w
+  left = feeding (Ok k) o s h ix w
 
   pub next_feed : (c : List ℕ) → feed_answer (fed (stream_from (stream_numbers k)) o s h ix w c) (stream_numbers k) ≡ feed_answer (fed_on c left) (stream_numbers k)
   unfolding fed_on
   next_feed c = ap (λ (x : Stream). feed_answer (fed x o s h ix w c) (stream_numbers k)) (stream_back k held)
 
-  pub next_took : (c : List ℕ) (k' : Stream) (o' s' h' ix' w' : List ℕ) → fed_on c left ≡ feeding (Fed.Took k') o' s' h' ix' w'
+  pub next_took : (c : List ℕ) (k' : Stream) (o' s' h' ix' w' : List ℕ) → fed_on c left ≡ feeding (Ok k') o' s' h' ix' w'
       → feed_answer (fed (stream_from (stream_numbers k)) o s h ix w c) (stream_numbers k) ≡ feed_call 0 (stream_numbers k') o' s' h' ix' w'
   unfolding feed_answer fed_number
   next_took c k' o' s' h' ix' w' e = next_feed c ∙ ap (λ (x : Feeding). feed_answer x (stream_numbers k)) e

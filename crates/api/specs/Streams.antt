@@ -1,9 +1,9 @@
 -- What the calls for a recording in chunks answer: a stream is fourteen lent numbers, and the meaning is that of `recording`.
-use Rattle.std.specs.Prelude.{ℕ, ◌%◌, List, [], ◌∷◌, ◌++◌, get_or}
+use Rattle.std.specs.Prelude.{ℕ, ◌%◌, List, [], ◌∷◌, ◌++◌, get_or, Result, Ok, Err}
 use Rattle.receiver.specs.Lent.{state_numbers}
 use Rattle.fields.specs.Fields.{bad_at}
 use Rattle.recording.specs.declared.Stream.{Stream}
-use Rattle.recording.specs.declared.Fed.{Fed}
+use Rattle.fields.specs.declared.Refusal.{Refusal}
 use Rattle.recording.specs.Stream.{Feeding, fed_number}
 use Rattle.api.specs.Calls.{state_in, Call, call}
 
@@ -47,9 +47,9 @@ abbrev pub feed_call : ℕ → List ℕ → List ℕ → List ℕ → List ℕ �
 feed_call n l o s h ix w = record { number = n; stream = l; orders = o; symbols = s; shelf = h; index = ix; hold = w }
 
 -- a refusal leaves the lent stream as it is
-abbrev pub stream_fed : Fed → List ℕ → List ℕ
-stream_fed (Fed.Took k) l = stream_numbers k
-stream_fed (Fed.Refused r) l = l
+abbrev pub stream_fed : Result Stream Refusal → List ℕ → List ℕ
+stream_fed (Ok k) l = stream_numbers k
+stream_fed (Err r) l = l
 
 unfoldable pub feed_answer : Feeding → List ℕ → FeedCall
 feed_answer f l = feed_call (fed_number f.answer) (stream_fed f.answer l) f.orders f.symbols f.shelf f.index f.hold

@@ -23,17 +23,14 @@ ghost use Rattle.api.specs.Calls.{state_in, account_numbers, side_asked, start_c
 ghost use Rattle.api.specs.Streams.{stream_numbers, stream_from, open_answer, feed_call, feed_answer};
 ghost use Rattle.api.specs.Messages.{body_answer};
 
-use answer_sheet::{Recording, SheetAnswer};
+use answer_sheet::Recording;
 use arbitration::Counts;
-use body::Judged;
 use book::Clock;
-use conversion::{Converted, Pieced};
 use fields::Fault;
-use packet::{Packet, Record};
-use receiver::{Account, Received, Started, State};
-use recording::{Fed, Stream};
-use views::{CountsAnswer, LadderAnswer, Side, SpreadAnswer};
-use writer::Wrote;
+use receiver::{Account, State};
+use recording::Stream;
+use views::Side;
+use packet::Why;
 
 // A receiver's state as four numbers.
 fn state_numbers(s: State) -> [u64; 4]
@@ -61,8 +58,8 @@ pub fn rimeheath_start(
     ensures { start_call result state.new orders.new symbols.new shelf.new index.new ≡ start_answer (started (edition_of edition) orders.old symbols.old shelf.old index.old) state.old }
 {
     match receiver::start(editions::edition_of(edition), orders, symbols, shelf, index) {
-        Started::Refused(r) => r.number,
-        Started::Ready(s) => {
+        Err(r) => r.number,
+        Ok(s) => {
             *state = state_numbers(s);
             0
         }
@@ -125,9 +122,9 @@ pub fn rimeheath_receive(
     let s = r.state;
     let answer = r.answer;
     match answer {
-        Received::Refused(e) => e.number as u32,
-        Received::Bad(f) => with_offset(f),
-        Received::Accepted(a) => {
+        Err(Why::Alone(e)) => e.number as u32,
+        Err(Why::Placed(f)) => with_offset(f),
+        Ok(a) => {
             *state = state_numbers(s);
             *account = account_numbers(a);
             0
@@ -217,8 +214,8 @@ pub fn rimeheath_feed(
         stream_from(stream),
         chunk,
     ) {
-        Fed::Refused(r) => r.number,
-        Fed::Took(k) => {
+        Err(r) => r.number,
+        Ok(k) => {
             *stream = stream_numbers(k);
             0
         }
@@ -250,8 +247,8 @@ pub fn rimeheath_ladder(
     ensures { fill_call result levels.new run.new ≡ ladder_answer (ladder_view (side_asked sell) symbol orders.now symbols.now run.old) levels.old }
 {
     match views::ladder(orders, symbols, symbol, side_asked(sell), run) {
-        LadderAnswer::Refused(r) => r.number,
-        LadderAnswer::Levels(n) => {
+        Err(r) => r.number,
+        Ok(n) => {
             *levels = [n as u64];
             0
         }
@@ -274,12 +271,12 @@ pub fn rimeheath_spread(orders: &[u64], symbols: &[u8], symbol: u32, answer: &mu
     ensures { call result answer.new ≡ spread_answer (spread_view symbol orders.now symbols.now) answer.old }
 {
     match views::spread(orders, symbols, symbol) {
-        SpreadAnswer::Refused(r) => r.number,
-        SpreadAnswer::Empty => {
+        Err(r) => r.number,
+        Ok(None) => {
             *answer = [0, 0];
             0
         }
-        SpreadAnswer::Of(z) => {
+        Ok(Some(z)) => {
             *answer = [1, bits_of(z)];
             0
         }
@@ -291,8 +288,8 @@ pub fn rimeheath_counts(orders: &[u64], symbols: &[u8], counts: &mut [u64; 2]) -
     ensures { call result counts.new ≡ counts_answer (counts_view orders.now symbols.now) counts.old }
 {
     match views::counts(orders, symbols) {
-        CountsAnswer::Refused(r) => r.number,
-        CountsAnswer::Are(n) => {
+        Err(r) => r.number,
+        Ok(n) => {
             *counts = [n.orders as u64, n.symbols as u64];
             0
         }
@@ -304,9 +301,9 @@ pub fn rimeheath_packet(edition: u64, p: &[u8], records: &mut [u64; 1]) -> u32
     ensures { call result records.new ≡ packet_answer (read_packet (edition_of edition) p.now) records.old }
 {
     match packet::read_packet(editions::edition_of(edition), p) {
-        Packet::Refused(r) => r.number as u32,
-        Packet::Bad(f) => with_offset(f),
-        Packet::Good(n) => {
+        Err(Why::Alone(r)) => r.number as u32,
+        Err(Why::Placed(f)) => with_offset(f),
+        Ok(n) => {
             *records = [n as u64];
             0
         }
@@ -318,8 +315,8 @@ pub fn rimeheath_record(edition: u64, rest: &[u8], head: &mut [u64; 2]) -> u32
     ensures { call result head.new ≡ record_answer (read_record (edition_of edition) rest.now) head.old }
 {
     match packet::read_record(editions::edition_of(edition), rest) {
-        Record::Bad(f) => with_offset(f),
-        Record::Good(h) => {
+        Err(f) => with_offset(f),
+        Ok(h) => {
             *head = [h.number, h.len as u64];
             0
         }
@@ -332,8 +329,8 @@ pub fn rimeheath_body(edition: u64, b: &[u8], fields: &mut [u64; 8], text: &mut 
 {
     let e = editions::edition_of(edition);
     match body::judge_body(e, b) {
-        Judged::Bad(f) => with_offset(f),
-        Judged::Good(k) => {
+        Err(f) => with_offset(f),
+        Ok(k) => {
             *fields = numbers::fields_of(e, k, b);
             *text = numbers::text_of(e, k, b);
             0
@@ -365,8 +362,8 @@ pub fn rimeheath_sheet(
 {
     let s = state_in(state);
     match answer_sheet::sheet(buf, orders, symbols, s, bad, word_of(cut)) {
-        SheetAnswer::Refused(r) => r.number,
-        SheetAnswer::Length(n) => {
+        Err(r) => r.number,
+        Ok(n) => {
             *length = [n as u64];
             0
         }
@@ -387,9 +384,9 @@ pub fn rimeheath_convert(
     let f = editions::edition_of(from);
     let t = editions::edition_of(to);
     match conversion::convert(f, t, kind, others, p) {
-        Converted::Refused(r) => r.number as u32,
-        Converted::Bad(f) => with_offset(f),
-        Converted::Updates(n) => {
+        Err(Why::Alone(r)) => r.number as u32,
+        Err(Why::Placed(f)) => with_offset(f),
+        Ok(n) => {
             *updates = [n as u64];
             0
         }
@@ -410,8 +407,8 @@ pub fn rimeheath_convert_piece(
     let f = editions::edition_of(from);
     let t = editions::edition_of(to);
     match conversion::convert_piece(f, t, kind, others, b) {
-        Pieced::Refused(r) => r.number,
-        Pieced::Done(n, c) => {
+        Err(r) => r.number,
+        Ok((n, c)) => {
             *counts = [n as u64, c.updates as u64, c.unread as u64, c.barred as u64];
             0
         }
@@ -419,14 +416,14 @@ pub fn rimeheath_convert_piece(
 }
 
 // What was written, as C is told it: the new length, or a refusal, with its offset where reading has one.
-fn length_told(w: Wrote, length: &mut [u64; 1]) -> u32
+fn length_told(w: Result<usize, Why>, length: &mut [u64; 1]) -> u32
     requires { Small w }
     ensures { call result length.new ≡ call (wrote_code w) (length_told w length.old) }
 {
     match w {
-        Wrote::Refused(r) => r.number as u32,
-        Wrote::Bad(f) => with_offset(f),
-        Wrote::Length(n) => {
+        Err(Why::Alone(r)) => r.number as u32,
+        Err(Why::Placed(f)) => with_offset(f),
+        Ok(n) => {
             *length = [n as u64];
             0
         }

@@ -13,20 +13,6 @@ use editions::Edition;
 use fields::{Body, Fault};
 use kinds::Kind;
 
-// What byte 20 of a Symbol Update is in an edition: its Security Type, or reserved.
-#[derive(Clone, Copy)]
-pub enum Security {
-    Type(u8),
-    Reserved,
-}
-
-// A good body of a kind, or why and where it is bad.
-#[derive(Clone, Copy)]
-pub enum Judged {
-    Good(Kind),
-    Bad(Fault),
-}
-
 pub fn nanos_ok(n: u32) -> bool
     ensures { result ≡ nanos_ok n }
 {
@@ -170,14 +156,14 @@ pub fn judge(e: Edition, b: &[u8]) -> usize
 }
 
 // The same by cases, and the kind of a good body.
-pub fn judge_body(e: Edition, b: &[u8]) -> Judged
+pub fn judge_body(e: Edition, b: &[u8]) -> Result<Kind, Fault>
     ensures { result ≡ judge_body e b.now }
 {
     let c = judge(e, b);
     if c == 0 {
-        return Judged::Good(kinds::kind_of(wire::u8_at(b, 0)));
+        return Ok(kinds::kind_of(wire::u8_at(b, 0)));
     }
-    Judged::Bad(Fault {
+    Err(Fault {
         number: (c % 256) as u8,
         at: c / 256,
     })
@@ -188,17 +174,17 @@ pub fn read_body(e: Edition, b: &[u8]) -> Body
     ensures { result ≡ read_body e b.now }
 {
     match judge_body(e, b) {
-        Judged::Bad(f) => Body::Bad(f),
-        Judged::Good(k) => fields::decode(k, b),
+        Err(f) => Body::Bad(f),
+        Ok(k) => fields::decode(k, b),
     }
 }
 
 // What the fields of a Symbol Update show of byte 20 in an edition, whether in range or not.
-pub fn security_in(e: Edition, b: &[u8]) -> Security
+pub fn security_in(e: Edition, b: &[u8]) -> Option<u8>
     ensures { result ≡ security_in e b.now }
 {
     match e {
-        Edition::V13 => Security::Type(fields::security_of(b)),
-        Edition::V13b => Security::Reserved,
+        Edition::V13 => Some(fields::security_of(b)),
+        Edition::V13b => None,
     }
 }

@@ -8,8 +8,7 @@ use Prim.Native.Nat.{ℕ}
 use lib.Dec.{eqb}
 use Rattle.facts.specs.Pick.{pick}
 use Rattle.facts.proofs.Picks.{pick_cases}
-use Rattle.facts.specs.declared.Found.{Found}
-use Rattle.facts.specs.declared.Found.TheVariants.{At, Nothing}
+use Rattle.std.specs.Prelude.{Option, Some, None}
 use Rattle.editions.specs.declared.Edition.{Edition}
 use Rattle.fields.specs.declared.Body.{Body}
 use Rattle.fields.specs.declared.AddOrder.{AddOrder}
@@ -19,8 +18,6 @@ use Rattle.fields.specs.declared.OrderExecution.{OrderExecution}
 use Rattle.fields.specs.declared.Fault.{Fault}
 use Rattle.body.specs.Read.{read_body}
 use Rattle.rows.specs.declared.Row.{Row}
-use Rattle.rows.specs.declared.Held.{Held}
-use Rattle.rows.specs.declared.Held.TheVariants.{Live, Nowhere}
 use Rattle.rows.specs.Rows.{symbol_of}
 use Rattle.book.specs.declared.Clock.{Clock}
 use Rattle.book.specs.declared.Works.{Works}
@@ -55,21 +52,21 @@ same_stop : {m n : ℕ} → Stop m ≡ Stop n → m ≡ n
 same_stop e = cc
 
 module _ (P : ℕ → Type 0) (q : ℕ) where
-  known_stop : (entry : Found) (f : ℕ → Plan) → P 20 → ((e : ℕ) → f e ≡ Stop q → P q) → of_known entry f ≡ Stop q → P q
+  known_stop : (entry : Option ℕ) (f : ℕ → Plan) → P 20 → ((e : ℕ) → f e ≡ Stop q → P q) → of_known entry f ≡ Stop q → P q
   unfolding of_known
-  known_stop (At e) f a g h = g e h
-  known_stop Nothing f a g h = subst P (same_stop h) a
+  known_stop (Some e) f a g h = g e h
+  known_stop None f a g h = subst P (same_stop h) a
 
-  room_stop : (c : Clock) (new : Row) (order : Held) (free : Found) → P 21 → P 25 → room_for c new order free ≡ Stop q → P q
+  room_stop : (c : Clock) (new : Row) (order : Option (ℕ × Row)) (free : Option ℕ) → P 21 → P 25 → room_for c new order free ≡ Stop q → P q
   unfolding room_for
-  room_stop c new (Live i r) free a b h = subst P (same_stop h) a
-  room_stop c new Nowhere Nothing a b h = subst P (same_stop h) b
-  room_stop c new Nowhere (At j) a b h = never_stops h
+  room_stop c new (Some (i, r)) free a b h = subst P (same_stop h) a
+  room_stop c new None None a b h = subst P (same_stop h) b
+  room_stop c new None (Some j) a b h = never_stops h
 
-  owned_stop : (order : Held) (symbol : ℕ) (f : ℕ → Row → Plan) → P 22 → P 23 → ((i : ℕ) (r : Row) → f i r ≡ Stop q → P q) → upon (target order symbol) f ≡ Stop q → P q
+  owned_stop : (order : Option (ℕ × Row)) (symbol : ℕ) (f : ℕ → Row → Plan) → P 22 → P 23 → ((i : ℕ) (r : Row) → f i r ≡ Stop q → P q) → upon (target order symbol) f ≡ Stop q → P q
   unfolding target upon pick
-  owned_stop Nowhere symbol f a b g h = subst P (same_stop h) a
-  owned_stop (Live i r) symbol f a b g h = go (eqb (symbol_of r) symbol) h
+  owned_stop None symbol f a b g h = subst P (same_stop h) a
+  owned_stop (Some (i, r)) symbol f a b g h = go (eqb (symbol_of r) symbol) h
     where
       go : (t : Bool) → upon (pick t (Order i r) (Rule 23)) f ≡ Stop q → P q
       go true h = g i r h
@@ -78,10 +75,10 @@ module _ (P : ℕ → Type 0) (q : ℕ) where
   execute_stop : (c : Clock) (m : OrderExecution) (i : ℕ) (r : Row) → P 24 → execute_at c m i r ≡ Stop q → P q
   execute_stop c m i r a h = ⊎_elim (λ x. subst P (same_stop x.1) a) (λ x. never_stops x.1) (pick_cases h)
 
-  update_stop : (c : Clock) (place : Found) → P 26 → update_plan c place ≡ Stop q → P q
+  update_stop : (c : Clock) (place : Option ℕ) → P 26 → update_plan c place ≡ Stop q → P q
   unfolding update_plan
-  update_stop c (At i) a h = never_stops h
-  update_stop c Nothing a h = subst P (same_stop h) a
+  update_stop c (Some i) a h = never_stops h
+  update_stop c None a h = subst P (same_stop h) a
 
 -- ---- each message
 module _ (n : ℕ) (b : List ℕ) (c : Clock) (f : Finds) (q : ℕ) where

@@ -15,11 +15,10 @@ use Rattle.editions.specs.declared.Edition.{Edition}
 use Rattle.fields.specs.declared.Body.{Body}
 use Rattle.fields.specs.declared.OrderExecution.{OrderExecution}
 use Rattle.fields.specs.declared.Fault.{Fault}
-use Rattle.body.specs.declared.Judged.{Judged}
+use Rattle.std.specs.Prelude.{Some, Result, Ok, Err}
 use Rattle.body.specs.Read.{judge_body, message, read_body, good_body}
 use Rattle.body.proofs.Laws.{JudgedAs, judge_sound, Judgement, good, bad, judgement}
 use Rattle.rows.specs.declared.Row.{Row}
-use Rattle.rows.specs.declared.Held.TheVariants.{Live}
 use Rattle.rows.specs.Rows.{symbol_of}
 use Rattle.orders.specs.declared.RowWork.{RowWork}
 use Rattle.orders.specs.Work.{reduced}
@@ -35,11 +34,11 @@ use Rattle.book.specs.Ledger.{Ledger, Posting, posting, looks, devised, index_af
 
 -- ---- a message that names an order
 module _ (i : ℕ) (r : Row) (symbol : ℕ) where
-  pub target_other : (symbol_of r ≡ symbol → ⊥) → target (Live i r) symbol ≡ Rule 23
+  pub target_other : (symbol_of r ≡ symbol → ⊥) → target (Some (i, r)) symbol ≡ Rule 23
   unfolding target pick
   target_other n = rw (ne_eqb (symbol_of r) symbol n)
 
-  pub target_own : symbol_of r ≡ symbol → target (Live i r) symbol ≡ Order i r
+  pub target_own : symbol_of r ≡ symbol → target (Some (i, r)) symbol ≡ Order i r
   unfolding target pick
   target_own e = rw (eq-eqb (symbol_of r) symbol e)
 
@@ -83,13 +82,13 @@ posted_by ed p n b l e = ap (λ (x : Plan). posts x b l) (sym e)
 
 -- ---- a message by what judging its body found
 module _ (ed : Edition) (n : ℕ) (b : List ℕ) (l : Ledger) where
-  pub devised_bad : (f : Fault) → judge_body ed b ≡ Judged.Bad f → devised ed n b l ≡ Stop 27
+  pub devised_bad : (f : Fault) → judge_body ed b ≡ Err f → devised ed n b l ≡ Stop 27
   unfolding devised read_body message plan_by
-  devised_bad f e = ap (λ (x : Judged). plan_by (message x b) n b l.plain.clock (looks l)) e
+  devised_bad f e = ap (λ (x : Result Kind Fault). plan_by (message x b) n b l.plain.clock (looks l)) e
 
-  pub devised_kind : (k : Kind) → judge_body ed b ≡ Judged.Good k → devised ed n b l ≡ plan_by (decoded k b) n b l.plain.clock (looks l)
+  pub devised_kind : (k : Kind) → judge_body ed b ≡ Ok k → devised ed n b l ≡ plan_by (decoded k b) n b l.plain.clock (looks l)
   unfolding devised read_body message
-  devised_kind k e = ap (λ (x : Judged). plan_by (message x b) n b l.plain.clock (looks l)) e
+  devised_kind k e = ap (λ (x : Result Kind Fault). plan_by (message x b) n b l.plain.clock (looks l)) e
 
   -- a body that is known to be good is of the kind that its type byte decides, and need not be judged again
   pub devised_good : (k : Kind) → good_body ed b ≡ true → k ≡ kind_of (get_or b 0 0) → devised ed n b l ≡ plan_by (decoded k b) n b l.plain.clock (looks l)
@@ -97,7 +96,7 @@ module _ (ed : Edition) (n : ℕ) (b : List ℕ) (l : Ledger) where
     where
       go : Judgement ed b → devised ed n b l ≡ plan_by (decoded k b) n b l.plain.clock (looks l)
       go (good x e h z) =
-          let own : x ≡ kind_of (get_or b 0 0) = (subst (λ (r : Judged). JudgedAs ed r b) e (judge_sound ed b)).0 in
+          let own : x ≡ kind_of (get_or b 0 0) = (subst (λ (r : Result Kind Fault). JudgedAs ed r b) e (judge_sound ed b)).0 in
           devised_kind x e ∙ kind_plan k x n b l.plain.clock (looks l) (i ∙ sym own)
       go (bad f e h w) = absurd (true≢false (sym g ∙ h))
 

@@ -10,14 +10,13 @@ use native.Mathlib.Omega.{arith}
 use lib.ListN.{length, get_or}
 use lib.Dec.{eqb}
 use Rattle.facts.proofs.Picks.{upheld, pick_ind}
-use Rattle.facts.specs.declared.Found.{Found}
+use Rattle.std.specs.Prelude.{Option, Some}
 use Rattle.editions.specs.declared.Edition.{Edition}
 use Rattle.fields.specs.declared.Body.{Body}
 use Rattle.fields.specs.declared.AddOrder.{AddOrder}
 use Rattle.body.specs.Read.{read_body, good_body}
 use Rattle.body.proofs.Laws.{bad_number}
 use Rattle.rows.specs.declared.Row.{Row}
-use Rattle.rows.specs.declared.Held.TheVariants.{Live}
 use Rattle.rows.specs.Rows.{rows, zero_row, free, live}
 use Rattle.rows.specs.Find.{held_at, find_order, find_free}
 use Rattle.rows.specs.Tidy.{Unique}
@@ -121,7 +120,7 @@ module _ (n : ℕ) (b : List ℕ) (k : Book) (ranked : 1 ≤ n) where
   rs = rows k.orders
 
   -- the order found: live, and in its place
-  found : (id i : ℕ) (r : Row) → order_in id k.orders ≡ Live i r → (i < length rs) × (live (get_or rs i zero_row) ≡ true) × (r ≡ get_or rs i zero_row)
+  found : (id i : ℕ) (r : Row) → order_in id k.orders ≡ Some (i, r) → (i < length rs) × (live (get_or rs i zero_row) ≡ true) × (r ≡ get_or rs i zero_row)
   found id i r e =
       let h = held_live (find_order id rs) rs i r e in
       let w = order_below id k.orders i h.0 in
@@ -184,7 +183,7 @@ module _ (l : Ledger) (a : Agree (looks l) (scans l.plain)) (ed : Edition) (n : 
 pub none_agree : (l : Ledger) → length l.index ≡ 0 → Agree (looks l) (scans l.plain)
 none_agree l z =
     record {
-      order = λ id. ap (λ (f : Found). held_at f (rows l.plain.orders)) (order_walk l.index (rows l.plain.orders) id z);
+      order = λ id. ap (λ (f : Option ℕ). held_at f (rows l.plain.orders)) (order_walk l.index (rows l.plain.orders) id z);
       free_row = free_walk l.index (rows l.plain.orders) z;
       entry = λ id. entry_walk l.index id (entries l.plain.symbols) z;
       room = λ id. refl;
@@ -214,7 +213,7 @@ module _ (l : Ledger) (u : Sure l) where
       go (inl z) = none_agree l z
       go (inr x) =
           record {
-            order = λ id. ap (λ (f : Found). held_at f (rows l.plain.orders)) (order_same l.index (rows l.plain.orders) x u.unique id);
+            order = λ id. ap (λ (f : Option ℕ). held_at f (rows l.plain.orders)) (order_same l.index (rows l.plain.orders) x u.unique id);
             free_row = free_same l.index (rows l.plain.orders) x;
             entry = λ id. entry_same l.index id (entries l.plain.symbols) u.distinct;
             room = λ id. refl;

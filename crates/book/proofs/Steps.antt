@@ -8,8 +8,7 @@ use mathlib.Core.Logic.{◌⊎◌, inl, inr, ⊎_elim}
 use Prim.Native.Nat.{ℕ, ◌≤◌}
 use native.Mathlib.Omega.{arith}
 use lib.ListN.{length}
-use Rattle.facts.specs.declared.Found.{Found}
-use Rattle.facts.specs.declared.Found.TheVariants.{At, Nothing}
+use Rattle.std.specs.Prelude.{Option, Some, None}
 use Rattle.facts.proofs.Picks.{upheld}
 use Rattle.editions.specs.declared.Edition.{Edition}
 use Rattle.fields.specs.Fields.{body_number}
@@ -25,7 +24,6 @@ use Rattle.fields.specs.declared.TradeCancel.{TradeCancel}
 use Rattle.fields.specs.declared.Fault.{Fault}
 use Rattle.body.specs.Read.{read_body, good_body}
 use Rattle.body.proofs.Laws.{bad_number}
-use Rattle.symbols.specs.declared.EntryWork.{EntryWork}
 use Rattle.symbols.specs.Entries.{entries, id_of}
 use Rattle.symbols.specs.Find.{known_symbol}
 use Rattle.symbols.proofs.FindLaws.{unknown_nowhere}
@@ -165,7 +163,7 @@ module _ (n : ℕ) (b : List ℕ) (c : Clock) (f : Finds) where
       known_orders c (f.entry m.symbol) (λ e. upon (target (f.order m.order) m.symbol) (execute_at c m))
       (λ e. named_orders c (f.order m.order) m.symbol (execute_at c m) (execute_orders c m))
 
-  names_unknown : {m : Body} {s : ℕ} → Names m s → f.entry s ≡ Nothing → plan_by m n b c f ≡ Stop 20
+  names_unknown : {m : Body} {s : ℕ} → Names m s → f.entry s ≡ None → plan_by m n b c f ≡ Stop 20
   unfolding plan_by add_plan modify_plan delete_plan execution_plan clear_plan of_known
   names_unknown (clear m) e = rw e
   names_unknown (add m) e = rw e
@@ -180,17 +178,17 @@ module _ (n : ℕ) (b : List ℕ) (c : Clock) (f : Finds) where
   other_idle (trade m) = refl
   other_idle (cancel m) = refl
 
-  update_ruled : (place : Found) → Ruled (update_plan c place)
+  update_ruled : (place : Option ℕ) → Ruled (update_plan c place)
   unfolding update_plan
-  update_ruled (At i) = goes (works c RowWork.Keep (EntryWork.Put i))
-  update_ruled Nothing = stops 26 (omega arith) (omega arith)
+  update_ruled (Some i) = goes (works c RowWork.Keep (Some i))
+  update_ruled None = stops 26 (omega arith) (omega arith)
 
   pub group_ruled : {m : Body} → Group m → Ruled (plan_by m n b c f)
   unfolding plan_by
-  group_ruled (time s) = goes (works (clock s) RowWork.Keep EntryWork.Keep)
+  group_ruled (time s) = goes (works (clock s) RowWork.Keep None)
   group_ruled update = update_ruled (f.room (id_of b))
   group_ruled (names h) = ruled (names_orders h)
-  group_ruled (other h) = subst Ruled (sym (other_idle h)) (goes (works c RowWork.Keep EntryWork.Keep))
+  group_ruled (other h) = subst Ruled (sym (other_idle h)) (goes (works c RowWork.Keep None))
   group_ruled (refused r) = stops 27 (omega arith) (omega arith)
 
   pub group_bad : {m : Body} → Group m → (body_number m ≡ 0 → ⊥) → plan_by m n b c f ≡ Stop 27
@@ -206,8 +204,8 @@ abbrev rows_of : Plan → RowWork
 rows_of (Stop n) = RowWork.Keep
 rows_of (Go w) = w.orders
 
-abbrev entries_of : Plan → EntryWork
-entries_of (Stop n) = EntryWork.Keep
+abbrev entries_of : Plan → Option ℕ
+entries_of (Stop n) = None
 entries_of (Go w) = w.symbols
 
 abbrev clock_of : Clock → Plan → Clock
@@ -219,15 +217,15 @@ unfolding carried committed entered
 carried_all (Stop n) b k = refl
 carried_all (Go w) b k = refl
 
-orders_entries : {c : Clock} {p : Plan} → OnOrders c p → (entries_of p ≡ EntryWork.Keep) × (clock_of c p ≡ c)
+orders_entries : {c : Clock} {p : Plan} → OnOrders c p → (entries_of p ≡ None) × (clock_of c p ≡ c)
 orders_entries (stops_orders n l h) = (refl, refl)
 orders_entries (goes_orders w) = (refl, refl)
 
 module _ (n : ℕ) (b : List ℕ) (c : Clock) (f : Finds) where
-  update_rows : (place : Found) → (rows_of (update_plan c place) ≡ RowWork.Keep) × (clock_of c (update_plan c place) ≡ c)
+  update_rows : (place : Option ℕ) → (rows_of (update_plan c place) ≡ RowWork.Keep) × (clock_of c (update_plan c place) ≡ c)
   unfolding update_plan
-  update_rows (At i) = (refl, refl)
-  update_rows Nothing = (refl, refl)
+  update_rows (Some i) = (refl, refl)
+  update_rows None = (refl, refl)
 
   group_rows : {m : Body} → Group m → ((s : ℕ) × Names m s) ⊎ (rows_of (plan_by m n b c f) ≡ RowWork.Keep)
   unfolding plan_by
@@ -237,7 +235,7 @@ module _ (n : ℕ) (b : List ℕ) (c : Clock) (f : Finds) where
   group_rows (other x) = inr (ap rows_of (other_idle n b c f x))
   group_rows (refused r) = inr refl
 
-  group_entries : {m : Body} → Group m → (m ≡ Body.SymbolUpdate) ⊎ (entries_of (plan_by m n b c f) ≡ EntryWork.Keep)
+  group_entries : {m : Body} → Group m → (m ≡ Body.SymbolUpdate) ⊎ (entries_of (plan_by m n b c f) ≡ None)
   unfolding plan_by
   group_entries (time s) = inr refl
   group_entries update = inl refl

@@ -10,7 +10,7 @@ use native.Mathlib.Omega.{arith}
 use native.Mathlib.Decide.{ℕ_discrete}
 use lib.ListN.{set}
 use borrow.Author.Tests.{eq-eqb, ne_eqb}
-use Rattle.facts.specs.declared.Found.TheVariants.{At, Nothing}
+use Rattle.std.specs.Prelude.{Some, None}
 use Rattle.editions.specs.declared.Edition.{Edition}
 use Rattle.wire.specs.Le.{Bytes}
 use Rattle.wire.proofs.Laws.{field_below}
@@ -28,7 +28,6 @@ use Rattle.rows.specs.Find.{find_order, find_free, held_at, of_symbol}
 use Rattle.rows.specs.Tidy.{Unique}
 use Rattle.rows.proofs.Keys.{side_small}
 use Rattle.rows.proofs.Judged.{ranges_live}
-use Rattle.symbols.specs.declared.EntryWork.{EntryWork}
 use Rattle.symbols.specs.Entries.{entries, entry_of, put_entry, used, id_of}
 use Rattle.symbols.specs.Find.{find_symbol, known_symbol, place_for}
 use Rattle.symbols.specs.Work.{entered}
@@ -68,11 +67,11 @@ same_go e = cc
 
 -- a row put by a message that names an order
 owner : (order symbol : ℕ) (k : Book) (p : Plan) (f : ℕ → Row → Plan) (x : Owned (order_in order k.orders) symbol p f)
-    → (find_order order (rows k.orders) ≡ At x.place) × (x.held ≡ row k.orders x.place)
+    → (find_order order (rows k.orders) ≡ Some x.place) × (x.held ≡ row k.orders x.place)
 owner order symbol k p f x = held_live (find_order order (rows k.orders)) (rows k.orders) x.place x.held x.order_found
 
 named_by : (order symbol : ℕ) (g : Row → Row) (t u : List ℕ) (w : RowWork) (i : ℕ) (r : Row)
-    → find_order order (rows t) ≡ At i → r ≡ row t i → symbol_of r ≡ symbol → RowWork.Put i (g r) ≡ w → u ≡ committed w t → Named order symbol g t u
+    → find_order order (rows t) ≡ Some i → r ≡ row t i → symbol_of r ≡ symbol → RowWork.Put i (g r) ≡ w → u ≡ committed w t → Named order symbol g t u
 unfolding committed
 named_by order symbol g t u w i r f q s p e =
     subst (Named order symbol g t)
@@ -120,7 +119,7 @@ module _ (ed : Edition) (m : AddOrder) (n : ℕ) where
 
   module _ (b : List ℕ) (k : Book) (e : read_body ed b ≡ Body.Add m) where
     -- it applies where its symbol is known, its order ID is not live and a row is free
-    pub add_applies : (x y : ℕ) → find_symbol m.symbol (entries k.symbols) ≡ At x → find_order m.order (rows k.orders) ≡ Nothing → find_free (rows k.orders) ≡ At y → (applied ed n b k).rule ≡ 0
+    pub add_applies : (x y : ℕ) → find_symbol m.symbol (entries k.symbols) ≡ Some x → find_order m.order (rows k.orders) ≡ None → find_free (rows k.orders) ≡ Some y → (applied ed n b k).rule ≡ 0
     unfolding plan_by add_plan of_known room_for held_at carried
     add_applies x y s o f =
         let p : planned ed n b k ≡ on_rows k.clock (RowWork.Put y (row_for m n)) = sym (planned_by ed (Body.Add m) n b k e) ∙ rw (s, o, f) refl in
@@ -221,7 +220,7 @@ module _ (ed : Edition) (m : SymbolClear) (n : ℕ) (b : List ℕ) (k : Book) (e
   clear_done =
       let d = done ed (Body.SymbolClear m) n b k e z in
       let g = goes_known (find_symbol m.symbol (entries k.symbols)) (λ e. on_rows k.clock (RowWork.Clear m.symbol)) d.does d.plan_is in
-      let y : works k.clock (RowWork.Clear m.symbol) EntryWork.Keep ≡ d.does = cc g.2 in
+      let y : works k.clock (RowWork.Clear m.symbol) None ≡ d.does = cc g.2 in
       d.orders_are ∙ ap (λ (o : Works). committed o.orders k.orders) (sym y)
 
   pub clear_none : (j : ℕ) → of_symbol m.symbol (row (applied ed n b k).after.orders j) ≡ false
@@ -238,7 +237,7 @@ update_used ed b e = let w = rw e at (read_sound ed b) in used_body b w.0.type_i
 module _ (ed : Edition) (n : ℕ) (b : List ℕ) (k : Book) (e : read_body ed b ≡ Body.SymbolUpdate) (z : (applied ed n b k).rule ≡ 0) where
   pub record Updated : Type 0 where
     pub place : ℕ
-    pub found : place_for (id_of b) (entries k.symbols) ≡ At place
+    pub found : place_for (id_of b) (entries k.symbols) ≡ Some place
     pub table_is : (applied ed n b k).after.symbols ≡ put_entry k.symbols place b
 
   pub update_done : Updated
@@ -256,7 +255,7 @@ module _ (ed : Edition) (n : ℕ) (b : List ℕ) (k : Book) (e : read_body ed b 
 
 -- ---- what an update at its place keeps of the entries, every message keeps
 module _ (ed : Edition) (n : ℕ) (b : List ℕ) (k : Book) where
-  pub entries_kept : (P : List (List ℕ) → Type 0) → ((i : ℕ) → place_for (id_of b) (entries k.symbols) ≡ At i → used b ≡ true → P (entries k.symbols) → P (set (entries k.symbols) i (entry_of b)))
+  pub entries_kept : (P : List (List ℕ) → Type 0) → ((i : ℕ) → place_for (id_of b) (entries k.symbols) ≡ Some i → used b ≡ true → P (entries k.symbols) → P (set (entries k.symbols) i (entry_of b)))
       → P (entries k.symbols) → P (entries (applied ed n b k).after.symbols)
   entries_kept P f p = go (ℕ_discrete (applied ed n b k).rule 0)
     where

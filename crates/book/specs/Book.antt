@@ -1,8 +1,8 @@
 -- A book: the two lent tables and what it has by value; and what a message makes of it.
-use Rattle.std.specs.Prelude.{ℕ, List}
+use Rattle.std.specs.Prelude.{ℕ, List, Option}
 use Rattle.editions.specs.declared.Edition.{Edition}
 use Rattle.body.specs.Read.{read_body}
-use Rattle.rows.specs.declared.Held.{Held}
+use Rattle.rows.specs.declared.Row.{Row}
 use Rattle.rows.specs.Rows.{rows}
 use Rattle.rows.specs.Find.{find_order, find_free, held_at}
 use Rattle.symbols.specs.Entries.{entries}
@@ -31,7 +31,7 @@ abbrev pub effect : ℕ → Book → Effect
 effect n k = record { rule = n; after = k }
 
 -- "a search for an ID taking the lowest live row"
-abbrev pub order_in : ℕ → List ℕ → Held
+abbrev pub order_in : ℕ → List ℕ → Option (ℕ × Row)
 order_in id t = held_at (find_order id (rows t)) (rows t)
 
 -- document 01's searches, row by row and entry by entry

@@ -1,11 +1,11 @@
 -- A ledger: a book with the index that is lent beside it (document 02, No. 9; docs/INDEX.md), and what a message makes of both. The plan is that of Plan, whoever
 -- searched: where no index is lent, the searches are document 01's, and where one is lent, "the second engine's own statement says which rows its searches find".
-use Rattle.std.specs.Prelude.{ℕ, List, Bool, true, false}
+use Rattle.std.specs.Prelude.{ℕ, List, Bool, true, false, Option}
 use Rattle.facts.specs.Pick.{pick}
 use Rattle.editions.specs.declared.Edition.{Edition}
 use Rattle.kinds.specs.declared.Kind.{Kind}
 use Rattle.body.specs.Read.{read_body}
-use Rattle.rows.specs.declared.Held.{Held}
+use Rattle.rows.specs.declared.Row.{Row}
 use Rattle.rows.specs.Rows.{rows}
 use Rattle.rows.specs.Find.{held_at}
 use Rattle.symbols.specs.Entries.{entries}
@@ -31,7 +31,7 @@ abbrev pub posting : ℕ → Ledger → Posting
 posting n l = record { rule = n; after = l }
 
 -- the order that stands under an ID
-abbrev pub order_for : List ℕ → ℕ → List ℕ → Held
+abbrev pub order_for : List ℕ → ℕ → List ℕ → Option (ℕ × Row)
 order_for ix id t = held_at (order_by ix id (rows t)) (rows t)
 
 -- the searches of both engines; the entry that a Symbol Update takes is searched in the table

@@ -13,14 +13,11 @@ ghost use Rattle.book.specs.Plan.{row_for, on_rows, idle, of_known, target, room
 ghost use Rattle.book.specs.Book.{book};
 ghost use Rattle.book.specs.Ledger.{order_for, looks, ledger, posting, names_order, devised, tried};
 
-use body::Judged;
 use editions::Edition;
-use facts::Found;
 use fields::{AddOrder, DeleteOrder, ModifyOrder, OrderExecution, SymbolClear};
 use kinds::Kind;
 use orders::RowWork;
-use rows::{Held, Row};
-use symbols::EntryWork;
+use rows::Row;
 
 // What a book has by value: the current second.
 #[derive(Clone, Copy)]
@@ -33,7 +30,7 @@ pub struct Clock {
 pub struct Works {
     pub clock: Clock,
     pub orders: RowWork,
-    pub symbols: EntryWork,
+    pub symbols: Option<usize>,
 }
 
 // The rule that a message breaks, or what it does.
@@ -78,7 +75,7 @@ fn on_rows(clock: Clock, w: RowWork) -> Plan
     Plan::Go(Works {
         clock,
         orders: w,
-        symbols: EntryWork::Keep,
+        symbols: None,
     })
 }
 
@@ -90,20 +87,20 @@ fn at_rest(clock: Clock) -> Plan
 }
 
 // 20, before whatever else a message breaks or does.
-fn of_known(entry: Found, p: Plan) -> Plan
+fn of_known(entry: Option<usize>, p: Plan) -> Plan
     ensures { result ≡ of_known entry (λ e. p) }
 {
     match entry {
-        Found::At(_) => p,
-        Found::Nothing => Plan::Stop(20),
+        Some(_) => p,
+        None => Plan::Stop(20),
     }
 }
 
 // 22, 23.
-fn target_of(order: Held, symbol: u32) -> Target
+fn target_of(order: Option<(usize, Row)>, symbol: u32) -> Target
     ensures { result ≡ target order symbol }
 {
-    let Held::Live(i, r) = order else {
+    let Some((i, r)) = order else {
         return Target::Rule(22);
     };
     if rows::symbol_in(r.key) != symbol as u64 {
@@ -113,13 +110,13 @@ fn target_of(order: Held, symbol: u32) -> Target
 }
 
 // 21, 25.
-fn room_for(clock: Clock, new: Row, order: Held, free: Found) -> Plan
+fn room_for(clock: Clock, new: Row, order: Option<(usize, Row)>, free: Option<usize>) -> Plan
     ensures { result ≡ room_for clock new order free }
 {
-    let Held::Nowhere = order else {
+    let None = order else {
         return Plan::Stop(21);
     };
-    let Found::At(j) = free else {
+    let Some(j) = free else {
         return Plan::Stop(25);
     };
     on_rows(clock, RowWork::Put(j, new))
@@ -129,16 +126,16 @@ pub fn add_plan(
     clock: Clock,
     m: AddOrder,
     number: u64,
-    entry: Found,
-    order: Held,
-    free: Found,
+    entry: Option<usize>,
+    order: Option<(usize, Row)>,
+    free: Option<usize>,
 ) -> Plan
     ensures { result ≡ add_plan clock m number entry order free }
 {
     of_known(entry, room_for(clock, row_for(m, number), order, free))
 }
 
-pub fn modify_plan(clock: Clock, m: ModifyOrder, number: u64, entry: Found, order: Held) -> Plan
+pub fn modify_plan(clock: Clock, m: ModifyOrder, number: u64, entry: Option<usize>, order: Option<(usize, Row)>) -> Plan
     ensures { result ≡ modify_plan clock m number entry order }
 {
     match target_of(order, m.symbol) {
@@ -151,7 +148,7 @@ pub fn modify_plan(clock: Clock, m: ModifyOrder, number: u64, entry: Found, orde
     }
 }
 
-pub fn delete_plan(clock: Clock, m: DeleteOrder, entry: Found, order: Held) -> Plan
+pub fn delete_plan(clock: Clock, m: DeleteOrder, entry: Option<usize>, order: Option<(usize, Row)>) -> Plan
     ensures { result ≡ delete_plan clock m entry order }
 {
     match target_of(order, m.symbol) {
@@ -160,7 +157,7 @@ pub fn delete_plan(clock: Clock, m: DeleteOrder, entry: Found, order: Held) -> P
     }
 }
 
-pub fn execution_plan(clock: Clock, m: OrderExecution, entry: Found, order: Held) -> Plan
+pub fn execution_plan(clock: Clock, m: OrderExecution, entry: Option<usize>, order: Option<(usize, Row)>) -> Plan
     ensures { result ≡ execution_plan clock m entry order }
 {
     match target_of(order, m.symbol) {
@@ -175,28 +172,28 @@ pub fn execution_plan(clock: Clock, m: OrderExecution, entry: Found, order: Held
     }
 }
 
-pub fn clear_plan(clock: Clock, m: SymbolClear, entry: Found) -> Plan
+pub fn clear_plan(clock: Clock, m: SymbolClear, entry: Option<usize>) -> Plan
     ensures { result ≡ clear_plan clock m entry }
 {
     of_known(entry, on_rows(clock, RowWork::Clear(m.symbol)))
 }
 
 // 26.
-pub fn update_plan(clock: Clock, place: Found) -> Plan
+pub fn update_plan(clock: Clock, place: Option<usize>) -> Plan
     ensures { result ≡ update_plan clock place }
 {
     match place {
-        Found::At(i) => Plan::Go(Works {
+        Some(i) => Plan::Go(Works {
             clock,
             orders: RowWork::Keep,
-            symbols: EntryWork::Put(i),
+            symbols: Some(i),
         }),
-        Found::Nothing => Plan::Stop(26),
+        None => Plan::Stop(26),
     }
 }
 
 // The order that stands under an ID.
-fn order_in(orders: &[u64], index: &[u64], id: u64) -> Held
+fn order_in(orders: &[u64], index: &[u64], id: u64) -> Option<(usize, Row)>
     ensures { result ≡ order_for index.now id orders.now }
 {
     rows::held_at(orders, engines::find_order(orders, index, id))
@@ -331,7 +328,7 @@ pub fn attempt(
     ensures { posting result.rule (ledger (book orders.new symbols.new result.clock) index.new) ≡ tried wanted (devised e number body.now (ledger (book orders.old symbols.old clock) index.old)) body.now (ledger (book orders.old symbols.old clock) index.old) }
 {
     match body::judge_body(e, body) {
-        Judged::Bad(_) => Applied { rule: 27, clock },
-        Judged::Good(k) => try_kind(k, orders, symbols, index, clock, number, body, wanted),
+        Err(_) => Applied { rule: 27, clock },
+        Ok(k) => try_kind(k, orders, symbols, index, clock, number, body, wanted),
     }
 }

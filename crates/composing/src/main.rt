@@ -4,7 +4,7 @@
 use editions::Edition;
 use fields::{AddOrder, Symbol, SymbolUpdate};
 use std::io;
-use writer::Wrote;
+use packet::Why;
 
 fn main(rt: HostRuntime) -> io::Result<()> {
     let mut packet = [0u8; 256];
@@ -15,11 +15,11 @@ fn main(rt: HostRuntime) -> io::Result<()> {
 }
 
 // The new length; where something is refused, one beyond any memory, so that all that follows is refused with 32 and nothing is printed.
-fn length_of(w: Wrote) -> usize {
+fn length_of(w: Result<usize, Why>) -> usize {
     match w {
-        Wrote::Length(n) => n,
-        Wrote::Refused(_) => 18446744073709551615,
-        Wrote::Bad(_) => 18446744073709551615,
+        Ok(n) => n,
+        Err(Why::Alone(_)) => 18446744073709551615,
+        Err(Why::Placed(_)) => 18446744073709551615,
     }
 }
 

@@ -11,15 +11,7 @@ ghost use Rattle.conversion.specs.Piece.{passing, passed, passed_by, tally_of, p
 
 use editions::Edition;
 use fields::{Fault, Refusal};
-use packet::Packet;
-
-// How many Symbol Updates were rewritten; else a number alone (6, 4, 1), or why and at which of its bytes the packet is bad.
-#[derive(Clone, Copy)]
-pub enum Converted {
-    Updates(usize),
-    Refused(Refusal),
-    Bad(Fault),
-}
+use packet::Why;
 
 // What became of a packet of a recording: rewritten, with so many Symbol Updates; passed on as it is, since it is refused before and after; or barred, since its own edition alone refuses it.
 #[derive(Clone, Copy)]
@@ -37,27 +29,20 @@ pub struct Tally {
     pub barred: usize,
 }
 
-// How many bytes of a piece are whole packets, and what was counted of them; or a number alone (6, 4).
-#[derive(Clone, Copy)]
-pub enum Pieced {
-    Done(usize, Tally),
-    Refused(Refusal),
-}
-
 // A packet of the edition `from` made one of the edition `to`, in place: in 1.3 each Symbol Update gets the type `all`, or that of the first exception in `others` that names it.
-pub fn convert(from: Edition, to: Edition, all: u8, others: &[u8], p: &mut [u8]) -> Converted
+pub fn convert(from: Edition, to: Edition, all: u8, others: &[u8], p: &mut [u8]) -> Result<usize, Why>
     ensures { conversion result p.new ≡ converted from (asked to all others.now) p.old }
 {
     if !retype::whole_exceptions(others.len()) {
-        return Converted::Refused(Refusal { number: 6 });
+        return Err(Why::Alone(Refusal { number: 6 }));
     }
     if !retype::types_ok(to, all, others) {
-        return Converted::Refused(Refusal { number: 4 });
+        return Err(Why::Alone(Refusal { number: 4 }));
     }
     match packet::read_packet(from, p) {
-        Packet::Refused(r) => Converted::Refused(r),
-        Packet::Bad(f) => Converted::Bad(f),
-        Packet::Good(_) => Converted::Updates(rewrite(to, all, others, p)),
+        Err(Why::Alone(r)) => Err(Why::Alone(r)),
+        Err(Why::Placed(f)) => Err(Why::Placed(f)),
+        Ok(_) => Ok(rewrite(to, all, others, p)),
     }
 }
 
@@ -83,9 +68,9 @@ fn pass(from: Edition, to: Edition, all: u8, others: &[u8], p: &mut [u8]) -> Pas
     ensures { passing result p.new ≡ passed from (asked to all others.now) p.old }
 {
     match packet::read_packet(from, p) {
-        Packet::Good(_) => Passed::Rewritten(rewrite(to, all, others, p)),
-        Packet::Refused(_) => Passed::Unread,
-        Packet::Bad(f) => bar(to, f, p),
+        Ok(_) => Passed::Rewritten(rewrite(to, all, others, p)),
+        Err(Why::Alone(_)) => Passed::Unread,
+        Err(Why::Placed(f)) => bar(to, f, p),
     }
 }
 
@@ -95,30 +80,30 @@ fn bar(to: Edition, f: Fault, p: &mut [u8]) -> Passed
     ensures { (a : Asked) → passing result p.new ≡ passed_by a (bad (placed f)) (framing to p.old) p.old }
 {
     match packet::read_packet(to, p) {
-        Packet::Good(_) => {
+        Ok(_) => {
             wire::put_le(p, f.at + 1, 1, 0);
             Passed::Barred
         }
-        Packet::Refused(_) => Passed::Unread,
-        Packet::Bad(_) => Passed::Unread,
+        Err(Why::Alone(_)) => Passed::Unread,
+        Err(Why::Placed(_)) => Passed::Unread,
     }
 }
 
 // The whole packets at the front of a piece, each behind its length, made packets of the edition `to`, in place; what follows them stays as it is.
-pub fn convert_piece(from: Edition, to: Edition, all: u8, others: &[u8], b: &mut [u8]) -> Pieced
+pub fn convert_piece(from: Edition, to: Edition, all: u8, others: &[u8], b: &mut [u8]) -> Result<(usize, Tally), Refusal>
     ensures { turned result b.new ≡ turned_to from (asked to all others.now) b.old }
 {
     if !retype::whole_exceptions(others.len()) {
-        return Pieced::Refused(Refusal { number: 6 });
+        return Err(Refusal { number: 6 });
     }
     if !retype::types_ok(to, all, others) {
-        return Pieced::Refused(Refusal { number: 4 });
+        return Err(Refusal { number: 4 });
     }
     turn(from, to, all, others, b)
 }
 
 // Packet by packet from the front, while a whole one lies there.
-fn turn(from: Edition, to: Edition, all: u8, others: &[u8], b: &mut [u8]) -> Pieced
+fn turn(from: Edition, to: Edition, all: u8, others: &[u8], b: &mut [u8]) -> Result<(usize, Tally), Refusal>
     ensures { turned result b.new ≡ pieced (piece_of from (asked to all others.now) b.old) }
 {
     let mut at: usize = 0;
@@ -130,12 +115,12 @@ fn turn(from: Edition, to: Edition, all: u8, others: &[u8], b: &mut [u8]) -> Pie
     while 2 <= b.len() - at {
         let n = wire::u16_at(b, at) as usize;
         if b.len() - at - 2 < n {
-            return Pieced::Done(at, t);
+            return Ok((at, t));
         }
         t = counted(t, pass(from, to, all, others, &mut b[at + 2..at + 2 + n]));
         at = at + (2 + n);
     }
-    Pieced::Done(at, t)
+    Ok((at, t))
 }
 
 // What a packet adds to what was counted.

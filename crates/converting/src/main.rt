@@ -2,12 +2,12 @@
 // rewritten by `conversion`, and what a type's word means stands in `words`.
 #![tactic(auto)]
 
-use conversion::{Pieced, Tally};
+use conversion::Tally;
 use editions::Edition;
 use std::env::Env;
 use std::io;
 use std::io::{ErrorKind, Read};
-use words::{Named, TypeWord};
+use words::TypeWord;
 
 // What is held at a time: a packet has at most 65,537 bytes with its length, so a full piece has a whole one.
 const PIECE: usize = 131072;
@@ -19,8 +19,8 @@ const OTHERS: usize = 1000 * retype::EXCEPTION_SIZE;
 #[derive(Drop)]
 pub struct Asked {
     pub good: bool,
-    pub to: Named,
-    pub from: Named,
+    pub to: Option<Edition>,
+    pub from: Option<Edition>,
     pub typed: bool,
     pub all: u8,
     pub others: usize,
@@ -127,8 +127,8 @@ fn take_words(rt: &impl Env, others: &mut [u8]) -> Asked {
 fn nothing_asked() -> Asked {
     Asked {
         good: true,
-        to: Named::Unknown,
-        from: Named::Unknown,
+        to: None,
+        from: None,
         typed: false,
         all: 0,
         others: 0,
@@ -164,21 +164,21 @@ fn take(word: &[u8], value: &[u8], others: &mut [u8], a: Asked) -> Asked {
 }
 
 // An edition is named, and was not before.
-fn first_named(before: Named, e: Named) -> bool {
+fn first_named(before: Option<Edition>, e: Option<Edition>) -> bool {
     if is_named(before) {
         return false;
     }
     is_named(e)
 }
 
-fn is_named(e: Named) -> bool {
+fn is_named(e: Option<Edition>) -> bool {
     match e {
-        Named::Known(_) => true,
-        Named::Unknown => false,
+        Some(_) => true,
+        None => false,
     }
 }
 
-fn with_to(a: Asked, e: Named) -> Asked {
+fn with_to(a: Asked, e: Option<Edition>) -> Asked {
     let before = a.to;
     if !first_named(before, e) {
         return wrong(a);
@@ -194,7 +194,7 @@ fn with_to(a: Asked, e: Named) -> Asked {
     }
 }
 
-fn with_from(a: Asked, e: Named) -> Asked {
+fn with_from(a: Asked, e: Option<Edition>) -> Asked {
     let before = a.from;
     if !first_named(before, e) {
         return wrong(a);
@@ -251,8 +251,8 @@ fn task_of(a: Asked) -> Task {
     }
     let to = a.to;
     match to {
-        Named::Known(e) => task_to(a, e),
-        Named::Unknown => Task::Wrong,
+        Some(e) => task_to(a, e),
+        None => Task::Wrong,
     }
 }
 
@@ -283,10 +283,10 @@ fn types_fit(to: Edition, typed: bool, others: usize) -> bool {
 }
 
 // The recording's edition, the other one where it is not named.
-fn from_for(named: Named, to: Edition) -> Edition {
+fn from_for(named: Option<Edition>, to: Edition) -> Edition {
     match named {
-        Named::Known(e) => e,
-        Named::Unknown => other_than(to),
+        Some(e) => e,
+        None => other_than(to),
     }
 }
 
@@ -387,8 +387,8 @@ fn convert(
     let to = o.to;
     let r = conversion::convert_piece(from, to, o.all, others, &mut piece[..have]);
     match r {
-        Pieced::Refused(_) => Outcome::Refused,
-        Pieced::Done(done, t) => hand_on(rt, piece, done, have, counted(c, t)),
+        Err(_) => Outcome::Refused,
+        Ok((done, t)) => hand_on(rt, piece, done, have, counted(c, t)),
     }
 }
 

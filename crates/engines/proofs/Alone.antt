@@ -6,12 +6,10 @@ use Prim.Native.Nat.{ℕ, suc}
 use native.Mathlib.Omega.{arith}
 use lib.ListN.{length}
 use Rattle.facts.specs.Pick.{pick}
-use Rattle.facts.specs.declared.Found.{Found}
-use Rattle.facts.specs.declared.Found.TheVariants.{At, Nothing}
+use Rattle.std.specs.Prelude.{Option, Some, None}
 use Rattle.facts.proofs.Picks.{pick_ind}
 use Rattle.rows.specs.declared.Row.{Row}
 use Rattle.rows.specs.Rows.{free}
-use Rattle.symbols.specs.declared.EntryWork.{EntryWork}
 use Rattle.orders.specs.declared.RowWork.{RowWork}
 use Rattle.index.specs.Index.{slots, hash, vacant, filled_at, placed, taken, freed, entered, each_row, front, zeroed, built, roomy, came}
 use Rattle.engines.specs.Engines.{put_noted, left, noted, hinted_to}
@@ -23,10 +21,10 @@ pub none_is : (ix : List ℕ) → length ix ≡ 0 → ix ≡ []
 none_is [] e = refl
 none_is (x ∷ ix) e = absurd (omega arith)
 
-none_filled : (f : Found) (id i : ℕ) → filled_at f [] id i ≡ []
+none_filled : (f : Option ℕ) (id i : ℕ) → filled_at f [] id i ≡ []
 unfolding filled_at
-none_filled Nothing id i = refl
-none_filled (At p) id i = refl
+none_filled None id i = refl
+none_filled (Some p) id i = refl
 
 none_placed : (id i : ℕ) → placed [] id i ≡ []
 unfolding placed
@@ -83,10 +81,10 @@ none_noted RowWork.Keep rs = refl
 none_noted (RowWork.Put i r) rs = none_put i r rs
 none_noted (RowWork.Clear s) rs = none_each (left s) (none_left s) 0 rs
 
-pub none_hinted : (w : EntryWork) (b : List ℕ) → hinted_to w b [] ≡ []
+pub none_hinted : (w : Option ℕ) (b : List ℕ) → hinted_to w b [] ≡ []
 unfolding hinted_to
-none_hinted EntryWork.Keep b = refl
-none_hinted (EntryWork.Put i) b = refl
+none_hinted None b = refl
+none_hinted (Some i) b = refl
 
 -- as the code meets it
 pub noted_none : (w : RowWork) (rs : List Row) (ix : List ℕ) → length ix ≡ 0 → ix ≡ noted w rs ix

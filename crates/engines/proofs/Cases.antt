@@ -10,7 +10,7 @@ use mathlib.Core.Logic.{◌⊎◌, inl, inr, ⊎_elim}
 use borrow.Author.Tests.{eq-eqb, ne_eqb, eqb-true}
 use Rattle.facts.specs.Pick.{pick, either}
 use Rattle.facts.proofs.Picks.{either_true}
-use Rattle.facts.specs.declared.Found.TheVariants.{At}
+use Rattle.std.specs.Prelude.{Some}
 use Rattle.rows.specs.declared.Row.{Row}
 use Rattle.rows.specs.Rows.{zero_row, free}
 use Rattle.rows.specs.Find.{of_symbol, find_order, find_free}
@@ -50,7 +50,7 @@ module _ (ix : List ℕ) (rs : List Row) where
   free_index n = rw (ne_eqb (length ix) 0 n)
 
 module _ (ix : List ℕ) (id : ℕ) (es : List (List ℕ)) where
-  pub hint_right : is_symbol id (get_or es (hint_of ix id) []) ≡ true → hinted ix id es ≡ At (hint_of ix id)
+  pub hint_right : is_symbol id (get_or es (hint_of ix id) []) ≡ true → hinted ix id es ≡ Some (hint_of ix id)
   unfolding hinted pick
   hint_right e = rw e
 

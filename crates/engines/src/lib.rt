@@ -8,10 +8,8 @@ ghost use Rattle.symbols.specs.Entries.{entries};
 ghost use Rattle.index.specs.Index.{each_row};
 ghost use Rattle.engines.specs.Engines.{good_index, order_by, free_by, hinted, entry_by, put_noted, left, noted, hinted_to};
 
-use facts::Found;
 use orders::RowWork;
 use rows::Row;
-use symbols::EntryWork;
 
 // No index, or one of the stated size.
 pub fn good_index(n: usize) -> bool
@@ -20,7 +18,7 @@ pub fn good_index(n: usize) -> bool
     n == 0 || n == index::INDEX_SIZE
 }
 
-pub fn find_order(t: &[u64], ix: &[u64], id: u64) -> Found
+pub fn find_order(t: &[u64], ix: &[u64], id: u64) -> Option<usize>
     ensures { result ≡ order_by ix.now id (rows t.now) }
 {
     if ix.len() == 0 {
@@ -29,7 +27,7 @@ pub fn find_order(t: &[u64], ix: &[u64], id: u64) -> Found
     index::find(t, ix, id)
 }
 
-pub fn find_free(t: &[u64], ix: &[u64]) -> Found
+pub fn find_free(t: &[u64], ix: &[u64]) -> Option<usize>
     ensures { result ≡ free_by ix.now (rows t.now) }
 {
     if ix.len() == 0 {
@@ -39,17 +37,17 @@ pub fn find_free(t: &[u64], ix: &[u64]) -> Found
 }
 
 // A hint is tested, and the whole table is searched where it names no entry of the symbol.
-fn follow_hint(symbols: &[u8], ix: &[u64], id: u32) -> Found
+fn follow_hint(symbols: &[u8], ix: &[u64], id: u32) -> Option<usize>
     ensures { result ≡ hinted ix.now id (entries symbols.now) }
 {
     let i = index::hint(ix, id);
     if symbols::is_symbol_at(symbols, i, id) {
-        return Found::At(i);
+        return Some(i);
     }
     symbols::find_symbol(symbols, id)
 }
 
-pub fn find_entry(symbols: &[u8], ix: &[u64], id: u32) -> Found
+pub fn find_entry(symbols: &[u8], ix: &[u64], id: u32) -> Option<usize>
     ensures { result ≡ entry_by ix.now id (entries symbols.now) }
 {
     if ix.len() == 0 {
@@ -111,11 +109,11 @@ pub fn note(t: &[u64], ix: &mut [u64], w: RowWork)
 }
 
 // What the work on the symbol table leaves of it.
-pub fn note_entry(ix: &mut [u64], w: EntryWork, body: &[u8])
+pub fn note_entry(ix: &mut [u64], w: Option<usize>, body: &[u8])
     ensures { ix.new ≡ hinted_to w body.now ix.old }
 {
     match w {
-        EntryWork::Keep => {}
-        EntryWork::Put(i) => index::put_hint(ix, wire::u32_at(body, 5), i),
+        None => {}
+        Some(i) => index::put_hint(ix, wire::u32_at(body, 5), i),
     }
 }

@@ -2,10 +2,10 @@
 // It reads no more than 4,096 bytes, and a failed read or write ends it; the program `sheet` reads all and tells of a failure in its own words.
 #![tactic(auto)]
 
-use answer_sheet::{Recording, SheetAnswer};
+use answer_sheet::Recording;
 use editions::Edition;
-use receiver::{Started, State};
-use recording::{Fed, Stream};
+use receiver::State;
+use recording::Stream;
 use std::io;
 
 // Three rows and one entry: what document 01's example needs. So few are searched sooner than looked up, and no index is lent.
@@ -40,8 +40,8 @@ fn play(
     text: &mut [u8],
 ) -> io::Result<()> {
     match receiver::start(Edition::V13b, orders, symbols, shelf, index) {
-        Started::Refused(_) => refused(rt),
-        Started::Ready(s) => {
+        Err(_) => refused(rt),
+        Ok(s) => {
             let n = streams::read_full(&mut rt.reader(), block)?;
             feed(
                 rt,
@@ -78,8 +78,8 @@ fn feed(
         recording::open(s),
         chunk,
     ) {
-        Fed::Refused(_) => refused(rt),
-        Fed::Took(t) => print(rt, orders, symbols, t, text),
+        Err(_) => refused(rt),
+        Ok(t) => print(rt, orders, symbols, t, text),
     }
 }
 
@@ -97,8 +97,8 @@ fn print(
     };
     let state = t.receiver;
     match answer_sheet::sheet(text, orders, symbols, state, t.bad, word) {
-        SheetAnswer::Refused(_) => refused(rt),
-        SheetAnswer::Length(n) => rt.write_all(text::front(text, n)),
+        Err(_) => refused(rt),
+        Ok(n) => rt.write_all(text::front(text, n)),
     }
 }
 

@@ -14,7 +14,7 @@ use lib.Dec.{eqb}
 use borrow.Author.Tests.{le-leb, lt-leb, lt-ltb, le-ltb, eq-eqb, ne_eqb, eqb-true, eqb-false}
 use Rattle.facts.specs.Pick.{pick, both}
 use Rattle.facts.specs.Search.{first}
-use Rattle.facts.specs.declared.Found.TheVariants.{At, Nothing}
+use Rattle.std.specs.Prelude.{Some, None}
 use Rattle.facts.proofs.Picks.{pick_cases}
 use Rattle.rows.specs.declared.Row.{Row}
 use Rattle.rows.specs.Rows.{zero_row, free, live}
@@ -67,11 +67,11 @@ module _ (ix : List ℕ) (rs : List Row) (id : ℕ) where
   unfolding looked
   look_start p e = rw (e, sub-zero slots)
 
-  pub look_stop : (n p : ℕ) → n < 32768 → get_or ix p 0 ≡ 0 → probe (slots - n) ix rs id p ≡ Nothing
+  pub look_stop : (n p : ℕ) → n < 32768 → get_or ix p 0 ≡ 0 → probe (slots - n) ix rs id p ≡ None
   unfolding probe pick
   look_stop n p h e = rw (slot_more n h, eq-eqb (get_or ix p 0) 0 e)
 
-  pub look_hit : (n p : ℕ) → n < 32768 → (get_or ix p 0 ≡ 0 → ⊥) → fits id rs (get_or ix p 0) ≡ true → probe (slots - n) ix rs id p ≡ At (get_or ix p 0 % 65536)
+  pub look_hit : (n p : ℕ) → n < 32768 → (get_or ix p 0 ≡ 0 → ⊥) → fits id rs (get_or ix p 0) ≡ true → probe (slots - n) ix rs id p ≡ Some (get_or ix p 0 % 65536)
   unfolding probe pick
   look_hit n p h e f = rw (slot_more n h, ne_eqb (get_or ix p 0) 0 e, f)
 
@@ -79,7 +79,7 @@ module _ (ix : List ℕ) (rs : List Row) (id : ℕ) where
   unfolding probe pick next
   look_on n p h e f = rw (slot_more n h, ne_eqb (get_or ix p 0) 0 e, f)
 
-  pub look_end : (n p : ℕ) → 32768 ≤ n → probe (slots - n) ix rs id p ≡ Nothing
+  pub look_end : (n p : ℕ) → 32768 ≤ n → probe (slots - n) ix rs id p ≡ None
   unfolding probe
   look_end n p h = rw (slot_none n h)
 
@@ -88,7 +88,7 @@ module _ (ix : List ℕ) where
   pub vacant_start : (id p : ℕ) → p ≡ hash id → vacant slots ix (hash id) ≡ vacant (slots - 0) ix p
   vacant_start id p e = rw (e, sub-zero slots)
 
-  pub vacant_stop : (n p : ℕ) → n < 32768 → get_or ix p 0 ≡ 0 → vacant (slots - n) ix p ≡ At p
+  pub vacant_stop : (n p : ℕ) → n < 32768 → get_or ix p 0 ≡ 0 → vacant (slots - n) ix p ≡ Some p
   unfolding vacant pick
   vacant_stop n p h e = rw (slot_more n h, eq-eqb (get_or ix p 0) 0 e)
 
@@ -96,7 +96,7 @@ module _ (ix : List ℕ) where
   unfolding vacant pick next
   vacant_on n p h e = rw (slot_more n h, ne_eqb (get_or ix p 0) 0 e)
 
-  pub vacant_end : (n p : ℕ) → 32768 ≤ n → vacant (slots - n) ix p ≡ Nothing
+  pub vacant_end : (n p : ℕ) → 32768 ≤ n → vacant (slots - n) ix p ≡ None
   unfolding vacant
   vacant_end n p h = rw (slot_none n h)
 
@@ -106,11 +106,11 @@ module _ (ix : List ℕ) (id i : ℕ) where
   unfolding placed pick
   placed_full h = rw (le-leb 32768 (used_of ix) h)
 
-  pub placed_none : used_of ix < 32768 → vacant slots ix (hash id) ≡ Nothing → placed ix id i ≡ ix
+  pub placed_none : used_of ix < 32768 → vacant slots ix (hash id) ≡ None → placed ix id i ≡ ix
   unfolding placed pick filled_at
   placed_none h e = rw (lt-leb 32768 (used_of ix) h, e)
 
-  pub placed_at : (p : ℕ) → used_of ix < 32768 → vacant slots ix (hash id) ≡ At p → placed ix id i ≡ set (set ix p (packed id i)) 32768 (used_of ix + 1)
+  pub placed_at : (p : ℕ) → used_of ix < 32768 → vacant slots ix (hash id) ≡ Some p → placed ix id i ≡ set (set ix p (packed id i)) 32768 (used_of ix + 1)
   unfolding placed pick filled_at
   placed_at p h e = rw (lt-leb 32768 (used_of ix) h, e)
 
@@ -170,7 +170,7 @@ module _ (ix : List ℕ) where
   pub block_start : block_from blocks ix 0 ≡ block_from (blocks - 0) ix 0
   block_start = rw (sub-zero blocks)
 
-  pub block_hit : (b : ℕ) → b < 250 → (count_of ix b ≡ 0 → ⊥) → block_from (blocks - b) ix b ≡ At b
+  pub block_hit : (b : ℕ) → b < 250 → (count_of ix b ≡ 0 → ⊥) → block_from (blocks - b) ix b ≡ Some b
   unfolding block_from pick
   block_hit b h e = rw (block_more b h, ne_eqb (count_of ix b) 0 e)
 
@@ -187,15 +187,15 @@ module _ (ix : List ℕ) where
       ∙ blocks_on n (b + 1) (omega arith) (λ k l. let q : b + 1 + k ≡ b + suc k = omega arith in rw q (z (suc k) (omega arith)))
       ∙ rw e refl
 
-  pub block_end : (b : ℕ) → 250 ≤ b → block_from (blocks - b) ix b ≡ Nothing
+  pub block_end : (b : ℕ) → 250 ≤ b → block_from (blocks - b) ix b ≡ None
   unfolding block_from
   block_end b h = rw (block_none b h)
 
-  pub free_none : (rs : List Row) → block_from blocks ix 0 ≡ Nothing → lowest_free ix rs ≡ Nothing
+  pub free_none : (rs : List Row) → block_from blocks ix 0 ≡ None → lowest_free ix rs ≡ None
   unfolding lowest_free free_in
   free_none rs e = rw e
 
-  pub free_at : (rs : List Row) (b : ℕ) → block_from blocks ix 0 ≡ At b → lowest_free ix rs ≡ first free (64 * b) (drop (64 * b) rs)
+  pub free_at : (rs : List Row) (b : ℕ) → block_from blocks ix 0 ≡ Some b → lowest_free ix rs ≡ first free (64 * b) (drop (64 * b) rs)
   unfolding lowest_free free_in
   free_at rs b e = rw e
 
@@ -276,10 +276,10 @@ module _ (f : List ℕ → Row → ℕ → List ℕ) (rs : List Row) (i : ℕ) (
 
 -- ---- where a search for a block ends
 -- what is found is not nowhere
-pub never : {B : Type 0} {i : ℕ} → At i ≡ Nothing → B
+pub never : {B : Type 0} {i : ℕ} → Some i ≡ None → B
 never e = let z : ◌≡◌ {A = ℕ} 0 1 = cc in absurd (omega arith)
 
-pub block_at : (n : ℕ) (ix : List ℕ) (b k : ℕ) → block_from n ix b ≡ At k → (b ≤ k) × (k < b + n) × (count_of ix k ≡ 0 → ⊥)
+pub block_at : (n : ℕ) (ix : List ℕ) (b k : ℕ) → block_from n ix b ≡ Some k → (b ≤ k) × (k < b + n) × (count_of ix k ≡ 0 → ⊥)
 unfolding block_from
 block_at zero ix b k e = never (sym e)
 block_at (suc n) ix b k e =
@@ -290,5 +290,5 @@ block_at (suc n) ix b k e =
     (omega arith, omega arith, λ z. eqb-false (count_of ix b) 0 w.0 (ap (count_of ix) kb ∙ z)))
     (pick_cases e)
 
-pub block_below : (ix : List ℕ) (k : ℕ) → block_from blocks ix 0 ≡ At k → k < 250
+pub block_below : (ix : List ℕ) (k : ℕ) → block_from blocks ix 0 ≡ Some k → k < 250
 block_below ix k e = omega (arith, (block_at blocks ix 0 k e).1, blocks_is)

@@ -7,7 +7,6 @@ ghost use Rattle.std.specs.Prelude.{ℕ, ◌+◌, ◌-◌, ◌≤◌, ◌<◌, �
 ghost use Rattle.rows.specs.Rows.{rows};
 ghost use Rattle.index.specs.Index.{slots, blocks, tag_of, hash, packed, fits, looked, vacant, placed, taken, freed, block_from, lowest_free, entered, each_row, front, zeroed, built, roomy, came, hint_at, hint_of};
 
-use facts::Found;
 use rows::Row;
 
 // How many numbers an index has, hints included.
@@ -76,7 +75,7 @@ fn is_row(t: &[u64], s: u64, id: u64) -> bool
     rows::is_order(rows::row_at(t, (s % 65536) as usize), id)
 }
 
-pub fn find(t: &[u64], ix: &[u64], id: u64) -> Found
+pub fn find(t: &[u64], ix: &[u64], id: u64) -> Option<usize>
     ensures { result ≡ looked ix.now (rows t.now) id }
 {
     let mut p = start_of(id);
@@ -84,31 +83,31 @@ pub fn find(t: &[u64], ix: &[u64], id: u64) -> Found
     while n < SLOTS {
         let s = word(ix, p);
         if s == 0 {
-            return Found::Nothing;
+            return None;
         }
         if is_row(t, s, id) {
-            return Found::At((s % 65536) as usize);
+            return Some((s % 65536) as usize);
         }
         p = (p + 1) % 32768;
         n += 1;
     }
-    Found::Nothing
+    None
 }
 
 // The first empty slot for an order ID.
-fn find_vacant(ix: &[u64], id: u64) -> Found
+fn find_vacant(ix: &[u64], id: u64) -> Option<usize>
     ensures { result ≡ vacant slots ix.now (hash id) }
 {
     let mut p = start_of(id);
     let mut n: usize = 0;
     while n < SLOTS {
         if word(ix, p) == 0 {
-            return Found::At(p);
+            return Some(p);
         }
         p = (p + 1) % 32768;
         n += 1;
     }
-    Found::Nothing
+    None
 }
 
 // Row i goes into the first empty slot for its order ID.
@@ -119,7 +118,7 @@ fn place(ix: &mut [u64], id: u64, i: usize)
     if used >= 32768 {
         return;
     }
-    let Found::At(p) = find_vacant(ix, id) else {
+    let Some(p) = find_vacant(ix, id) else {
         return;
     };
     put_word(ix, p, pack(id, i));
@@ -183,24 +182,24 @@ fn skipped(ix: &[u64]) -> usize
 }
 
 // The first block with a free row.
-fn first_block(ix: &[u64]) -> Found
+fn first_block(ix: &[u64]) -> Option<usize>
     ensures { result ≡ block_from blocks ix.now 0 }
 {
     let mut b = skipped(ix);
     while b < BLOCKS {
         if word(ix, COUNTS + b) != 0 {
-            return Found::At(b);
+            return Some(b);
         }
         b += 1;
     }
-    Found::Nothing
+    None
 }
 
-pub fn lowest_free(t: &[u64], ix: &[u64]) -> Found
+pub fn lowest_free(t: &[u64], ix: &[u64]) -> Option<usize>
     ensures { result ≡ lowest_free ix.now (rows t.now) }
 {
-    let Found::At(b) = first_block(ix) else {
-        return Found::Nothing;
+    let Some(b) = first_block(ix) else {
+        return None;
     };
     rows::free_from(t, 64 * b)
 }

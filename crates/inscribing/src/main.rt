@@ -10,8 +10,7 @@ use std::env::Env;
 use std::io;
 use std::io::{ErrorKind, Read};
 use styles::Style;
-use words::Named;
-use writer::Wrote;
+use packet::Why;
 
 // What is held of the text at a time.
 const PIECE: usize = 65536;
@@ -72,8 +71,8 @@ fn lend(
 
 fn answer(rt: &(impl Env + Input + Print), err: &impl Print, piece: &mut [u8], packet: &mut [u8]) {
     match edition_asked(rt) {
-        Named::Known(e) => work(rt, err, e, piece, packet),
-        Named::Unknown => {
+        Some(e) => work(rt, err, e, piece, packet),
+        None => {
             say(
                 err,
                 b"rimeheath: compose takes no word but --edition with 1.3, 1.3.a or 1.3.b; the text comes on standard input\n",
@@ -347,12 +346,12 @@ fn take_record(
     s: State,
 ) -> Step {
     match writer::append(e, packet, s.used, number, text::front(body, n)) {
-        Wrote::Length(used) => Step::On(with_record(s, used)),
-        Wrote::Refused(r) => {
+        Ok(used) => Step::On(with_record(s, used)),
+        Err(Why::Alone(r)) => {
             tell_refused(err, s.lines, r.number);
             Step::Over
         }
-        Wrote::Bad(_) => {
+        Err(Why::Placed(_)) => {
             not_composed(err);
             Step::Over
         }
@@ -376,12 +375,12 @@ fn end_packet(out: &impl Print, err: &impl Print, e: Edition, packet: &[u8], s: 
     }
     let mut whole = [0u8; LENGTH_FIRST];
     match writer::append_packet(e, &mut whole, 0, text::front(packet, used)) {
-        Wrote::Length(n) => hand_on(out, err, text::front(&whole, n), s),
-        Wrote::Refused(_) => {
+        Ok(n) => hand_on(out, err, text::front(&whole, n), s),
+        Err(Why::Alone(_)) => {
             not_composed(err);
             Step::Over
         }
-        Wrote::Bad(_) => {
+        Err(Why::Placed(_)) => {
             not_composed(err);
             Step::Over
         }

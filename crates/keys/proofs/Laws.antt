@@ -12,7 +12,7 @@ use borrow.Author.Tests.{eqb-true, leb-true}
 use Rattle.facts.specs.Pick.{pick, both, either}
 use Rattle.facts.specs.Same.{same_bytes}
 use Rattle.facts.specs.Search.{first}
-use Rattle.facts.specs.declared.Found.{Found}
+use Rattle.std.specs.Prelude.{Option, Some, None}
 use Rattle.facts.proofs.Picks.{both_true}
 use Rattle.facts.proofs.Searches.{first_at}
 use Rattle.editions.specs.declared.Edition.{Edition}
@@ -41,13 +41,13 @@ below_at f (suc n) e i h =
     go (no q) a r = r i (omega arith)
 
 -- a search that ended at i
-abbrev is_at : ℕ → Found → Bool
-is_at i (Found.At j) = eqb i j
-is_at i Found.Nothing = false
+abbrev is_at : ℕ → Option ℕ → Bool
+is_at i (Some j) = eqb i j
+is_at i None = false
 
-at_told : (i : ℕ) (f : Found) → is_at i f ≡ true → f ≡ Found.At i
-at_told i (Found.At j) e = ap Found.At (sym (eqb-true i j e))
-at_told i Found.Nothing e = absurd (false≢true e)
+at_told : (i : ℕ) (f : Option ℕ) → is_at i f ≡ true → f ≡ Some i
+at_told i (Some j) e = ap Some (sym (eqb-true i j e))
+at_told i None e = absurd (false≢true e)
 
 -- ---- fields
 -- the rule of a key: it is found at its own place, has a byte or more and at most twelve, each of them visible and none an equals sign
@@ -93,7 +93,7 @@ forms_rule ed Kind.TradeCancel = refl
 forms_rule ed Kind.Unknown = refl
 
 record KeyRuled (ed : Edition) (k : Kind) (i : ℕ) : Type 0 where
-  back : key_named ed k (key_at ed k i) ≡ Found.At i
+  back : key_named ed k (key_at ed k i) ≡ Some i
   some : 1 ≤ length (key_at ed k i)
   most : length (key_at ed k i) ≤ 12
   visible : all_from 33 126 (key_at ed k i) ≡ true
@@ -138,7 +138,7 @@ past P ed k i p f = go (dec_le (suc i) (length (entries_of ed k)))
     go (no h) = rw (get_or-eq_default (entries_of ed k) no_entry {n = i} (omega arith)) p
 
 -- a key names its own field
-pub key_back : (ed : Edition) (k : Kind) (i : ℕ) → i < length (entries_of ed k) → key_named ed k (key_at ed k i) ≡ Found.At i
+pub key_back : (ed : Edition) (k : Kind) (i : ℕ) → i < length (entries_of ed k) → key_named ed k (key_at ed k i) ≡ Some i
 key_back ed k i h = (key_ruled ed k i h).back
 
 -- a key has bytes, all visible and none an equals sign: a word that begins with it and `=` is read as that key
@@ -149,7 +149,7 @@ pub key_short : (ed : Edition) (k : Kind) (i : ℕ) → length (key_at ed k i) �
 key_short ed k i = past (λ f. length f.key ≤ 12) ed k i (omega arith) (λ h. (key_ruled ed k i h).most)
 
 -- what a key names is a field of the message
-pub named_inside : (ed : Edition) (k : Kind) (s : List ℕ) (i : ℕ) → key_named ed k s ≡ Found.At i → i < length (entries_of ed k)
+pub named_inside : (ed : Edition) (k : Kind) (s : List ℕ) (i : ℕ) → key_named ed k s ≡ Some i → i < length (entries_of ed k)
 unfolding key_named
 named_inside ed k s i e = omega (arith, (first_at (λ f. same_bytes s f.key) 0 (entries_of ed k) i no_entry e).1)
 

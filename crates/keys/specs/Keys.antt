@@ -1,9 +1,8 @@
 -- The names of the messages, the keys of their fields, and what a field that is left out has (docs/TEXT.md, "Messages").
-use Rattle.std.specs.Prelude.{ℕ, Bool, true, false, List, [], ◌∷◌, ◌++◌, get_or, replicate}
+use Rattle.std.specs.Prelude.{ℕ, Bool, true, false, List, [], ◌∷◌, ◌++◌, get_or, replicate, Option}
 use Rattle.facts.specs.Pick.{pick}
 use Rattle.facts.specs.Same.{same_bytes}
 use Rattle.facts.specs.Search.{first}
-use Rattle.facts.specs.declared.Found.{Found}
 use Rattle.editions.specs.declared.Edition.{Edition}
 use Rattle.kinds.specs.declared.Kind.{Kind}
 use Rattle.styles.specs.declared.Style.{Style}
@@ -266,7 +265,7 @@ abbrev pub form_at : Edition → Kind → ℕ → Form
 form_at ed k i = (get_or (entries_of ed k) i no_entry).form
 
 -- which field of the message has a key
-unfoldable pub key_named : Edition → Kind → List ℕ → Found
+unfoldable pub key_named : Edition → Kind → List ℕ → Option ℕ
 key_named ed k s = first (λ f. same_bytes s f.key) 0 (entries_of ed k)
 
 -- ---- what fields that are left out have

@@ -8,7 +8,6 @@ ghost use Rattle.keys.specs.Keys.{name_of, kind_named, entries_of, no_entry, key
 ghost use Rattle.keys.specs.Rows.{entry_of};
 
 use editions::Edition;
-use facts::Found;
 use kinds::Kind;
 use styles::Style;
 
@@ -420,18 +419,18 @@ fn is_key(e: Edition, k: Kind, i: usize, w: &[u8]) -> bool
 }
 
 // Which field of a message has a key.
-pub fn key_named(e: Edition, k: Kind, w: &[u8]) -> Found
+pub fn key_named(e: Edition, k: Kind, w: &[u8]) -> Option<usize>
     ensures { result ≡ key_named e k w.now }
 {
     let n = field_count(e, k);
     let mut i: usize = 0;
     while i < n {
         if is_key(e, k, i, w) {
-            return Found::At(i);
+            return Some(i);
         }
         i += 1;
     }
-    Found::Nothing
+    None
 }
 
 // ---- what fields that are left out have

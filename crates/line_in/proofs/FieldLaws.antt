@@ -11,7 +11,7 @@ use lib.Seq.{drop-cons}
 use lib.Dec.{eqb}
 use borrow.Author.Tests.{eq-eqb, ne_eqb, le-leb, lt-ltb, le-ltb}
 use Rattle.facts.specs.Pick.{pick, both}
-use Rattle.facts.specs.declared.Found.{Found}
+use Rattle.std.specs.Prelude.{Option, Some, None}
 use Rattle.editions.specs.declared.Edition.{Edition}
 use Rattle.kinds.specs.Table.{kind_length}
 use Rattle.kinds.specs.declared.Kind.{Kind}
@@ -54,11 +54,11 @@ module _ (k : Kind) (i at v : ℕ) (d : Draft) where
 
 -- ---- a field
 module _ (ed : Edition) (k : Kind) (i w v : ℕ) (s : List ℕ) (d : Draft) where
-  pub field_twice : (get_or d.given i 0 ≡ 0 → ⊥) → slipped (slip_at w Expected.Once k i) ≡ take_field ed k (Found.At i) w v s d
+  pub field_twice : (get_or d.given i 0 ≡ 0 → ⊥) → slipped (slip_at w Expected.Once k i) ≡ take_field ed k (Some i) w v s d
   unfolding take_field pick
   field_twice h = rw (ne_eqb (get_or d.given i 0) 0 h) refl
 
-  field_once : get_or d.given i 0 ≡ 0 → take_value (value_in (form_at ed k i).style (form_at ed k i).width s) k i (form_at ed k i).at v d ≡ take_field ed k (Found.At i) w v s d
+  field_once : get_or d.given i 0 ≡ 0 → take_value (value_in (form_at ed k i).style (form_at ed k i).width s) k i (form_at ed k i).at v d ≡ take_field ed k (Some i) w v s d
   unfolding take_field pick
   field_once h = rw (eq-eqb (get_or d.given i 0) 0 h) refl
 
@@ -68,11 +68,11 @@ module _ (ed : Edition) (k : Kind) (i w v : ℕ) (s : List ℕ) (d : Draft) wher
       let g = value_in (form_at ed k i).style (form_at ed k i).width s in
       (rw e at h) ∙ stored_there (form_at ed k i).width g d.body (form_at ed k i).at (omega (arith, fields_inside ed k i))
 
-  pub field_well : get_or d.given i 0 ≡ 0 → (f : Form) → f ≡ form_at ed k i → length d.body ≡ 42 → (r : Bool) (b : List ℕ) → lettered r b ≡ stored_in f.width (value_in f.style f.width s) d.body f.at → r ≡ true → well (draft b (set d.given i (v + 1))) ≡ take_field ed k (Found.At i) w v s d
+  pub field_well : get_or d.given i 0 ≡ 0 → (f : Form) → f ≡ form_at ed k i → length d.body ≡ 42 → (r : Bool) (b : List ℕ) → lettered r b ≡ stored_in f.width (value_in f.style f.width s) d.body f.at → r ≡ true → well (draft b (set d.given i (v + 1))) ≡ take_field ed k (Some i) w v s d
   field_well z f e l r b h t =
       rw add-one (value_well k i (form_at ed k i).at v d (value_in (form_at ed k i).style (form_at ed k i).width s) b (rw t at (into f e l r b h)) ∙ field_once z)
 
-  pub field_wrong : get_or d.given i 0 ≡ 0 → (f : Form) → f ≡ form_at ed k i → length d.body ≡ 42 → (r : Bool) (b : List ℕ) → lettered r b ≡ stored_in f.width (value_in f.style f.width s) d.body f.at → r ≡ false → slipped (slip_at v Expected.Value k i) ≡ take_field ed k (Found.At i) w v s d
+  pub field_wrong : get_or d.given i 0 ≡ 0 → (f : Form) → f ≡ form_at ed k i → length d.body ≡ 42 → (r : Bool) (b : List ℕ) → lettered r b ≡ stored_in f.width (value_in f.style f.width s) d.body f.at → r ≡ false → slipped (slip_at v Expected.Value k i) ≡ take_field ed k (Some i) w v s d
   field_wrong z f e l r b h t =
       value_wrong k i (form_at ed k i).at v d (value_in (form_at ed k i).style (form_at ed k i).width s) b (rw t at (into f e l r b h)) ∙ field_once z
 
@@ -86,7 +86,7 @@ module _ (ed : Edition) (k : Kind) (w : Word) (d : Draft) (p : ℕ) (e : p ≡ p
   unfolding take_word pick
   word_key h = rw (← e, lt-ltb p (length w.bytes) h, add-one p) refl
 
-pub key_unknown : (ed : Edition) (k : Kind) (f : Found) (w v : ℕ) (s : List ℕ) (d : Draft) → f ≡ Found.Nothing → slipped (slip_at w Expected.Key k 0) ≡ take_field ed k f w v s d
+pub key_unknown : (ed : Edition) (k : Kind) (f : Option ℕ) (w v : ℕ) (s : List ℕ) (d : Draft) → f ≡ None → slipped (slip_at w Expected.Key k 0) ≡ take_field ed k f w v s d
 unfolding take_field
 key_unknown ed k f w v s d e = rw e refl
 
@@ -114,7 +114,7 @@ module _ (ed : Edition) (k : Kind) where
 
 -- ---- fields
 module _ (g : List ℕ) (fs : List Entry) (i : ℕ) (l : i < length fs) where
-  pub missing_hit : both (get_or fs i no_entry).form.needed (eqb (get_or g i 0) 0) ≡ true → missing i (drop i fs) g ≡ Found.At i
+  pub missing_hit : both (get_or fs i no_entry).form.needed (eqb (get_or g i 0) 0) ≡ true → missing i (drop i fs) g ≡ Some i
   unfolding missing pick
   missing_hit h = rw (drop-cons fs i no_entry l, h) refl
 
@@ -122,21 +122,21 @@ module _ (g : List ℕ) (fs : List Entry) (i : ℕ) (l : i < length fs) where
   unfolding missing pick
   missing_miss h = rw (drop-cons fs i no_entry l, h, add-one i) refl
 
-pub missing_end : (g : List ℕ) (fs : List Entry) (i : ℕ) → length fs ≤ i → missing i (drop i fs) g ≡ Found.Nothing
+pub missing_end : (g : List ℕ) (fs : List Entry) (i : ℕ) → length fs ≤ i → missing i (drop i fs) g ≡ None
 unfolding missing
 missing_end g fs i h = rw (drop_of_length-le fs h) refl
 
 -- ---- out of range
-pub field_inside : (ed : Edition) (k : Kind) (o i : ℕ) → field_at ed k o ≡ Found.At i → i < length (entries_of ed k)
+pub field_inside : (ed : Edition) (k : Kind) (o i : ℕ) → field_at ed k o ≡ Some i → i < length (entries_of ed k)
 unfolding field_at
 field_inside ed k o i e = omega (arith, first_at (λ (f : Entry). eqb f.form.at o) 0 (entries_of ed k) i no_entry e)
 
-module _ (k : Kind) (g : List ℕ) (end : ℕ) (f : Found) where
-  pub range_at : (i c : ℕ) → f ≡ Found.At i → c ≡ column_of g i end → record { column = c; expected = Expected.Range; kind = k; field = i } ≡ out_of_range k f g end
+module _ (k : Kind) (g : List ℕ) (end : ℕ) (f : Option ℕ) where
+  pub range_at : (i c : ℕ) → f ≡ Some i → c ≡ column_of g i end → record { column = c; expected = Expected.Range; kind = k; field = i } ≡ out_of_range k f g end
   unfolding out_of_range
   range_at i c e h = rw (e, h) refl
 
-  pub range_none : f ≡ Found.Nothing → slip_at end Expected.Range k 0 ≡ out_of_range k f g end
+  pub range_none : f ≡ None → slip_at end Expected.Range k 0 ≡ out_of_range k f g end
   unfolding out_of_range
   range_none e = rw e refl
 

@@ -8,7 +8,7 @@ use lib.ListN.{length, take, drop, get_or}
 use borrow.Author.Tests.{eq-eqb, ne_eqb, le-leb, lt-leb}
 use Rattle.facts.specs.Limits.{last_number}
 use Rattle.facts.specs.Pick.{pick}
-use Rattle.facts.specs.declared.Found.{Found}
+use Rattle.std.specs.Prelude.{Some, None}
 use Rattle.editions.specs.declared.Edition.{Edition}
 use Rattle.kinds.specs.Table.{type_of, length_of, kind_length}
 use Rattle.kinds.specs.declared.Kind.{Kind}
@@ -31,11 +31,11 @@ module _ (ed : Edition) (n : ℕ) (k : Kind) (end : ℕ) (t : Taken) (out : List
   unfolding finished
   fields_wrong x e = rw e refl
 
-  pub fields_needed : (d : Draft) (i : ℕ) → t ≡ well d → missing 0 (entries_of ed k) d.given ≡ Found.At i → reading (Line.Wrong (slip_at end Expected.Needed k i)) out ≡ finished ed n k end t out
+  pub fields_needed : (d : Draft) (i : ℕ) → t ≡ well d → missing 0 (entries_of ed k) d.given ≡ Some i → reading (Line.Wrong (slip_at end Expected.Needed k i)) out ≡ finished ed n k end t out
   unfolding finished whole
   fields_needed d i e m = rw (e, m) refl
 
-  pub fields_whole : (d : Draft) → t ≡ well d → missing 0 (entries_of ed k) d.given ≡ Found.Nothing → judged ed n k end d out ≡ finished ed n k end t out
+  pub fields_whole : (d : Draft) → t ≡ well d → missing 0 (entries_of ed k) d.given ≡ None → judged ed n k end d out ≡ finished ed n k end t out
   unfolding finished whole
   fields_whole d e m = rw (e, m) refl
 

@@ -1,10 +1,9 @@
 -- What a line says (docs/TEXT.md, "What a line says"): a record, or where it is wrong and what was expected there.
-use Rattle.std.specs.Prelude.{ℕ, suc, ◌+◌, ◌/◌, List, [], ◌∷◌, length, take, drop, get_or, set, replicate, eqb, leb, ltb}
+use Rattle.std.specs.Prelude.{ℕ, suc, ◌+◌, ◌/◌, List, [], ◌∷◌, length, take, drop, get_or, set, replicate, eqb, leb, ltb, Option, Some, None}
 use Rattle.std.proofs.lemmas.List.Edits.{sets}
 use Rattle.facts.specs.Limits.{last_number}
 use Rattle.facts.specs.Pick.{pick, both}
 use Rattle.facts.specs.Search.{first}
-use Rattle.facts.specs.declared.Found.{Found}
 use Rattle.editions.specs.declared.Edition.{Edition}
 use Rattle.kinds.specs.Table.{type_of, kind_length}
 use Rattle.kinds.specs.declared.Kind.{Kind}
@@ -58,9 +57,9 @@ take_value none k i at v d = slipped (slip_at v Expected.Value k i)
 take_value (some s) k i at v d = well (draft (sets d.body at s) (set d.given i (suc v)))
 
 -- "its key stood before": told at the word's first byte, at place w
-unfoldable pub take_field : Edition → Kind → Found → ℕ → ℕ → List ℕ → Draft → Taken
-take_field ed k Found.Nothing w v s d = slipped (slip_at w Expected.Key k 0)
-take_field ed k (Found.At i) w v s d =
+unfoldable pub take_field : Edition → Kind → Option ℕ → ℕ → ℕ → List ℕ → Draft → Taken
+take_field ed k None w v s d = slipped (slip_at w Expected.Key k 0)
+take_field ed k (Some i) w v s d =
     pick (eqb (get_or d.given i 0) 0)
     (take_value (value_in (form_at ed k i).style (form_at ed k i).width s) k i (form_at ed k i).at v d)
     (slipped (slip_at w Expected.Once k i))
@@ -80,12 +79,12 @@ take_all ed k (w ∷ ws) (slipped x) = slipped x
 take_all ed k (w ∷ ws) (well d) = take_all ed k ws (take_word ed k w d)
 
 -- "a field that has to be written was not: the first in the table"; i is where the fields begin
-unfoldable pub missing : ℕ → List Entry → List ℕ → Found
-missing i [] g = Found.Nothing
-missing i (f ∷ fs) g = pick (both f.form.needed (eqb (get_or g i 0) 0)) (Found.At i) (missing (suc i) fs g)
+unfoldable pub missing : ℕ → List Entry → List ℕ → Option ℕ
+missing i [] g = None
+missing i (f ∷ fs) g = pick (both f.form.needed (eqb (get_or g i 0) 0)) (Some i) (missing (suc i) fs g)
 
 -- the field whose first byte is at a place of the body
-unfoldable pub field_at : Edition → Kind → ℕ → Found
+unfoldable pub field_at : Edition → Kind → ℕ → Option ℕ
 field_at ed k o = first (λ f. eqb f.form.at o) 0 (entries_of ed k)
 
 -- "the first byte of its value"; a field that was left out, none of whose defaults is out of range, would be told behind the line
@@ -93,9 +92,9 @@ unfoldable pub column_of : List ℕ → ℕ → ℕ → ℕ
 column_of g i end = pick (eqb (get_or g i 0) 0) (suc end) (get_or g i 0)
 
 -- "a field is out of range: the first by its place in the body", at o
-unfoldable pub out_of_range : Kind → Found → List ℕ → ℕ → Slip
-out_of_range k (Found.At i) g end = record { column = column_of g i end; expected = Expected.Range; kind = k; field = i }
-out_of_range k Found.Nothing g end = slip_at end Expected.Range k 0
+unfoldable pub out_of_range : Kind → Option ℕ → List ℕ → ℕ → Slip
+out_of_range k (Some i) g end = record { column = column_of g i end; expected = Expected.Range; kind = k; field = i }
+out_of_range k None g end = slip_at end Expected.Range k 0
 
 -- the body, whose fields are all written: a record, where the reader of the edition takes it (c is 0), or out of range; c tells the place too, above 8 bits
 unfoldable pub by_code : ℕ → Edition → ℕ → Kind → ℕ → Draft → List ℕ → Reading
@@ -106,9 +105,9 @@ by_code c ed n k end d out =
 unfoldable pub judged : Edition → ℕ → Kind → ℕ → Draft → List ℕ → Reading
 judged ed n k end d out = by_code (judged_code (judge_body ed (take (kind_length k) d.body))) ed n k end d out
 
-unfoldable pub whole : Edition → ℕ → Kind → ℕ → Draft → List ℕ → Found → Reading
-whole ed n k end d out (Found.At i) = reading (Line.Wrong (slip_at end Expected.Needed k i)) out
-whole ed n k end d out Found.Nothing = judged ed n k end d out
+unfoldable pub whole : Edition → ℕ → Kind → ℕ → Draft → List ℕ → Option ℕ → Reading
+whole ed n k end d out (Some i) = reading (Line.Wrong (slip_at end Expected.Needed k i)) out
+whole ed n k end d out None = judged ed n k end d out
 
 unfoldable pub finished : Edition → ℕ → Kind → ℕ → Taken → List ℕ → Reading
 finished ed n k end (slipped x) out = reading (Line.Wrong x) out

@@ -11,7 +11,6 @@ ghost use Rattle.spans.specs.Spans.{word, words_at, uncommented};
 ghost use Rattle.line_in.specs.Lines.{slip_at, reading, draft, well, took_as, take_field, take_word, take_all, missing, field_at, column_of, out_of_range, judged, finished, blank_draft, of_kind, named, numbered, read_line};
 
 use editions::Edition;
-use facts::Found;
 use figures::Figure;
 use kinds::Kind;
 
@@ -112,8 +111,8 @@ fn take_word(
         return Took::Wrong(slip_at(at, Expected::Key, k, 0));
     }
     match keys::key_named(e, k, &w[..p]) {
-        Found::Nothing => Took::Wrong(slip_at(at, Expected::Key, k, 0)),
-        Found::At(i) => take_field(e, k, i, at, at + (p + 1), &w[p + 1..], body, given),
+        None => Took::Wrong(slip_at(at, Expected::Key, k, 0)),
+        Some(i) => take_field(e, k, i, at, at + (p + 1), &w[p + 1..], body, given),
     }
 }
 
@@ -158,7 +157,7 @@ fn is_missing(needed: bool, column: usize) -> bool
 }
 
 // The first field that has to be written and was not.
-fn first_missing(e: Edition, k: Kind, given: &[usize; 10]) -> Found
+fn first_missing(e: Edition, k: Kind, given: &[usize; 10]) -> Option<usize>
     ensures { result ≡ missing 0 (entries_of e k) given.now }
 {
     let n = keys::field_count(e, k);
@@ -166,15 +165,15 @@ fn first_missing(e: Edition, k: Kind, given: &[usize; 10]) -> Found
     while i < n {
         let f = keys::form_at(e, k, i);
         if is_missing(f.needed, given[i]) {
-            return Found::At(i);
+            return Some(i);
         }
         i += 1;
     }
-    Found::Nothing
+    None
 }
 
 // The field whose first byte is at a place of the body.
-fn field_at(e: Edition, k: Kind, o: usize) -> Found
+fn field_at(e: Edition, k: Kind, o: usize) -> Option<usize>
     ensures { result ≡ field_at e k o }
 {
     let n = keys::field_count(e, k);
@@ -182,11 +181,11 @@ fn field_at(e: Edition, k: Kind, o: usize) -> Found
     while i < n {
         let f = keys::form_at(e, k, i);
         if f.at == o {
-            return Found::At(i);
+            return Some(i);
         }
         i += 1;
     }
-    Found::Nothing
+    None
 }
 
 // Where the value of a field was written.
@@ -206,13 +205,13 @@ fn out_of_range(e: Edition, k: Kind, o: usize, given: &[usize; 10], end: usize) 
     ensures { result ≡ out_of_range k (field_at e k o) given.now end }
 {
     match field_at(e, k, o) {
-        Found::At(i) => Slip {
+        Some(i) => Slip {
             column: column_of(given, i, end),
             expected: Expected::Range,
             kind: k,
             field: i,
         },
-        Found::Nothing => slip_at(end, Expected::Range, k, 0),
+        None => slip_at(end, Expected::Range, k, 0),
     }
 }
 
@@ -249,8 +248,8 @@ fn read_fields(e: Edition, n: u64, k: Kind, s: &[u8], from: usize, out: &mut [u8
     match take_all(e, k, s, from, &mut body, &mut given) {
         Took::Wrong(x) => Line::Wrong(x),
         Took::Well => match first_missing(e, k, &given) {
-            Found::At(i) => Line::Wrong(slip_at(s.len(), Expected::Needed, k, i)),
-            Found::Nothing => judge(e, n, k, len, s.len(), body, &given, out),
+            Some(i) => Line::Wrong(slip_at(s.len(), Expected::Needed, k, i)),
+            None => judge(e, n, k, len, s.len(), body, &given, out),
         },
     }
 }

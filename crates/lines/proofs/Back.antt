@@ -23,7 +23,8 @@ use Rattle.kinds.specs.declared.Kind.{Kind}
 use Rattle.layout.specs.Layout.{shapes, fields_in}
 use Rattle.body.specs.Faults.{tests}
 use Rattle.body.specs.Read.{judge_body, judged_number, judged_code, good_body}
-use Rattle.body.specs.declared.Judged.{Judged}
+use Rattle.std.specs.Prelude.{Result, Ok, Err}
+use Rattle.fields.specs.declared.Fault.{Fault}
 use Rattle.body.proofs.Laws.{AllHold, Framed, JudgedAs, judge_sound}
 use Rattle.packet.specs.Record.{number_ok}
 use Rattle.text.specs.Text.{decimal_of, first_texts}
@@ -69,10 +70,10 @@ good_is ed b h = go (judge_body ed b) refl (judge_sound ed b)
     none : judged_number (judge_body ed b) ≡ 0
     none = eqb-true (judged_number (judge_body ed b)) 0 h
 
-    go : (r : Judged) → judge_body ed b ≡ r → JudgedAs ed r b → Good ed (kind_of (get_or b 0 0)) b
-    go (Judged.Good k) e s = subst (λ (x : Kind). Good ed x b) s.0 (record { framed = s.1; holds = s.2; code = ap judged_code e })
-    go (Judged.Bad f) e (inl s) = let z : f.number ≡ 0 = rw e at none in absurd (omega (arith, s.0))
-    go (Judged.Bad f) e (inr s) = let z : f.number ≡ 0 = rw e at none in absurd (omega (arith, s.0))
+    go : (r : Result Kind Fault) → judge_body ed b ≡ r → JudgedAs ed r b → Good ed (kind_of (get_or b 0 0)) b
+    go (Ok k) e s = subst (λ (x : Kind). Good ed x b) s.0 (record { framed = s.1; holds = s.2; code = ap judged_code e })
+    go (Err f) e (inl s) = let z : f.number ≡ 0 = rw e at none in absurd (omega (arith, s.0))
+    go (Err f) e (inr s) = let z : f.number ≡ 0 = rw e at none in absurd (omega (arith, s.0))
 
 -- a body of a kind has a message's type
 framed_known : (k : Kind) (b : List ℕ) → Framed k b → type_of k ≡ 0 → ⊥

@@ -15,7 +15,7 @@ use Rattle.facts.specs.Limits.{last_number}
 use Rattle.facts.specs.Pick.{pick, both}
 use Rattle.facts.specs.Same.{same_bytes}
 use Rattle.facts.specs.Sums.{sum_by, count_by}
-use Rattle.facts.specs.declared.Found.{Found}
+use Rattle.std.specs.Prelude.{Option, Some, None}
 use Rattle.facts.proofs.Picks.{pick_ind, pick_cases}
 use Rattle.facts.proofs.SameLaws.{same_bytes_eq}
 use Rattle.editions.specs.declared.Edition.{Edition}
@@ -147,14 +147,14 @@ value_kept ed k ws d e i h s n = rw n at (fields_kept ed k ws d e i h)
 
 -- ---- a line
 -- where none is missing, each field that has to be written was
-none_here : (f : Entry) (fs : List Entry) (i : ℕ) (g : List ℕ) → missing i (f ∷ fs) g ≡ Found.Nothing → (both f.form.needed (eqb (get_or g i 0) 0) ≡ false) × (missing (suc i) fs g ≡ Found.Nothing)
+none_here : (f : Entry) (fs : List Entry) (i : ℕ) (g : List ℕ) → missing i (f ∷ fs) g ≡ None → (both f.form.needed (eqb (get_or g i 0) 0) ≡ false) × (missing (suc i) fs g ≡ None)
 unfolding missing
 none_here f fs i g e = ⊎_elim (λ q. never q.1) (λ q. q) (pick_cases {t = both f.form.needed (eqb (get_or g i 0) 0)} e)
   where
-    never : {A : Type 0} → Found.At i ≡ Found.Nothing → A
+    never : {A : Type 0} → Some i ≡ None → A
     never q = let z : ◌≡◌ {A = ℕ} 0 1 = cc in absurd (omega arith)
 
-none_missing : (fs : List Entry) (i : ℕ) (g : List ℕ) → missing i fs g ≡ Found.Nothing → (j : ℕ) → j < length fs → (get_or fs j no_entry).form.needed ≡ true → get_or g (i + j) 0 ≡ 0 → ⊥
+none_missing : (fs : List Entry) (i : ℕ) (g : List ℕ) → missing i fs g ≡ None → (j : ℕ) → j < length fs → (get_or fs j no_entry).form.needed ≡ true → get_or g (i + j) 0 ≡ 0 → ⊥
 unfolding both
 none_missing [] i g e j h n z = not-suc-le-zero h
 none_missing (f ∷ fs) i g e zero h n z =
@@ -216,7 +216,7 @@ module _ (ed : Edition) (s out : List ℕ) where
     name : kind_named second.bytes ≡ k
     message : type_of k ≡ 0 → ⊥
 
-  says_it : (n : ℕ) (k : Kind) (ws : List Word) (d : Draft) → Front n k ws → take_all ed k ws (well (blank_draft ed k)) ≡ well d → missing 0 (entries_of ed k) d.given ≡ Found.Nothing → judged_code (judge_body ed (take (kind_length k) d.body)) ≡ 0 → Says ed s n (kind_length k) d.body
+  says_it : (n : ℕ) (k : Kind) (ws : List Word) (d : Draft) → Front n k ws → take_all ed k ws (well (blank_draft ed k)) ≡ well d → missing 0 (entries_of ed k) d.given ≡ None → judged_code (judge_body ed (take (kind_length k) d.body)) ≡ 0 → Says ed s n (kind_length k) d.body
   unfolding good_body
   says_it n k ws d f t m c =
       let r = run ed k ws (blank_draft ed k) d t in
@@ -241,16 +241,16 @@ module _ (ed : Edition) (s out : List ℕ) where
       }
 
   module _ (n end : ℕ) (k : Kind) (ws : List Word) (f : Front n k ws) where
-    judged_meant : (d : Draft) → take_all ed k ws (well (blank_draft ed k)) ≡ well d → missing 0 (entries_of ed k) d.given ≡ Found.Nothing → Meant ed s out (judged ed n k end d out)
+    judged_meant : (d : Draft) → take_all ed k ws (well (blank_draft ed k)) ≡ well d → missing 0 (entries_of ed k) d.given ≡ None → Meant ed s out (judged ed n k end d out)
     unfolding judged by_code
     judged_meant d e m =
         let c = judged_code (judge_body ed (take (kind_length k) d.body)) in
         pick_ind (Meant ed s out) (eqb c 0) (reading (Line.Record n (kind_length k)) d.body) _ (λ z. says_it n k ws d f e m (eqb-true c 0 z)) (λ z. refl)
 
-    whole_meant : (d : Draft) → take_all ed k ws (well (blank_draft ed k)) ≡ well d → (m : Found) → missing 0 (entries_of ed k) d.given ≡ m → Meant ed s out (whole ed n k end d out m)
+    whole_meant : (d : Draft) → take_all ed k ws (well (blank_draft ed k)) ≡ well d → (m : Option ℕ) → missing 0 (entries_of ed k) d.given ≡ m → Meant ed s out (whole ed n k end d out m)
     unfolding whole
-    whole_meant d e (Found.At i) m = refl
-    whole_meant d e Found.Nothing m = judged_meant d e m
+    whole_meant d e (Some i) m = refl
+    whole_meant d e None m = judged_meant d e m
 
     finished_meant : (t : Taken) → take_all ed k ws (well (blank_draft ed k)) ≡ t → Meant ed s out (finished ed n k end t out)
     unfolding finished

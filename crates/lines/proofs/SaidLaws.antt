@@ -15,7 +15,7 @@ use borrow.Author.Tests.{eqb-true}
 use Rattle.facts.specs.Pick.{pick, both}
 use Rattle.facts.specs.Same.{same_bytes}
 use Rattle.facts.specs.Sums.{sum_by, only_if, count_by}
-use Rattle.facts.specs.declared.Found.{Found}
+use Rattle.std.specs.Prelude.{Option, Some, None}
 use Rattle.facts.proofs.Picks.{pick_ind, both_true, refuted}
 use Rattle.facts.proofs.SameLaws.{same_bytes_eq}
 use Rattle.facts.proofs.Searches.{first_at}
@@ -119,7 +119,7 @@ pub record Step (ed : Edition) (k : Kind) (w : Word) (d e : Draft) : Type 0 wher
   pub field : ℕ
   pub inside : field < length (entries_of ed k)
   pub parted : ltb (place_of 61 w.bytes) (length w.bytes) ≡ true
-  pub key : key_named ed k (key_in w.bytes) ≡ Found.At field
+  pub key : key_named ed k (key_in w.bytes) ≡ Some field
   pub fresh : get_or d.given field 0 ≡ 0
   pub value : List ℕ
   pub says : value_in (form_at ed k field).style (form_at ed k field).width (behind_key w.bytes) ≡ some value
@@ -132,7 +132,7 @@ Stepped ed k w d (well e) = Step ed k w d e
 Stepped ed k w d (slipped x) = Unit {0}
 
 module _ (ed : Edition) (k : Kind) (w : Word) (d : Draft) where
-  value_step : (i v : ℕ) → ltb (place_of 61 w.bytes) (length w.bytes) ≡ true → key_named ed k (key_in w.bytes) ≡ Found.At i → get_or d.given i 0 ≡ 0 → (g : Got) → value_in (form_at ed k i).style (form_at ed k i).width (behind_key w.bytes) ≡ g → Stepped ed k w d (take_value g k i (form_at ed k i).at v d)
+  value_step : (i v : ℕ) → ltb (place_of 61 w.bytes) (length w.bytes) ≡ true → key_named ed k (key_in w.bytes) ≡ Some i → get_or d.given i 0 ≡ 0 → (g : Got) → value_in (form_at ed k i).style (form_at ed k i).width (behind_key w.bytes) ≡ g → Stepped ed k w d (take_value g k i (form_at ed k i).at v d)
   unfolding take_value
   value_step i v p n z none q = tt
   value_step i v p n z (some s) q = record {
@@ -148,10 +148,10 @@ module _ (ed : Edition) (k : Kind) (w : Word) (d : Draft) where
     given_is = refl;
   }
 
-  field_step : ltb (place_of 61 w.bytes) (length w.bytes) ≡ true → (f : Found) → key_named ed k (key_in w.bytes) ≡ f → (a v : ℕ) → Stepped ed k w d (take_field ed k f a v (behind_key w.bytes) d)
+  field_step : ltb (place_of 61 w.bytes) (length w.bytes) ≡ true → (f : Option ℕ) → key_named ed k (key_in w.bytes) ≡ f → (a v : ℕ) → Stepped ed k w d (take_field ed k f a v (behind_key w.bytes) d)
   unfolding take_field
-  field_step p Found.Nothing n a v = tt
-  field_step p (Found.At i) n a v =
+  field_step p None n a v = tt
+  field_step p (Some i) n a v =
       pick_ind (Stepped ed k w d) (eqb (get_or d.given i 0) 0)
       (take_value (value_in (form_at ed k i).style (form_at ed k i).width (behind_key w.bytes)) k i (form_at ed k i).at v d)
       (slipped (slip_at a Expected.Once k i))
@@ -183,7 +183,7 @@ module _ (ed : Edition) (k : Kind) (w : Word) (d e : Draft) (s : Step ed k w d e
       (λ q.
       let t = both_true {a = ltb (place_of 61 w.bytes) (length w.bytes)} {b = same_bytes (key_in w.bytes) (key_at ed k i)} q in
       let same : key_in w.bytes ≡ key_at ed k i = same_bytes_eq (key_in w.bytes) (key_at ed k i) t.1 in
-      let back : Found.At i ≡ Found.At s.field = sym (key_back ed k i h) ∙ (ap (key_named ed k) (sym same) ∙ s.key) in
+      let back : Some i ≡ Some s.field = sym (key_back ed k i h) ∙ (ap (key_named ed k) (sym same) ∙ s.key) in
       let r : i ≡ s.field = cc in
       n r))
 

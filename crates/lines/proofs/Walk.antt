@@ -15,7 +15,7 @@ use lib.Dec.{eqb}
 use borrow.Author.Tests.{lt-ltb, eq-eqb, ne_eqb}
 use Rattle.facts.specs.Pick.{pick, both, either}
 use Rattle.facts.specs.Same.{same_bytes}
-use Rattle.facts.specs.declared.Found.{Found}
+use Rattle.std.specs.Prelude.{Some, None}
 use Rattle.facts.proofs.Picks.{pick_cases, pick_ind}
 use Rattle.facts.proofs.SameLaws.{same_bytes_eq}
 use Rattle.editions.specs.declared.Edition.{Edition}
@@ -86,18 +86,18 @@ told_kept es i g f t = record {
     go j h n (no e) = t.given j (omega arith) n
 
 -- then no field that has to be written is missing
-none_missing : (es : List Entry) (i : ℕ) (g : List ℕ) → ((j : ℕ) → j < length es → (get_or es j no_entry).form.needed ≡ true → 0 < get_or g (i + j) 0) → missing i es g ≡ Found.Nothing
+none_missing : (es : List Entry) (i : ℕ) (g : List ℕ) → ((j : ℕ) → j < length es → (get_or es j no_entry).form.needed ≡ true → 0 < get_or g (i + j) 0) → missing i es g ≡ None
 unfolding missing both pick
 none_missing [] i g h = refl
 none_missing (f ∷ fs) i g h = go (none_missing fs (suc i) g (λ j l n. let e : suc i + j ≡ i + suc j = omega arith in rw e (h (suc j) (omega arith) n))) f.form.needed refl
   where
-    go : missing (suc i) fs g ≡ Found.Nothing → (t : Bool) → f.form.needed ≡ t → pick (both t (eqb (get_or g i 0) 0)) (Found.At i) (missing (suc i) fs g) ≡ Found.Nothing
+    go : missing (suc i) fs g ≡ None → (t : Bool) → f.form.needed ≡ t → pick (both t (eqb (get_or g i 0) 0)) (Some i) (missing (suc i) fs g) ≡ None
     go rec true e =
         let here : 0 < get_or g i 0 = rw (add-zero i) at (h 0 (omega arith) e) in
         rw (ne_eqb (get_or g i 0) 0 (λ z. omega arith)) rec
     go rec false e = rec
 
-pub told_all : (es : List Entry) (g : List ℕ) → Told es (length es) g → missing 0 es g ≡ Found.Nothing
+pub told_all : (es : List Entry) (g : List ℕ) → Told es (length es) g → missing 0 es g ≡ None
 told_all es g t = none_missing es 0 g (λ j l n. let e : 0 + j ≡ j = omega arith in rw e (t.given j l n))
 
 -- ---- a field's word: its key, `=` and its value

@@ -1,6 +1,6 @@
 -- A message as eight numbers and 28 bytes (docs/WRITE.md). The numbers: its type, those of the message in the order of their places (docs/MESSAGES.md), but for a Symbol Update, then zeros. The types are
 -- those of the one table ("The types and lengths of all eleven messages stand in one table"). The bytes: what is no number, then zeros.
-use Rattle.std.specs.Prelude.{ℕ, List, [], ◌∷◌, ◌++◌, replicate}
+use Rattle.std.specs.Prelude.{ℕ, List, [], ◌∷◌, ◌++◌, replicate, Option, Some, None}
 use Rattle.kinds.specs.declared.Kind.{Kind}
 use Rattle.kinds.specs.Table.{type_of}
 use Rattle.editions.specs.declared.Edition.{Edition}
@@ -17,19 +17,18 @@ use Rattle.fields.specs.declared.SymbolUpdate.{SymbolUpdate}
 use Rattle.fields.specs.declared.SystemState.{SystemState}
 use Rattle.fields.specs.declared.Body.{Body}
 use Rattle.body.specs.Shown.{security_in}
-use Rattle.body.specs.declared.Security.{Security}
 
 -- the first of the eight is the type, t in what follows
 abbrev pub eight : ℕ → ℕ → ℕ → ℕ → ℕ → ℕ → ℕ → ℕ → List ℕ
 eight a b c d e f g h = a ∷ b ∷ c ∷ d ∷ e ∷ f ∷ g ∷ h ∷ []
 
 -- byte 20 of a Symbol Update is a field in 1.3 alone (request 10)
-abbrev pub type_number : Security → ℕ
-type_number (Security.Type x) = x
-type_number Security.Reserved = 0
+abbrev pub type_number : Option ℕ → ℕ
+type_number (Some x) = x
+type_number None = 0
 
 -- Symbol Update: symbol, lot, market, the Security Type in 1.3, nanoseconds, test indicator, byte 22; those that the table and the sheet show stand first
-abbrev pub update_fields : ℕ → SymbolUpdate → Security → List ℕ
+abbrev pub update_fields : ℕ → SymbolUpdate → Option ℕ → List ℕ
 update_fields t m y = eight t m.symbol.id m.symbol.lot m.symbol.market (type_number y) m.nanos m.test m.reserved
 
 -- System State: nanoseconds, session, status
@@ -107,12 +106,12 @@ abbrev pub text_size : ℕ
 text_size = 28
 
 -- byte 20 where it is reserved; where it is the Security Type, it stands among the numbers
-abbrev pub reserved_byte : Security → ℕ → ℕ
-reserved_byte (Security.Type x) y = 0
-reserved_byte Security.Reserved y = y
+abbrev pub reserved_byte : Option ℕ → ℕ → ℕ
+reserved_byte (Some x) y = 0
+reserved_byte None y = y
 
 -- Symbol Update: ticker, opening, closing, byte 20
-abbrev pub update_text : SymbolUpdate → Security → List ℕ
+abbrev pub update_text : SymbolUpdate → Option ℕ → List ℕ
 update_text m y = m.symbol.ticker ++ (m.symbol.opening ++ (m.symbol.closing ++ (reserved_byte y m.security ∷ [])))
 
 -- System State: version

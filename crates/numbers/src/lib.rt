@@ -12,7 +12,6 @@ ghost use Rattle.wire.specs.Le.{padded};
 ghost use Rattle.numbers.specs.Drafts.{time_from, security_from, symbol_from, update_from, state_from, status_from, clear_from, add_from, modify_from, delete_from, execution_from, trade_from, cancel_from, fields_from, draft_fits, within as is_within, Words, body_from, refused_draft, held_draft, draft_of};
 ghost use Rattle.numbers.specs.Numbers.{type_number, update_fields, state_fields, status_fields, clear_fields, add_fields, modify_fields, delete_fields, execution_fields, trade_fields, cancel_fields, typed, reserved_byte, update_text, state_text, text_of};
 
-use body::Security;
 use editions::Edition;
 use fields::{
     AddOrder, DeleteOrder, ModifyOrder, OrderExecution, Symbol, SymbolClear, SymbolUpdate,
@@ -29,17 +28,17 @@ pub struct Draft {
 }
 
 // The Security Type, 0 where there is none.
-fn type_number(y: Security) -> u64
+fn type_number(y: Option<u8>) -> u64
     ensures { result ≡ type_number y }
 {
     match y {
-        Security::Type(x) => x as u64,
-        Security::Reserved => 0,
+        Some(x) => x as u64,
+        None => 0,
     }
 }
 
 // The numbers of each message: its type t first, zeros behind them. They stand in the order of their places, but for a Symbol Update's.
-fn update_fields(t: u64, m: SymbolUpdate, y: Security) -> [u64; 8]
+fn update_fields(t: u64, m: SymbolUpdate, y: Option<u8>) -> [u64; 8]
     ensures { result ≡ update_fields t m y }
 {
     let s = m.symbol;
@@ -194,12 +193,12 @@ pub fn fields_of(e: Edition, k: Kind, b: &[u8]) -> [u64; 8]
 }
 
 // Byte 20 where it is reserved, 0 where it is the Security Type, which stands among the numbers.
-fn reserved_byte(y: Security, x: u8) -> u8
+fn reserved_byte(y: Option<u8>, x: u8) -> u8
     ensures { result ≡ reserved_byte y x }
 {
     match y {
-        Security::Type(_) => 0,
-        Security::Reserved => x,
+        Some(_) => 0,
+        None => x,
     }
 }
 

@@ -15,19 +15,11 @@ pub struct Head {
     pub len: usize,
 }
 
-// The first record of what is left of a packet, or why and at which of its bytes it is bad.
+// Why a packet, or what is read as one, is refused: by a number alone, or by number and offset.
 #[derive(Clone, Copy)]
-pub enum Record {
-    Good(Head),
-    Bad(Fault),
-}
-
-// A whole packet: how many records it holds; else its number alone (1), or why and at which of its bytes it is bad.
-#[derive(Clone, Copy)]
-pub enum Packet {
-    Good(usize),
-    Refused(Refusal),
-    Bad(Fault),
+pub enum Why {
+    Alone(Refusal),
+    Placed(Fault),
 }
 
 // Whether a sequence number is in range.
@@ -70,57 +62,57 @@ pub fn body_at(p: &[u8], at: usize) -> &[u8]
 }
 
 // Judges the first record of what is left: 2, 5, then what the body's judge says of its part.
-pub fn read_record(e: Edition, t: &[u8]) -> Record
+pub fn read_record(e: Edition, t: &[u8]) -> Result<Head, Fault>
     ensures { result ≡ read_record e t.now }
 {
     if t.len() < 10 {
-        return Record::Bad(Fault { number: 2, at: 0 });
+        return Err(Fault { number: 2, at: 0 });
     }
     let h = head_at(t, 0);
     let n = h.len;
     if t.len() - 10 < n {
-        return Record::Bad(Fault { number: 2, at: 0 });
+        return Err(Fault { number: 2, at: 0 });
     }
     if !number_ok(h.number) {
-        return Record::Bad(Fault { number: 5, at: 0 });
+        return Err(Fault { number: 5, at: 0 });
     }
     let c = body::judge(e, &t[10..10 + n]);
     if c == 0 {
-        return Record::Good(h);
+        return Ok(h);
     }
-    Record::Bad(Fault {
+    Err(Fault {
         number: (c % 256) as u8,
         at: 10 + c / 256,
     })
 }
 
 // Judges a whole packet of an edition: 1, then its records from the front.
-pub fn read_packet(e: Edition, p: &[u8]) -> Packet
+pub fn read_packet(e: Edition, p: &[u8]) -> Result<usize, Why>
     ensures { result ≡ read_packet e p.now }
 {
     if p.len() < 1 {
-        return Packet::Refused(Refusal { number: 1 });
+        return Err(Why::Alone(Refusal { number: 1 }));
     }
     if facts::PACKET_MOST < p.len() {
-        return Packet::Refused(Refusal { number: 1 });
+        return Err(Why::Alone(Refusal { number: 1 }));
     }
     let mut at: usize = 0;
     let mut records: usize = 0;
     while at < p.len() {
         match read_record(e, &p[at..]) {
-            Record::Bad(f) => {
+            Err(f) => {
                 let fault = Fault {
                     number: f.number,
                     at: at + f.at,
                 };
-                return Packet::Bad(fault);
+                return Err(Why::Placed(fault));
             }
-            Record::Good(h) => {
+            Ok(h) => {
                 let n = h.len;
                 at = at + (10 + n);
                 records = records + 1;
             }
         }
     }
-    Packet::Good(records)
+    Ok(records)
 }

@@ -2,18 +2,16 @@
 // read or write ends it.
 #![tactic(auto)]
 
-use body::Security;
 use editions::Edition;
 use fields::{
     AddOrder, Body, DeleteOrder, Fault, ModifyOrder, OrderExecution, Symbol, SymbolClear,
     SystemState, Trade, TradeCancel, TradingStatus,
 };
 use kinds::Kind;
-use packet::{Packet, Record};
 use std::env::Env;
 use std::io;
 use std::io::Read;
-use words::Named;
+use packet::Why;
 
 // The longest packet that a two-byte length can announce.
 const LONGEST: usize = 65535;
@@ -38,8 +36,8 @@ fn edition_asked(rt: &impl Env) -> Named {
 
 fn answer(rt: &(impl Env + Input + Print + Eprint), held: &mut [u8]) -> io::Result<()> {
     match edition_asked(rt) {
-        Named::Known(e) => read_all(rt, &mut rt.reader(), e, held),
-        Named::Unknown => rt.eprintln(
+        Some(e) => read_all(rt, &mut rt.reader(), e, held),
+        None => rt.eprintln(
             "rimeheath: read takes no word but --edition with 1.3, 1.3.a or 1.3.b; the recording comes on standard input",
         ),
     }
@@ -90,13 +88,13 @@ fn show_first(rt: &impl Print, e: Edition, held: &[u8], n: usize) -> io::Result<
 
 fn show_packet(rt: &impl Print, e: Edition, p: &[u8]) -> io::Result<()> {
     match packet::read_packet(e, p) {
-        Packet::Refused(r) => {
+        Err(Why::Alone(r)) => {
             rt.print("refused")?;
             also(rt, r.number as u64)?;
             end_line(rt)
         }
-        Packet::Bad(f) => show_fault(rt, e, p, f),
-        Packet::Good(n) => {
+        Err(Why::Placed(f)) => show_fault(rt, e, p, f),
+        Ok(n) => {
             rt.print("records ")?;
             rt.print(n as u64)?;
             end_line(rt)?;
@@ -122,11 +120,11 @@ fn show_first_bad(rt: &impl Print, e: Edition, p: &[u8]) -> io::Result<()> {
     let mut count: usize = 1;
     while at < p.len() {
         match packet::read_record(e, &p[at..]) {
-            Record::Bad(f) => {
+            Err(f) => {
                 also(rt, count as u64)?;
                 return show_bad(rt, &p[at..], f);
             }
-            Record::Good(h) => {
+            Ok(h) => {
                 let n = h.len;
                 if p.len() - at < 10 {
                     return Ok(());
@@ -306,14 +304,14 @@ fn also_deal(rt: &impl Print, price: u64, size: u32) -> io::Result<()> {
 }
 
 // The Security Type, where there is one.
-fn show_type(rt: &impl Print, y: Security) -> io::Result<()> {
+fn show_type(rt: &impl Print, y: Option<u8>) -> io::Result<()> {
     match y {
-        Security::Type(x) => also(rt, x as u64),
-        Security::Reserved => Ok(()),
+        Some(x) => also(rt, x as u64),
+        None => Ok(()),
     }
 }
 
-fn show_symbol(rt: &impl Print, s: Symbol, y: Security) -> io::Result<()> {
+fn show_symbol(rt: &impl Print, s: Symbol, y: Option<u8>) -> io::Result<()> {
     let ticker = s.ticker;
     let opening = s.opening;
     let closing = s.closing;

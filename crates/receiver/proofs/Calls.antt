@@ -30,7 +30,7 @@ use Rattle.shelf.proofs.StoreLaws.{put_again}
 use Rattle.receiver.specs.Receiver.{handled_by}
 use Rattle.receiver.specs.Lent.{ledger_engine, real, Rx, rx, Lent, lent, handled, working_of}
 use Rattle.receiver.specs.declared.Place.{Place}
-use Rattle.receiver.specs.declared.Received.{Received}
+use Rattle.std.specs.Prelude.{Ok}
 use Rattle.receiver.proofs.Exits.{Turns, turn_broken, turn_goes, stops_rule}
 use Rattle.receiver.proofs.Direct.{next_broken, next_goes}
 use Rattle.receiver.proofs.Accounts.{next_grows, accepted}
@@ -116,8 +116,8 @@ module _ (k : Lent) (p : List ℕ) (cs : List Rec) (framed : framing k.edition p
 
   -- q the stop and top the highest number, told of tables that were left as they were
   pub worked_told : (q top : ℕ) (o' s' ix' : List ℕ) → q ≡ stop shelf_store (ledger_engine k.edition) now → top ≡ highest shelf_store 64 h → o' ≡ o → s' ≡ s → ix' ≡ ix
-      → handled (Received.Accepted (record { counts = t; next = at.next; applied = at.next - k.rx.next; highest = top; stop = q })) (lent o' s' h ix' (record { next = at.next; clock = at.clock; stop = q; edition = k.edition }))
+      → handled (Ok (record { counts = t; next = at.next; applied = at.next - k.rx.next; highest = top; stop = q })) (lent o' s' h ix' (record { next = at.next; clock = at.clock; stop = q; edition = k.edition }))
       ≡ handled_by (real k.edition) (framing k.edition p) k
   worked_told q top o' s' ix' e f os ss is =
-      (λ i. handled (Received.Accepted (record { counts = t; next = at.next; applied = at.next - k.rx.next; highest = top; stop = q })) (lent (os i) (ss i) h (is i) (record { next = at.next; clock = at.clock; stop = q; edition = k.edition })))
+      (λ i. handled (Ok (record { counts = t; next = at.next; applied = at.next - k.rx.next; highest = top; stop = q })) (lent (os i) (ss i) h (is i) (record { next = at.next; clock = at.clock; stop = q; edition = k.edition })))
       ∙ accepted (real k.edition) cs k now t of_records q top e f (framing k.edition p) framed

@@ -19,7 +19,7 @@ use book::Clock;
 use editions::Edition;
 use facts::LAST_NUMBER;
 use fields::{Fault, Refusal};
-use packet::Packet;
+use packet::Why;
 
 // The largest next number: one above the last sequence number.
 const MOST_NEXT: u64 = LAST_NUMBER + 1;
@@ -54,24 +54,10 @@ pub struct Account {
     pub stop: u8,
 }
 
-// The answer to a packet; a refused one gives its number alone (6, 1), or number and offset in the packet (2 to 5).
-#[derive(Clone, Copy)]
-pub enum Received {
-    Accepted(Account),
-    Refused(Refusal),
-    Bad(Fault),
-}
-
 #[derive(Clone, Copy)]
 pub struct Reply {
-    pub answer: Received,
+    pub answer: Result<Account, Why>,
     pub state: State,
-}
-
-#[derive(Clone, Copy)]
-pub enum Started {
-    Ready(State),
-    Refused(Refusal),
 }
 
 #[derive(Clone, Copy)]
@@ -447,7 +433,7 @@ fn accept(
     let highest = shelf::highest(shelf);
     let after = at.clock;
     Reply {
-        answer: Received::Accepted(Account {
+        answer: Ok(Account {
             counts,
             next: at.next,
             applied: at.next - state.next,
@@ -499,27 +485,27 @@ pub fn receive(
 {
     if !sizes_ok(orders.len(), symbols.len(), shelf.len(), index.len()) {
         return Reply {
-            answer: Received::Refused(Refusal { number: 6 }),
+            answer: Err(Why::Alone(Refusal { number: 6 })),
             state,
         };
     }
     if !next_ok(state.next) {
         return Reply {
-            answer: Received::Refused(Refusal { number: 6 }),
+            answer: Err(Why::Alone(Refusal { number: 6 })),
             state,
         };
     }
     let e = state.edition;
     match packet::read_packet(e, p) {
-        Packet::Refused(r) => Reply {
-            answer: Received::Refused(r),
+        Err(Why::Alone(r)) => Reply {
+            answer: Err(Why::Alone(r)),
             state,
         },
-        Packet::Bad(f) => Reply {
-            answer: Received::Bad(f),
+        Err(Why::Placed(f)) => Reply {
+            answer: Err(Why::Placed(f)),
             state,
         },
-        Packet::Good(_) => accept(orders, symbols, shelf, index, state, p),
+        Ok(_) => accept(orders, symbols, shelf, index, state, p),
     }
 }
 
@@ -531,18 +517,18 @@ pub fn start(
     symbols: &mut [u8],
     shelf: &mut [u8],
     index: &mut [u64],
-) -> Started
+) -> Result<State, Refusal>
     ensures { begun result orders.new symbols.new shelf.new index.new ≡ started e orders.old symbols.old shelf.old index.old }
 {
     if !sizes_ok(orders.len(), symbols.len(), shelf.len(), index.len()) {
-        return Started::Refused(Refusal { number: 6 });
+        return Err(Refusal { number: 6 });
     }
     rows::wipe_rows(orders);
     wire::wipe(symbols);
     wire::wipe(shelf);
     rows::wipe_rows(index);
     index::rebuild(orders, index);
-    Started::Ready(State {
+    Ok(State {
         next: 1,
         clock: Clock { second: 0 },
         stop: 0,

@@ -3,13 +3,13 @@
 #![tactic(auto)]
 
 use editions::Edition;
-use receiver::{Account, Received, Started, State};
+use receiver::{Account, State};
 use rows::Row;
 use std::env::Env;
 use std::io;
 use std::io::Read;
-use views::{LadderAnswer, Side, SpreadAnswer};
-use words::Named;
+use views::Side;
+use packet::Why;
 
 // The capacities of the program `sheet`: five numbers a row.
 const ORDERS: usize = rows::ROW_SIZE * facts::SHEET_ROWS;
@@ -63,8 +63,8 @@ fn answer(
     levels: &mut [u64],
 ) -> io::Result<()> {
     match edition_asked(rt) {
-        Named::Known(e) => play(rt, e, orders, symbols, shelf, index, held, levels),
-        Named::Unknown => rt.eprintln(
+        Some(e) => play(rt, e, orders, symbols, shelf, index, held, levels),
+        None => rt.eprintln(
             "rimeheath: answers takes no word but --edition with 1.3, 1.3.a or 1.3.b; the recording comes on standard input",
         ),
     }
@@ -81,8 +81,8 @@ fn play(
     levels: &mut [u64],
 ) -> io::Result<()> {
     match receiver::start(e, orders, symbols, shelf, index) {
-        Started::Refused(_) => rt.println("refused"),
-        Started::Ready(s) => {
+        Err(_) => rt.println("refused"),
+        Ok(s) => {
             let end = read_all(rt, &mut rt.reader(), orders, symbols, shelf, index, held, s)?;
             show_tables(rt, orders, symbols, levels, end)
         }
@@ -150,21 +150,21 @@ fn give(
     Ok(r.state)
 }
 
-fn show_answer(rt: &impl Print, a: Received) -> io::Result<()> {
+fn show_answer(rt: &impl Print, a: Result<Account, Why>) -> io::Result<()> {
     match a {
-        Received::Refused(r) => {
+        Err(Why::Alone(r)) => {
             rt.print("refused")?;
             also(rt, r.number as u64)?;
             end_line(rt)
         }
-        Received::Bad(f) => {
+        Err(Why::Placed(f)) => {
             rt.print("refused")?;
             also(rt, f.number as u64)?;
             rt.print(" at")?;
             also(rt, f.at as u64)?;
             end_line(rt)
         }
-        Received::Accepted(t) => show_account(rt, t),
+        Ok(t) => show_account(rt, t),
     }
 }
 
@@ -285,16 +285,16 @@ fn show_symbol(
 
 fn levels_of(orders: &[u64], symbols: &[u8], levels: &mut [u64], id: u32, side: Side) -> usize {
     match views::ladder(orders, symbols, id, side, levels) {
-        LadderAnswer::Levels(n) => n,
-        LadderAnswer::Refused(_) => 0,
+        Ok(n) => n,
+        Err(_) => 0,
     }
 }
 
-fn show_spread(rt: &impl Print, s: SpreadAnswer) -> io::Result<()> {
+fn show_spread(rt: &impl Print, s: Result<Option<i64>, Refusal>) -> io::Result<()> {
     match s {
-        SpreadAnswer::Of(z) => show_signed(rt, z),
-        SpreadAnswer::Empty => rt.print(" none"),
-        SpreadAnswer::Refused(_) => rt.print(" refused"),
+        Ok(Some(z)) => show_signed(rt, z),
+        Ok(None) => rt.print(" none"),
+        Err(_) => rt.print(" refused"),
     }
 }
 

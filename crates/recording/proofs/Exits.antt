@@ -24,33 +24,33 @@ use Rattle.receiver.specs.Receiver.{next_ok}
 use Rattle.receiver.specs.Lent.{Handled, lent, received, sizes_ok}
 use Rattle.receiver.specs.declared.State.{State}
 use Rattle.receiver.specs.declared.Account.{Account}
-use Rattle.receiver.specs.declared.Received.{Received}
+use Rattle.std.specs.Prelude.{Result, Ok, Err}
+use Rattle.packet.specs.declared.Why.{Why}
 use Rattle.recording.specs.Stream.{more, added, Standing, standing, refused_for, noted, heard, hearer, Hearing, hearing, byte, standing_of, hearing_of, feedable, feeding, took, fed}
 use Rattle.recording.specs.Carve.{passed, grown}
 use Rattle.recording.specs.Steps.{missing, passed_on, passed_end, WholeAt, Passed, Pushed, Stepped, Ran}
 use Rattle.arbitration.specs.declared.Counts.{Counts}
 use Rattle.recording.specs.declared.Stream.{Stream}
-use Rattle.recording.specs.declared.Fed.{Fed}
 use Rattle.recording.specs.declared.Moved.{Moved}
 use Rattle.recording.proofs.Bytes.{byte_grows, at_byte, passes, keeps_one, over_long, keeps, gives, at_once, length_grew, same_length_field, same_bytes}
 
 -- ---- `hear`: a packet, by its answer
 module _ (k : Standing) (p : List ℕ) (short : length p ≤ packet_most) (x : Handled) (x_is : x ≡ received k.lent p) where
-  heard_as : (a : Received) → x.answer ≡ a → noted a x.after k ≡ heard p k
+  heard_as : (a : Result Account Why) → x.answer ≡ a → noted a x.after k ≡ heard p k
   unfolding heard pick
-  heard_as a e = simp (le-ltb packet_most (length p) short) (ap (λ (b : Received). noted b x.after k) (sym e) ∙ ap (λ (y : Handled). noted y.answer y.after k) x_is)
+  heard_as a e = simp (le-ltb packet_most (length p) short) (ap (λ (b : Result Account Why). noted b x.after k) (sym e) ∙ ap (λ (y : Handled). noted y.answer y.after k) x_is)
 
-  pub heard_accepted : (a : Account) → x.answer ≡ Received.Accepted a → (n : Counts) → n ≡ added a.counts k.totals → standing k.bad k.last n x.after ≡ heard p k
+  pub heard_accepted : (a : Account) → x.answer ≡ Ok a → (n : Counts) → n ≡ added a.counts k.totals → standing k.bad k.last n x.after ≡ heard p k
   unfolding noted
-  heard_accepted a e n q = ap (λ m. standing k.bad k.last m x.after) q ∙ heard_as (Received.Accepted a) e
+  heard_accepted a e n q = ap (λ m. standing k.bad k.last m x.after) q ∙ heard_as (Ok a) e
 
-  pub heard_refused : (r : Refusal) → x.answer ≡ Received.Refused r → refused_for (bad_at r.number 0) x.after k ≡ heard p k
+  pub heard_refused : (r : Refusal) → x.answer ≡ Err (Why.Alone r) → refused_for (bad_at r.number 0) x.after k ≡ heard p k
   unfolding noted
-  heard_refused r e = heard_as (Received.Refused r) e
+  heard_refused r e = heard_as (Err (Why.Alone r)) e
 
-  pub heard_bad : (f : Fault) → x.answer ≡ Received.Bad f → refused_for f x.after k ≡ heard p k
+  pub heard_bad : (f : Fault) → x.answer ≡ Err (Why.Placed f) → refused_for f x.after k ≡ heard p k
   unfolding noted
-  heard_bad f e = heard_as (Received.Bad f) e
+  heard_bad f e = heard_as (Err (Why.Placed f)) e
 
 -- a refused packet, over any tables
 pub missed_as : (k v : Stream) (q : State) (f : Fault) (o s h ix : List ℕ) → v ≡ missing k q f → standing_of v o s h ix ≡ standing (more k.bad 1) f k.totals (lent o s h ix q)
@@ -193,17 +193,17 @@ ran chunk at l y end e = ap (λ d. each byte d y) (sym (drop_of_length-le chunk 
 
 -- ---- `feed`
 module _ (k : Stream) (o s h ix w chunk : List ℕ) where
-  pub fed_refused : feedable k (length o) (length s) (length h) (length ix) (length w) ≡ false → feeding (Fed.Refused (refusal 6)) o s h ix w ≡ fed k o s h ix w chunk
+  pub fed_refused : feedable k (length o) (length s) (length h) (length ix) (length w) ≡ false → feeding (Err (refusal 6)) o s h ix w ≡ fed k o s h ix w chunk
   unfolding fed pick
   fed_refused e = simp e
 
   -- r and o' to w' after all bytes, z the buffer with the rest zeroed
-  pub fed_took : feedable k (length o) (length s) (length h) (length ix) (length w) ≡ true → (r : Stream) (o' s' h' ix' w' z : List ℕ) → length w' ≡ length w → Ran chunk (hearing_of k o s h ix w) r o' s' h' ix' w' → z ≡ take r.held w' ++ replicate (length w' - r.held) 0 → feeding (Fed.Took r) o' s' h' ix' z ≡ fed k o s h ix w chunk
+  pub fed_took : feedable k (length o) (length s) (length h) (length ix) (length w) ≡ true → (r : Stream) (o' s' h' ix' w' z : List ℕ) → length w' ≡ length w → Ran chunk (hearing_of k o s h ix w) r o' s' h' ix' w' → z ≡ take r.held w' ++ replicate (length w' - r.held) 0 → feeding (Ok r) o' s' h' ix' z ≡ fed k o s h ix w chunk
   unfolding fed took pick
   fed_took e r o' s' h' ix' w' z n q c =
       let len : r.held ≡ length (take r.held w') = sym (length-take-le r.held w' q.fits) in
       let buffer : z ≡ take r.held w' ++ replicate (length w - length (take r.held w')) 0 = c ∙ (λ i. take r.held w' ++ replicate (n i - len i) 0) in
-      (λ i. feeding (Fed.Took (record { receiver = r.receiver; held = len i; skip = r.skip; bad = r.bad; last = r.last; totals = r.totals })) o' s' h' ix' (buffer i))
+      (λ i. feeding (Ok (record { receiver = r.receiver; held = len i; skip = r.skip; bad = r.bad; last = r.last; totals = r.totals })) o' s' h' ix' (buffer i))
       ∙ ap (took (length w)) q.is
       ∙ simp e
 

@@ -9,7 +9,8 @@ ghost use Rattle.recording.specs.Steps.{missing, WholeAt, Passed, Pushed, Steppe
 use arbitration::Counts;
 use facts::{HOLD_LEAST, PACKET_MOST};
 use fields::{Fault, Refusal};
-use receiver::{Received, State};
+use receiver::State;
+use packet::Why;
 
 // What a stream keeps between chunks, beside its buffer: the receiver, how many bytes of an unfinished packet are in the buffer, how many
 // of an over-long one are still to come, how many packets were refused and why the last of them was (0 and 0 before the first), and the counts.
@@ -21,12 +22,6 @@ pub struct Stream {
     pub bad: u64,
     pub last: Fault,
     pub totals: Counts,
-}
-
-#[derive(Clone, Copy)]
-pub enum Fed {
-    Took(Stream),
-    Refused(Refusal),
 }
 
 #[derive(Clone, Copy)]
@@ -87,7 +82,7 @@ fn hear(
     let answer = a.answer;
     let totals = k.totals;
     match answer {
-        Received::Accepted(t) => {
+        Ok(t) => {
             let counts = t.counts;
             let last = k.last;
             let sums = add(totals, counts);
@@ -100,14 +95,14 @@ fn hear(
                 totals: sums,
             }
         }
-        Received::Refused(e) => {
+        Err(Why::Alone(e)) => {
             let last = Fault {
                 number: e.number,
                 at: 0,
             };
             missed(k, receiver, last)
         }
-        Received::Bad(f) => missed(k, receiver, f),
+        Err(Why::Placed(f)) => missed(k, receiver, f),
     }
 }
 
@@ -320,7 +315,7 @@ pub fn feed(
     hold: &mut [u8],
     s: Stream,
     chunk: &[u8],
-) -> Fed
+) -> Result<Stream, Refusal>
     ensures { feeding result orders.new symbols.new shelf.new index.new hold.new ≡ fed s orders.old symbols.old shelf.old index.old hold.old chunk.now }
 {
     if !can_feed(
@@ -331,11 +326,11 @@ pub fn feed(
         index.len(),
         hold.len(),
     ) {
-        return Fed::Refused(Refusal { number: 6 });
+        return Err(Refusal { number: 6 });
     }
     let k = run(orders, symbols, shelf, index, hold, s, chunk);
     clear(hold, k.held);
-    Fed::Took(k)
+    Ok(k)
 }
 
 // Whether a recording that ends here ends inside a length or packet.

@@ -12,7 +12,7 @@ use borrow.Author.Tests.{ne_eqb}
 use Rattle.facts.specs.Pick.{pick, both}
 use Rattle.facts.specs.Same.{same_bytes}
 use Rattle.facts.specs.Search.{first}
-use Rattle.facts.specs.declared.Found.{Found}
+use Rattle.std.specs.Prelude.{Option, Some, None}
 use Rattle.facts.proofs.Searches.{first_at}
 use Rattle.editions.specs.declared.Edition.{Edition}
 use Rattle.body.specs.Ranges.{security_ok}
@@ -53,17 +53,17 @@ module _ (x b : List ℕ) (by : ℕ) (e : by ≡ get_or x 0 0) where
 
 -- ---- the type that a symbol gets
 module _ (all : ℕ) (others b : List ℕ) where
-  abbrev found : Found
+  abbrev found : Option ℕ
   found = first (λ (x : List ℕ). names x b) 0 (exceptions others)
 
-  pub type_found : (i : ℕ) → found ≡ Found.At i → (i < length (exceptions others)) × (type_of (get_or (exceptions others) i []) ≡ type_for all others b)
+  pub type_found : (i : ℕ) → found ≡ Some i → (i < length (exceptions others)) × (type_of (get_or (exceptions others) i []) ≡ type_for all others b)
   unfolding type_for
   type_found i e =
-      (omega (arith, (first_at (λ (x : List ℕ). names x b) 0 (exceptions others) i [] e).1), sym (ap (λ (f : Found). type_at f (exceptions others) all) e))
+      (omega (arith, (first_at (λ (x : List ℕ). names x b) 0 (exceptions others) i [] e).1), sym (ap (λ (f : Option ℕ). type_at f (exceptions others) all) e))
 
-  pub type_all : found ≡ Found.Nothing → all ≡ type_for all others b
+  pub type_all : found ≡ None → all ≡ type_for all others b
   unfolding type_for
-  type_all e = sym (ap (λ (f : Found). type_at f (exceptions others) all) e)
+  type_all e = sym (ap (λ (f : Option ℕ). type_at f (exceptions others) all) e)
 
 -- ---- whether all types are good
 module _ (ed : Edition) (all : ℕ) (others : List ℕ) where
@@ -71,13 +71,13 @@ module _ (ed : Edition) (all : ℕ) (others : List ℕ) where
   unfolding types_ok both
   all_bad e = simp e
 
-  abbrev worst : Found
+  abbrev worst : Option ℕ
   worst = first (bad_type ed) 0 (exceptions others)
 
-  pub one_bad : (i : ℕ) → security_ok ed all ≡ true → worst ≡ Found.At i → false ≡ types_ok ed all others
+  pub one_bad : (i : ℕ) → security_ok ed all ≡ true → worst ≡ Some i → false ≡ types_ok ed all others
   unfolding types_ok both
   one_bad i e f = simp (e, f)
 
-  pub none_bad : security_ok ed all ≡ true → worst ≡ Found.Nothing → true ≡ types_ok ed all others
+  pub none_bad : security_ok ed all ≡ true → worst ≡ None → true ≡ types_ok ed all others
   unfolding types_ok both
   none_bad e f = simp (e, f)

@@ -13,7 +13,8 @@ use borrow.Author.Tests.{ne_eqb, eqb-true, eq-eqb}
 use Rattle.facts.specs.Pick.{pick, both}
 use Rattle.facts.specs.Search.{first, is_found}
 use Rattle.facts.specs.Same.{same_bytes}
-use Rattle.facts.specs.declared.Found.{Found}
+use Rattle.std.specs.Prelude.{Option, Some, None, Result, Ok}
+use Rattle.fields.specs.declared.Fault.{Fault}
 use Rattle.facts.proofs.Picks.{pick_ind, both_true}
 use Rattle.facts.proofs.Searches.{first_at, first_none}
 use Rattle.editions.specs.declared.Edition.{Edition}
@@ -25,7 +26,6 @@ use Rattle.fields.specs.Fields.{symbol_of, security_of, decoded}
 use Rattle.body.specs.Ranges.{security_ok}
 use Rattle.body.specs.Read.{judge_body, judged_number, message, read_body, good_body}
 use Rattle.body.specs.Editions.{IsUpdate}
-use Rattle.body.specs.declared.Judged.{Judged}
 use Rattle.body.proofs.Laws.{good_framed, Framed, framed_is, Judgement, good, bad, judgement, JudgedAs, judge_sound}
 use Rattle.body.proofs.Editions.{no_update_alike, lettered_alike, reserved_unjudged, older_alike}
 use Rattle.retype.specs.Types.{exceptions, names, type_of, type_at, type_for, bad_type, types_ok}
@@ -144,9 +144,9 @@ unfolding is_update kind_of pick
 update_kind b u = ap kind_of (eqb-true (get_or b 0 0) 1 u)
 
 -- what is asked for is in range, whichever symbol it is for
-not_found : (f : Found) → not (is_found f) ≡ true → f ≡ Found.Nothing
-not_found (Found.At i) e = absurd (true≢false (sym e))
-not_found Found.Nothing e = refl
+not_found : (f : Option ℕ) → not (is_found f) ≡ true → f ≡ None
+not_found (Some i) e = absurd (true≢false (sym e))
+not_found None e = refl
 
 not_bad : (ed : Edition) (x : List ℕ) → bad_type ed x ≡ false → security_ok ed (type_of x) ≡ true
 unfolding bad_type
@@ -162,9 +162,9 @@ type_good ed all others b ok =
     let o = both_true {a = security_ok ed all} {b = not (is_found (first (bad_type ed) 0 (exceptions others)))} ok in
     go (first (λ (x : List ℕ). names x b) 0 (exceptions others)) refl o.0 (not_found (first (bad_type ed) 0 (exceptions others)) o.1)
   where
-    go : (f : Found) → first (λ (x : List ℕ). names x b) 0 (exceptions others) ≡ f → security_ok ed all ≡ true → first (bad_type ed) 0 (exceptions others) ≡ Found.Nothing → security_ok ed (type_at f (exceptions others) all) ≡ true
-    go Found.Nothing e g n = g
-    go (Found.At i) e g n =
+    go : (f : Option ℕ) → first (λ (x : List ℕ). names x b) 0 (exceptions others) ≡ f → security_ok ed all ≡ true → first (bad_type ed) 0 (exceptions others) ≡ None → security_ok ed (type_at f (exceptions others) all) ≡ true
+    go None e g n = g
+    go (Some i) e g n =
         let l = first_at (λ (x : List ℕ). names x b) 0 (exceptions others) i [] e in
         not_bad ed (get_or (exceptions others) i []) (first_none (bad_type ed) 0 (exceptions others) n i [] (omega (arith, l.1)))
 
@@ -184,7 +184,7 @@ update_long ed b g u = let w : Framed Kind.SymbolUpdate b = subst (λ (k : Kind)
 module _ (from : Edition) (a : Asked) (b : List ℕ) (g : good_body from b ≡ true) (ok : types_ok a.to a.all a.others ≡ true) where
   newer_good : good_body Edition.V13b (retyped a b) ≡ true
   unfolding good_body
-  newer_good = ap (λ (j : Judged). eqb (judged_number j) 0) (newer_judged from a b g) ∙ g
+  newer_good = ap (λ (j : Result Kind Fault). eqb (judged_number j) 0) (newer_judged from a b g) ∙ g
 
   -- in 1.3 its letter is one that was asked for
   typed : a.to ≡ Edition.V13 → is_update b ≡ true → judge_body Edition.V13 (retyped a b) ≡ judge_body from b
@@ -209,13 +209,13 @@ module _ (from : Edition) (a : Asked) (b : List ℕ) (g : good_body from b ≡ t
 
   pub retyped_good : good_body a.to (retyped a b) ≡ true
   unfolding good_body
-  retyped_good = ap (λ (j : Judged). eqb (judged_number j) 0) retyped_judged ∙ g
+  retyped_good = ap (λ (j : Result Kind Fault). eqb (judged_number j) 0) retyped_judged ∙ g
 
-  judged_good : judge_body from b ≡ Judged.Good (kind_of (get_or b 0 0))
+  judged_good : judge_body from b ≡ Ok (kind_of (get_or b 0 0))
   judged_good = go (judgement from b)
     where
-      go : Judgement from b → judge_body from b ≡ Judged.Good (kind_of (get_or b 0 0))
-      go (good k e h z) = e ∙ ap Judged.Good (subst (λ (r : Judged). JudgedAs from r b) e (judge_sound from b)).0
+      go : Judgement from b → judge_body from b ≡ Ok (kind_of (get_or b 0 0))
+      go (good k e h z) = e ∙ ap Ok (subst (λ (r : Result Kind Fault). JudgedAs from r b) e (judge_sound from b)).0
       go (bad f e h w) = absurd (true≢false (sym g ∙ h))
 
   -- the same message, with the same fields: of a Symbol Update those of `Symbol` (`symbol_same`), of any other message all, since it has the same bytes
@@ -223,8 +223,8 @@ module _ (from : Edition) (a : Asked) (b : List ℕ) (g : good_body from b ≡ t
   unfolding read_body message decoded
   retyped_read =
       by_update b
-      (λ u. ap (λ (j : Judged). message j (retyped a b)) (retyped_judged ∙ as_kind u) ∙ sym (ap (λ (j : Judged). message j b) (as_kind u)))
+      (λ u. ap (λ (j : Result Kind Fault). message j (retyped a b)) (retyped_judged ∙ as_kind u) ∙ sym (ap (λ (j : Result Kind Fault). message j b) (as_kind u)))
       (λ u. (λ i. message (retyped_judged i) (retyped_no a b u i)))
     where
-      as_kind : is_update b ≡ true → judge_body from b ≡ Judged.Good Kind.SymbolUpdate
-      as_kind u = judged_good ∙ ap Judged.Good (update_kind b u)
+      as_kind : is_update b ≡ true → judge_body from b ≡ Ok Kind.SymbolUpdate
+      as_kind u = judged_good ∙ ap Ok (update_kind b u)

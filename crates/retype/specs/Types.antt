@@ -1,10 +1,9 @@
 -- Which Security Type a symbol gets, where a recording is made one of 1.3: one for all symbols, with exceptions by symbol ID or ticker.
-use Rattle.std.specs.Prelude.{ℕ, ◌%◌, Bool, not, List, [], get_or, eqb}
+use Rattle.std.specs.Prelude.{ℕ, ◌%◌, Bool, not, List, [], get_or, eqb, Option, Some, None}
 use Rattle.facts.specs.Pick.{pick, both}
 use Rattle.facts.specs.Pieces.{pieces}
 use Rattle.facts.specs.Same.{same_bytes}
 use Rattle.facts.specs.Search.{first, is_found}
-use Rattle.facts.specs.declared.Found.{Found}
 use Rattle.editions.specs.declared.Edition.{Edition}
 use Rattle.wire.specs.Le.{field, padded}
 use Rattle.fields.specs.Fields.{symbol_of}
@@ -31,9 +30,9 @@ abbrev pub type_of : List ℕ → ℕ
 type_of x = get_or x 12 0
 
 -- the type of the first exception that names the symbol, else the one for all
-abbrev pub type_at : Found → List (List ℕ) → ℕ → ℕ
-type_at (Found.At i) xs all = type_of (get_or xs i [])
-type_at Found.Nothing xs all = all
+abbrev pub type_at : Option ℕ → List (List ℕ) → ℕ → ℕ
+type_at (Some i) xs all = type_of (get_or xs i [])
+type_at None xs all = all
 
 unfoldable pub type_for : ℕ → List ℕ → List ℕ → ℕ
 type_for all others b = type_at (first (λ x. names x b) 0 (exceptions others)) (exceptions others) all

@@ -7,7 +7,6 @@ ghost use Rattle.retype.specs.Types.{exceptions, whole_exceptions, names as name
 ghost use Rattle.retype.specs.Retyped.{asked, byte_in, retyping, retypes};
 
 use editions::Edition;
-use facts::Found;
 
 // The bytes of an exception.
 pub const EXCEPTION_SIZE: usize = 13;
@@ -53,18 +52,18 @@ fn exception_in(others: &[u8], i: usize) -> &[u8]
 }
 
 // The first exception that names the symbol of a Symbol Update.
-fn find_name(others: &[u8], b: &[u8]) -> Found
+fn find_name(others: &[u8], b: &[u8]) -> Option<usize>
     ensures { result ≡ first (λ x. names_symbol x b.now) 0 (exceptions others.now) }
 {
     let end = exception_count(others);
     let mut i = 0;
     while i < end {
         if names(exception_in(others, i), b) {
-            return Found::At(i);
+            return Some(i);
         }
         i += 1;
     }
-    Found::Nothing
+    None
 }
 
 // Its type, else the one for all.
@@ -72,8 +71,8 @@ pub fn type_for(all: u8, others: &[u8], b: &[u8]) -> u8
     ensures { result ≡ type_for all others.now b.now }
 {
     match find_name(others, b) {
-        Found::At(i) => wire::u8_at(exception_in(others, i), 12),
-        Found::Nothing => all,
+        Some(i) => wire::u8_at(exception_in(others, i), 12),
+        None => all,
     }
 }
 
@@ -85,18 +84,18 @@ fn is_bad(e: Edition, x: &[u8]) -> bool
 }
 
 // The first exception whose type is none of the edition's.
-fn find_bad(e: Edition, others: &[u8]) -> Found
+fn find_bad(e: Edition, others: &[u8]) -> Option<usize>
     ensures { result ≡ first (bad_type e) 0 (exceptions others.now) }
 {
     let end = exception_count(others);
     let mut i = 0;
     while i < end {
         if is_bad(e, exception_in(others, i)) {
-            return Found::At(i);
+            return Some(i);
         }
         i += 1;
     }
-    Found::Nothing
+    None
 }
 
 // Each type that is asked for is one of the edition's.
@@ -107,8 +106,8 @@ pub fn types_ok(e: Edition, all: u8, others: &[u8]) -> bool
         return false;
     }
     match find_bad(e, others) {
-        Found::At(_) => false,
-        Found::Nothing => true,
+        Some(_) => false,
+        None => true,
     }
 }
 

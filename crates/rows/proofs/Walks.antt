@@ -9,7 +9,7 @@ use native.Mathlib.Omega.{arith}
 use lib.ListN.{length, get_or, drop}
 use Rattle.facts.specs.Search.{first}
 use Rattle.facts.specs.Sums.{sum_by, only_if, count_by}
-use Rattle.facts.specs.declared.Found.TheVariants.{At, Nothing}
+use Rattle.std.specs.Prelude.{Some, None}
 use Rattle.facts.proofs.Lists.{map_to, map_more, map_all}
 use Rattle.facts.proofs.Searches.{first_hit, first_miss, first_end, first_at}
 use Rattle.facts.proofs.SumLaws.{sum_step, sum_end, sum_bound, only_bound}
@@ -22,23 +22,23 @@ use Rattle.rows.proofs.Judged.{live_ranges}
 
 -- ---- searches: a walk at row i, and where a found row lies
 module _ (p : Row → Bool) (t : List ℕ) (i : ℕ) where
-  pub row_hit : i < row_count t → p (get_or (rows t) i zero_row) ≡ true → first p i (drop i (rows t)) ≡ At i
+  pub row_hit : i < row_count t → p (get_or (rows t) i zero_row) ≡ true → first p i (drop i (rows t)) ≡ Some i
   row_hit h e = first_hit p (rows t) i zero_row (rw length_rows h) e
 
   pub row_miss : i < row_count t → p (get_or (rows t) i zero_row) ≡ false → first p i (drop i (rows t)) ≡ first p (i + 1) (drop (i + 1) (rows t))
   row_miss h e = first_miss p (rows t) i zero_row (rw length_rows h) e
 
-  pub row_end : row_count t ≤ i → first p i (drop i (rows t)) ≡ Nothing
+  pub row_end : row_count t ≤ i → first p i (drop i (rows t)) ≡ None
   row_end h = first_end p (rows t) i (rw length_rows h)
 
-  pub row_below : first p 0 (rows t) ≡ At i → (i < row_count t) × (p (get_or (rows t) i zero_row) ≡ true)
+  pub row_below : first p 0 (rows t) ≡ Some i → (i < row_count t) × (p (get_or (rows t) i zero_row) ≡ true)
   row_below e = let w = first_at p 0 (rows t) i zero_row e in (omega (arith, w.1, length_rows t), rw (sub-zero i) at w.2)
 
-pub order_below : (id : ℕ) (t : List ℕ) (i : ℕ) → find_order id (rows t) ≡ At i → (i < row_count t) × (is_order id (get_or (rows t) i zero_row) ≡ true)
+pub order_below : (id : ℕ) (t : List ℕ) (i : ℕ) → find_order id (rows t) ≡ Some i → (i < row_count t) × (is_order id (get_or (rows t) i zero_row) ≡ true)
 unfolding find_order
 order_below id t i e = row_below (is_order id) t i e
 
-pub free_row_below : (t : List ℕ) (i : ℕ) → find_free (rows t) ≡ At i → (i < row_count t) × (free (get_or (rows t) i zero_row) ≡ true)
+pub free_row_below : (t : List ℕ) (i : ℕ) → find_free (rows t) ≡ Some i → (i < row_count t) × (free (get_or (rows t) i zero_row) ≡ true)
 unfolding find_free
 free_row_below t i e = row_below free t i e
 

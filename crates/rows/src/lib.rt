@@ -7,7 +7,6 @@ ghost use Rattle.rows.specs.Keys.{key_for, symbol_in, side_in, side_of};
 ghost use Rattle.rows.specs.Rows.{rows, row_count, put_row, zero_row, free, live, good_rows};
 ghost use Rattle.rows.specs.Find.{is_order, find_order, find_free, held_at, of_symbol, of_key, count_live};
 
-use facts::Found;
 
 // "five to a row"
 pub const ROW_SIZE: usize = 5;
@@ -20,13 +19,6 @@ pub struct Row {
     pub price: u64,
     pub size: u64,
     pub rank: u64,
-}
-
-// What stands under an order ID: the place of its row and the row, or nothing.
-#[derive(Clone, Copy)]
-pub enum Held {
-    Live(usize, Row),
-    Nowhere,
 }
 
 // The symbol ID times 2 plus the side, buy 0 and sell 1.
@@ -202,48 +194,48 @@ pub fn good_rows(n: usize) -> bool
     true
 }
 
-pub fn find_order(t: &[u64], id: u64) -> Found
+pub fn find_order(t: &[u64], id: u64) -> Option<usize>
     ensures { result ≡ find_order id (rows t.now) }
 {
     let end = row_count(t);
     let mut i = 0;
     while i < end {
         if is_order(row_in(t, i), id) {
-            return Found::At(i);
+            return Some(i);
         }
         i += 1;
     }
-    Found::Nothing
+    None
 }
 
 // The lowest free row from row s on.
-pub fn free_from(t: &[u64], s: usize) -> Found
+pub fn free_from(t: &[u64], s: usize) -> Option<usize>
     ensures { result ≡ first free s (drop s (rows t.now)) }
 {
     let n = row_count(t);
     let mut i = s;
     while i < n {
         if is_free(row_in(t, i)) {
-            return Found::At(i);
+            return Some(i);
         }
         i += 1;
     }
-    Found::Nothing
+    None
 }
 
-pub fn find_free(t: &[u64]) -> Found
+pub fn find_free(t: &[u64]) -> Option<usize>
     ensures { result ≡ find_free (rows t.now) }
 {
     free_from(t, 0)
 }
 
 // The row that a search ended at, whichever search it was.
-pub fn held_at(t: &[u64], at: Found) -> Held
+pub fn held_at(t: &[u64], at: Option<usize>) -> Option<(usize, Row)>
     ensures { result ≡ held_at at (rows t.now) }
 {
     match at {
-        Found::At(i) => Held::Live(i, row_at(t, i)),
-        Found::Nothing => Held::Nowhere,
+        Some(i) => Some((i, row_at(t, i))),
+        None => None,
     }
 }
 

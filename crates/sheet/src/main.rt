@@ -2,14 +2,13 @@
 // carved out by `recording`, and the sheet is what `answer_sheet` writes.
 #![tactic(auto)]
 
-use answer_sheet::{Recording, SheetAnswer};
+use answer_sheet::Recording;
 use editions::Edition;
-use receiver::{Started, State};
-use recording::{Fed, Stream};
+use receiver::State;
+use recording::Stream;
 use std::env::Env;
 use std::io;
 use std::io::{ErrorKind, Read};
-use words::Named;
 
 // "It uses full capacities"; of rows "the sheet program keeps 1,600" (document 02, No. 9)
 const ORDERS: usize = rows::ROW_SIZE * facts::SHEET_ROWS;
@@ -147,8 +146,8 @@ fn edition_asked(rt: &impl Env) -> Named {
 // A sheet, in the edition that the words ask for; or one word alone.
 fn task_asked(rt: &impl Env) -> Task {
     match edition_asked(rt) {
-        Named::Known(e) => Task::Sheet(e),
-        Named::Unknown => word_alone(rt),
+        Some(e) => Task::Sheet(e),
+        None => word_alone(rt),
     }
 }
 
@@ -180,8 +179,8 @@ fn work(
     text: &mut [u8],
 ) {
     match receiver::start(e, orders, symbols, shelf, index) {
-        Started::Refused(_) => refused(rt),
-        Started::Ready(s) => follow(rt, orders, symbols, shelf, index, hold, block, s, text),
+        Err(_) => refused(rt),
+        Ok(s) => follow(rt, orders, symbols, shelf, index, hold, block, s, text),
     }
 }
 
@@ -276,10 +275,10 @@ fn turn(
 }
 
 // What a block came to.
-fn told(f: Fed) -> Outcome {
+fn told(f: Result<Stream, Refusal>) -> Outcome {
     match f {
-        Fed::Took(t) => Outcome::More(t),
-        Fed::Refused(_) => Outcome::Refused,
+        Ok(t) => Outcome::More(t),
+        Err(_) => Outcome::Refused,
     }
 }
 
@@ -291,8 +290,8 @@ fn print(rt: &(impl Print + Eprint), orders: &[u64], symbols: &[u8], text: &mut 
     };
     let state = s.receiver;
     match answer_sheet::sheet(text, orders, symbols, state, s.bad, word) {
-        SheetAnswer::Length(n) => show(rt, text, n),
-        SheetAnswer::Refused(_) => refused(rt),
+        Ok(n) => show(rt, text, n),
+        Err(_) => refused(rt),
     }
 }
 

@@ -8,7 +8,6 @@ ghost use Rattle.symbols.specs.Entries.{good_entries, entries, put_entry, used, 
 ghost use Rattle.symbols.specs.Find.{is_symbol, find_symbol, find_free_entry, known_symbol, place_for, count_used};
 ghost use Rattle.symbols.specs.Work.{entered};
 
-use facts::Found;
 use fields::Symbol;
 
 // The type byte of an entry in use.
@@ -16,13 +15,6 @@ const USED: u8 = 1;
 
 // The type byte of a free entry.
 const FREE: u8 = 0;
-
-// The work of a message on the symbol table: the entry that its body becomes.
-#[derive(Clone, Copy)]
-pub enum EntryWork {
-    Keep,
-    Put(usize),
-}
 
 // A table of n bytes holds whole entries, and as many as it may.
 pub fn good_entries(n: usize) -> bool
@@ -107,32 +99,32 @@ pub fn is_symbol_at(t: &[u8], i: usize, id: u32) -> bool
     is_symbol(entry_bytes(t, i), id)
 }
 
-pub fn find_symbol(t: &[u8], id: u32) -> Found
+pub fn find_symbol(t: &[u8], id: u32) -> Option<usize>
     ensures { result ≡ find_symbol id (entries t.now) }
 {
     let end = entry_count(t);
     let mut i = 0;
     while i < end {
         if is_symbol(entry_in(t, i), id) {
-            return Found::At(i);
+            return Some(i);
         }
         i += 1;
     }
-    Found::Nothing
+    None
 }
 
-fn find_free_entry(t: &[u8]) -> Found
+fn find_free_entry(t: &[u8]) -> Option<usize>
     ensures { result ≡ find_free_entry (entries t.now) }
 {
     let end = entry_count(t);
     let mut i = 0;
     while i < end {
         if is_free(entry_in(t, i)) {
-            return Found::At(i);
+            return Some(i);
         }
         i += 1;
     }
-    Found::Nothing
+    None
 }
 
 pub fn known(t: &[u8], id: u32) -> bool
@@ -140,18 +132,18 @@ pub fn known(t: &[u8], id: u32) -> bool
 {
     let f = find_symbol(t, id);
     match f {
-        Found::At(_) => true,
-        Found::Nothing => false,
+        Some(_) => true,
+        None => false,
     }
 }
 
-pub fn find_place(t: &[u8], id: u32) -> Found
+pub fn find_place(t: &[u8], id: u32) -> Option<usize>
     ensures { result ≡ place_for id (entries t.now) }
 {
     let own = find_symbol(t, id);
     match own {
-        Found::At(i) => Found::At(i),
-        Found::Nothing => find_free_entry(t),
+        Some(i) => Some(i),
+        None => find_free_entry(t),
     }
 }
 
@@ -167,12 +159,12 @@ fn put_entry(t: &mut [u8], i: usize, body: &[u8])
 }
 
 // The one function that changes the symbol table.
-pub fn commit(t: &mut [u8], w: EntryWork, body: &[u8])
+pub fn commit(t: &mut [u8], w: Option<usize>, body: &[u8])
     ensures { t.new ≡ entered w body.now t.old }
 {
     match w {
-        EntryWork::Keep => {}
-        EntryWork::Put(i) => put_entry(t, i, body),
+        None => {}
+        Some(i) => put_entry(t, i, body),
     }
 }
 

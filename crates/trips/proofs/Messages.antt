@@ -35,7 +35,7 @@ use Rattle.fields.specs.declared.SystemState.{SystemState}
 use Rattle.fields.specs.declared.Body.{Body}
 use Rattle.body.specs.Faults.{tests, fault_from, fault_of}
 use Rattle.body.specs.Read.{ranged, judge_body, judged_number, read_body}
-use Rattle.body.specs.declared.Judged.{Judged}
+use Rattle.std.specs.Prelude.{Ok, Err}
 use Rattle.body.specs.Ranges.{security_ok}
 use Rattle.body.proofs.Laws.{Framed, Sound, no_fault, judge_framed, read_framed, read_sound}
 use Rattle.trips.specs.Messages.{fault_in, Rewritten}
@@ -71,7 +71,7 @@ unfolding ranged
 judged_written ed k t vs f =
     let b : List ℕ = body_for k vs in
     ap judged_number (judge_framed ed k b (framed_written k t vs f))
-    ∙ (pick_map judged_number (eqb (fault_of ed k b) 0) (Judged.Good k) (Judged.Bad (bad_at 4 (fault_of ed k b)))
+    ∙ (pick_map judged_number (eqb (fault_of ed k b) 0) (Ok k) (Err (bad_at 4 (fault_of ed k b)))
     ∙ ap (λ (n : ℕ). pick (eqb n 0) 0 4) (fault_written ed k vs f))
 
 -- ---- every struct

@@ -12,7 +12,7 @@ use Rattle.rows.specs.declared.Row.{Row}
 use Rattle.ascend.specs.Ascend.{least_from}
 use Rattle.ascend.proofs.Places.{All}
 use Rattle.views.specs.declared.Side.{Side}
-use Rattle.views.specs.declared.SpreadAnswer.{SpreadAnswer}
+use Rattle.std.specs.Prelude.{Some, None, Ok}
 use Rattle.views.specs.Ladder.{key_of, far, places_of, prices}
 use Rattle.views.specs.Nearest.{beyond}
 use Rattle.views.specs.Spread.{between, spread_of}
@@ -28,16 +28,16 @@ module _ (k : ℕ) (rs : List Row) (d : ℕ) (e : d ≡ least_from beyond 0 (pla
   best_price h = sym (prices_start k rs) ∙ prices_next k rs 0 d e h
 
 module _ (s : ℕ) (rs : List Row) (b : ℕ) (e : b ≡ least_from beyond 0 (places_of (key_of Side.Buy s) rs)) where
-  pub no_bid : most_price < b → SpreadAnswer.Empty ≡ spread_of s rs
+  pub no_bid : most_price < b → Ok None ≡ spread_of s rs
   unfolding spread_of between
   no_bid h = rw (no_price (key_of Side.Buy s) rs b e h)
 
   module _ (l : b ≤ most_price) (a : ℕ) (f : a ≡ least_from beyond 0 (places_of (key_of Side.Sell s) rs)) where
-    pub no_offer : most_price < a → SpreadAnswer.Empty ≡ spread_of s rs
+    pub no_offer : most_price < a → Ok None ≡ spread_of s rs
     unfolding spread_of between
     no_offer h = rw (best_price (key_of Side.Buy s) rs b e l, no_price (key_of Side.Sell s) rs a f h)
 
-    pub two_sided : a ≤ most_price → SpreadAnswer.Of (pos a -ℤ pos (most_price - b)) ≡ spread_of s rs
+    pub two_sided : a ≤ most_price → Ok (Some (pos a -ℤ pos (most_price - b))) ≡ spread_of s rs
     unfolding spread_of between
     two_sided h = rw (best_price (key_of Side.Buy s) rs b e l, best_price (key_of Side.Sell s) rs a f h, bid_far s b, offer_far s a)
 
@@ -56,13 +56,13 @@ pub record Sides (s : ℕ) (rs : List Row) (z : ℤ) : Type 0 where
   pub locked_zero : offer ≡ bid → z ≡ pos 0
   pub size : nat_abs z ≤ most_price
 
-pub between_none : (bs : List ℕ) → between bs [] ≡ SpreadAnswer.Empty
+pub between_none : (bs : List ℕ) → between bs [] ≡ Ok None
 unfolding between
 between_none [] = refl
 between_none (b ∷ bs) = refl
 
 pub sides : (s : ℕ) (rs : List Row) (z : ℤ) (bs : List ℕ) → prices (key_of Side.Buy s) rs ≡ bs → All (λ p. p ≤ most_price) bs
-    → (os : List ℕ) → prices (key_of Side.Sell s) rs ≡ os → All (λ p. p ≤ most_price) os → between bs os ≡ SpreadAnswer.Of z → Sides s rs z
+    → (os : List ℕ) → prices (key_of Side.Sell s) rs ≡ os → All (λ p. p ≤ most_price) os → between bs os ≡ Ok (Some z) → Sides s rs z
 unfolding between
 sides s rs z [] p h os q l f = let x : ◌≡◌ {A = ℕ} 0 1 = cc in absurd (omega arith)
 sides s rs z (b ∷ bs) p h [] q l f = let x : ◌≡◌ {A = ℕ} 0 1 = cc in absurd (omega arith)

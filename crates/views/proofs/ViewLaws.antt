@@ -14,8 +14,7 @@ use Rattle.rows.specs.Rows.{rows, good_rows}
 use Rattle.symbols.specs.Entries.{entries}
 use Rattle.symbols.specs.Find.{known_symbol}
 use Rattle.views.specs.declared.Side.{Side}
-use Rattle.views.specs.declared.LadderAnswer.{LadderAnswer}
-use Rattle.views.specs.declared.SpreadAnswer.{SpreadAnswer}
+use Rattle.std.specs.Prelude.{Ok, Err}
 use Rattle.views.specs.Ladder.{key_of, ladder, written, Laid, laid_out, ladder_run}
 use Rattle.views.specs.Spread.{spread_of}
 use Rattle.views.specs.Views.{good_tables, view_fault, ladder_out, ladder_view, spread_view}
@@ -45,20 +44,20 @@ module _ (s : ℕ) (orders symbols : List ℕ) where
 
   -- ---- the ladder
   module _ (side : Side) (out : List ℕ) where
-    pub ladder_refused : (view_fault s orders symbols ≡ 0 → ⊥) → ladder_out (LadderAnswer.Refused (refusal (view_fault s orders symbols))) out ≡ ladder_view side s orders symbols out
+    pub ladder_refused : (view_fault s orders symbols ≡ 0 → ⊥) → ladder_out (Err (refusal (view_fault s orders symbols))) out ≡ ladder_view side s orders symbols out
     unfolding ladder_view pick
     ladder_refused n = rw (ne_eqb (view_fault s orders symbols) 0 n)
 
     pub ladder_shown : view_fault s orders symbols ≡ 0 → (n : ℕ) (u : List ℕ) → laid_out n u ≡ ladder_run (key_of side s) orders out
-        → ladder_out (LadderAnswer.Levels n) u ≡ ladder_view side s orders symbols out
+        → ladder_out (Ok n) u ≡ ladder_view side s orders symbols out
     unfolding ladder_view ladder_run good_tables pick
     ladder_shown e n u f =
         let g : good_rows (length orders) ≡ true = (both_true (fault_none e).0).0 in
         let w : laid_out n u ≡ laid_out (length (ladder (key_of side s) (rows orders))) (written (ladder (key_of side s) (rows orders)) out) = f ∙ rw g in
-        rw (eq-eqb (view_fault s orders symbols) 0 e) (ap (λ (x : Laid). ladder_out (LadderAnswer.Levels x.count) x.run) w)
+        rw (eq-eqb (view_fault s orders symbols) 0 e) (ap (λ (x : Laid). ladder_out (Ok x.count) x.run) w)
 
   -- ---- the spread
-  pub spread_refused : (view_fault s orders symbols ≡ 0 → ⊥) → SpreadAnswer.Refused (refusal (view_fault s orders symbols)) ≡ spread_view s orders symbols
+  pub spread_refused : (view_fault s orders symbols ≡ 0 → ⊥) → Err (refusal (view_fault s orders symbols)) ≡ spread_view s orders symbols
   unfolding spread_view pick
   spread_refused n = rw (ne_eqb (view_fault s orders symbols) 0 n)
 

@@ -29,32 +29,11 @@ pub struct Level {
     pub orders: u64,
 }
 
-// The number of all levels, written or not.
-#[derive(Clone, Copy)]
-pub enum LadderAnswer {
-    Levels(usize),
-    Refused(Refusal),
-}
-
 // Live orders and used entries.
 #[derive(Clone, Copy)]
 pub struct Sizes {
     pub orders: usize,
     pub symbols: usize,
-}
-
-#[derive(Clone, Copy)]
-pub enum CountsAnswer {
-    Are(Sizes),
-    Refused(Refusal),
-}
-
-// Best offer less best bid; Empty where a side has no order.
-#[derive(Clone, Copy)]
-pub enum SpreadAnswer {
-    Of(i64),
-    Empty,
-    Refused(Refusal),
 }
 
 pub fn key_of(symbol: u32, side: Side) -> u64
@@ -183,18 +162,18 @@ fn minus(a: u64, b: u64) -> i64
 }
 
 // The spread of a symbol, for a caller that knows it; never Refused.
-fn spread_of(orders: &[u64], symbol: u32) -> SpreadAnswer
+fn spread_of(orders: &[u64], symbol: u32) -> Result<Option<i64>, Refusal>
     ensures { result ≡ spread_of symbol (rows orders.now) }
 {
     let bid = nearest(orders, key_of(symbol, Side::Buy), 0);
     if bid > facts::MOST_PRICE {
-        return SpreadAnswer::Empty;
+        return Ok(None);
     }
     let offer = nearest(orders, key_of(symbol, Side::Sell), 0);
     if offer > facts::MOST_PRICE {
-        return SpreadAnswer::Empty;
+        return Ok(None);
     }
-    SpreadAnswer::Of(minus(offer, facts::MOST_PRICE - bid))
+    Ok(Some(minus(offer, facts::MOST_PRICE - bid)))
 }
 
 fn good_tables(orders: &[u64], symbols: &[u8]) -> bool
@@ -226,35 +205,35 @@ pub fn ladder(
     symbol: u32,
     side: Side,
     out: &mut [u64],
-) -> LadderAnswer
+) -> Result<usize, Refusal>
     ensures { ladder_out result out.new ≡ ladder_view side symbol orders.now symbols.now out.old }
 {
     let fault = view_fault(orders, symbols, symbol);
     if fault != 0 {
-        return LadderAnswer::Refused(Refusal { number: fault });
+        return Err(Refusal { number: fault });
     }
-    LadderAnswer::Levels(ladder_of(orders, key_of(symbol, side), out))
+    Ok(ladder_of(orders, key_of(symbol, side), out))
 }
 
 // Best offer less best bid of a symbol, in millionths of a dollar.
-pub fn spread(orders: &[u64], symbols: &[u8], symbol: u32) -> SpreadAnswer
+pub fn spread(orders: &[u64], symbols: &[u8], symbol: u32) -> Result<Option<i64>, Refusal>
     ensures { result ≡ spread_view symbol orders.now symbols.now }
 {
     let fault = view_fault(orders, symbols, symbol);
     if fault != 0 {
-        return SpreadAnswer::Refused(Refusal { number: fault });
+        return Err(Refusal { number: fault });
     }
     spread_of(orders, symbol)
 }
 
 // How many orders are live and how many entries in use.
-pub fn counts(orders: &[u64], symbols: &[u8]) -> CountsAnswer
+pub fn counts(orders: &[u64], symbols: &[u8]) -> Result<Sizes, Refusal>
     ensures { result ≡ counts_view orders.now symbols.now }
 {
     if !good_tables(orders, symbols) {
-        return CountsAnswer::Refused(Refusal { number: 6 });
+        return Err(Refusal { number: 6 });
     }
-    CountsAnswer::Are(Sizes {
+    Ok(Sizes {
         orders: rows::count_live(orders),
         symbols: symbols::count_used(symbols),
     })

@@ -7,40 +7,34 @@ ghost use Rattle.words.specs.Types.{all_from, decimal_from, by_id, by_ticker, as
 
 use editions::Edition;
 
-#[derive(Clone, Copy)]
-pub enum Named {
-    Known(Edition),
-    Unknown,
-}
-
 // The edition of a name.
-pub fn edition_named(w: &[u8]) -> Named
+pub fn edition_named(w: &[u8]) -> Option<Edition>
     ensures { result ≡ edition_named w.now }
 {
     if check::same(w, b"1.3") {
-        return Named::Known(Edition::V13);
+        return Some(Edition::V13);
     }
     if check::same(w, b"1.3.a") {
-        return Named::Known(Edition::V13b);
+        return Some(Edition::V13b);
     }
     if check::same(w, b"1.3.b") {
-        return Named::Known(Edition::V13b);
+        return Some(Edition::V13b);
     }
-    Named::Unknown
+    None
 }
 
 // The edition that a program's words ask for: how many they are, the program's own name among them, and the two behind it.
-pub fn edition_asked(count: usize, first: &[u8], second: &[u8]) -> Named
+pub fn edition_asked(count: usize, first: &[u8], second: &[u8]) -> Option<Edition>
     ensures { result ≡ edition_asked count first.now second.now }
 {
     if count <= 1 {
-        return Named::Known(Edition::V13b);
+        return Some(Edition::V13b);
     }
     if count != 3 {
-        return Named::Unknown;
+        return None;
     }
     if !check::same(first, b"--edition") {
-        return Named::Unknown;
+        return None;
     }
     edition_named(second)
 }

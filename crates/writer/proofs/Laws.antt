@@ -21,11 +21,11 @@ use Rattle.fields.specs.declared.Refusal.{Refusal}
 use Rattle.fields.specs.declared.Fault.{Fault}
 use Rattle.packet.specs.Record.{number_ok}
 use Rattle.packet.specs.Packet.{read_packet}
-use Rattle.packet.specs.declared.Packet.{Packet}
+use Rattle.std.specs.Prelude.{Result, Ok, Err}
+use Rattle.packet.specs.declared.Why.{Why}
 use Rattle.trips.specs.Records.{record_bytes, length_first}
 use Rattle.trips.proofs.Records.{length_record}
 use Rattle.writer.specs.Append.{writing, refused_by, put, where_read, behind, room_number, so_far, own_number}
-use Rattle.writer.specs.declared.Wrote.{Wrote}
 
 -- ---- runs stored one behind the other
 stored_two : (t a b : List ℕ) (at n : ℕ) → length a ≡ n → sets (sets t at a) (at + n) b ≡ sets t at (a ++ b)
@@ -103,32 +103,32 @@ pub put_refused : (k : ℕ) (m : List ℕ) (at : ℕ) (s : List ℕ) → (k ≡ 
 unfolding put pick
 put_refused k m at s d = rw (ne_eqb k 0 d) refl
 
-pub put_stored : (k : ℕ) (m : List ℕ) (at : ℕ) (s : List ℕ) → k ≡ 0 → writing (Wrote.Length (at + length s)) (sets m at s) ≡ put k m at s
+pub put_stored : (k : ℕ) (m : List ℕ) (at : ℕ) (s : List ℕ) → k ≡ 0 → writing (Ok (at + length s)) (sets m at s) ≡ put k m at s
 unfolding put pick
 put_stored k m at s z = rw (eq-eqb k 0 z) refl
 
 -- ---- beyond the memory, or as reading says
-pub beyond : (r : Packet) (k : ℕ) (m : List ℕ) (at : ℕ) (s : List ℕ) → length m < at → refused_by 32 m ≡ behind r k m at s
+pub beyond : (r : Result ℕ Why) (k : ℕ) (m : List ℕ) (at : ℕ) (s : List ℕ) → length m < at → refused_by 32 m ≡ behind r k m at s
 unfolding behind pick
 beyond r k m at s l = rw (lt-leb at (length m) l) refl
 
-pub within : (r : Packet) (k : ℕ) (m : List ℕ) (at : ℕ) (s : List ℕ) → at ≤ length m → where_read r m (put k m at s) ≡ behind r k m at s
+pub within : (r : Result ℕ Why) (k : ℕ) (m : List ℕ) (at : ℕ) (s : List ℕ) → at ≤ length m → where_read r m (put k m at s) ≡ behind r k m at s
 unfolding behind pick
 within r k m at s l = rw (le-leb at (length m) l) refl
 
 -- by what the reader said
-module _ (r : Packet) (k : ℕ) (m : List ℕ) (at : ℕ) (s : List ℕ) where
-  pub refused_here : (x : Refusal) → at ≤ length m → r ≡ Packet.Refused x → writing (Wrote.Refused x) m ≡ behind r k m at s
+module _ (r : Result ℕ Why) (k : ℕ) (m : List ℕ) (at : ℕ) (s : List ℕ) where
+  pub refused_here : (x : Refusal) → at ≤ length m → r ≡ Err (Why.Alone x) → writing (Err (Why.Alone x)) m ≡ behind r k m at s
   unfolding where_read
-  refused_here x l e = ap (λ (y : Packet). where_read y m (put k m at s)) (sym e) ∙ within r k m at s l
+  refused_here x l e = ap (λ (y : Result ℕ Why). where_read y m (put k m at s)) (sym e) ∙ within r k m at s l
 
-  pub bad_here : (x : Fault) → at ≤ length m → r ≡ Packet.Bad x → writing (Wrote.Bad x) m ≡ behind r k m at s
+  pub bad_here : (x : Fault) → at ≤ length m → r ≡ Err (Why.Placed x) → writing (Err (Why.Placed x)) m ≡ behind r k m at s
   unfolding where_read
-  bad_here x l e = ap (λ (y : Packet). where_read y m (put k m at s)) (sym e) ∙ within r k m at s l
+  bad_here x l e = ap (λ (y : Result ℕ Why). where_read y m (put k m at s)) (sym e) ∙ within r k m at s l
 
-  pub good_here : (n : ℕ) → at ≤ length m → r ≡ Packet.Good n → put k m at s ≡ behind r k m at s
+  pub good_here : (n : ℕ) → at ≤ length m → r ≡ Ok n → put k m at s ≡ behind r k m at s
   unfolding where_read
-  good_here n l e = ap (λ (y : Packet). where_read y m (put k m at s)) (sym e) ∙ within r k m at s l
+  good_here n l e = ap (λ (y : Result ℕ Why). where_read y m (put k m at s)) (sym e) ∙ within r k m at s l
 
 -- ---- a record, as the code goes
 pub room_test : (used head n room : ℕ) → head + n ≤ room → leb used (room - head - n) ≡ leb (used + (head + n)) room
@@ -141,9 +141,9 @@ module _ (why n : ℕ) (m : List ℕ) (at : ℕ) (b : List ℕ) (k : ℕ) where
   pub put_own_refused : k ≡ own_number why n (length m) (at + (10 + length b)) → (k ≡ 0 → ⊥) → refused_by k m ≡ put (own_number why n (length m) (at + length (record_bytes n b))) m at (record_bytes n b)
   put_own_refused e z = put_refused k m at (record_bytes n b) z ∙ ap (λ (j : ℕ). put j m at (record_bytes n b)) (own_is e)
 
-  pub put_own_stored : (m1 : List ℕ) → k ≡ own_number why n (length m) (at + (10 + length b)) → k ≡ 0 → m1 ≡ sets m at (record_bytes n b) → writing (Wrote.Length (at + (10 + length b))) m1 ≡ put (own_number why n (length m) (at + length (record_bytes n b))) m at (record_bytes n b)
+  pub put_own_stored : (m1 : List ℕ) → k ≡ own_number why n (length m) (at + (10 + length b)) → k ≡ 0 → m1 ≡ sets m at (record_bytes n b) → writing (Ok (at + (10 + length b))) m1 ≡ put (own_number why n (length m) (at + length (record_bytes n b))) m at (record_bytes n b)
   put_own_stored m1 e z w =
-      (λ i. writing (Wrote.Length (at + sym (length_record n b) i)) (w i))
+      (λ i. writing (Ok (at + sym (length_record n b) i)) (w i))
       ∙ (put_stored k m at (record_bytes n b) z ∙ ap (λ (j : ℕ). put j m at (record_bytes n b)) (own_is e))
 
 -- ---- a packet, as the code goes
@@ -156,15 +156,15 @@ module _ (m : List ℕ) (at : ℕ) (p : List ℕ) where
   unfolding pick
   put_packet_refused e = put_refused 32 m at (length_first p) (λ z. omega arith) ∙ ap (λ (j : ℕ). put j m at (length_first p)) (sym (room_is false e))
 
-  pub put_packet_stored : (m1 m2 : List ℕ) → leb (at + (2 + length p)) (length m) ≡ true → m1 ≡ sets m at (to_le 2 (length p)) → m2 ≡ sets m1 (at + 2) p → writing (Wrote.Length (at + (2 + length p))) m2 ≡ put (room_number (length m) (at + length (length_first p))) m at (length_first p)
+  pub put_packet_stored : (m1 m2 : List ℕ) → leb (at + (2 + length p)) (length m) ≡ true → m1 ≡ sets m at (to_le 2 (length p)) → m2 ≡ sets m1 (at + 2) p → writing (Ok (at + (2 + length p))) m2 ≡ put (room_number (length m) (at + length (length_first p))) m at (length_first p)
   unfolding pick
   put_packet_stored m1 m2 e f g =
       let w : m2 ≡ sets m at (length_first p) = g ∙ (ap (λ (x : List ℕ). sets x (at + 2) p) f ∙ packet_put m p at) in
-      (λ i. writing (Wrote.Length (at + sym (length_first_lem p) i)) (w i))
+      (λ i. writing (Ok (at + sym (length_first_lem p) i)) (w i))
       ∙ (put_stored 0 m at (length_first p) refl ∙ ap (λ (j : ℕ). put j m at (length_first p)) (sym (room_is true e)))
 
 -- ---- the packet so far
-pub so_far_empty : (ed : Edition) (p : List ℕ) → length p ≡ 0 → Packet.Good 0 ≡ so_far ed p
+pub so_far_empty : (ed : Edition) (p : List ℕ) → length p ≡ 0 → Ok 0 ≡ so_far ed p
 unfolding so_far pick
 so_far_empty ed p e = rw (eq-eqb (length p) 0 e) refl
 

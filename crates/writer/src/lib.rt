@@ -9,15 +9,7 @@ ghost use Rattle.writer.specs.Append.{writing, put, so_far, room_number, own_num
 
 use editions::Edition;
 use fields::{Fault, Refusal};
-use packet::Packet;
-
-// The new length of the packet or recording; else a refusal by its number alone, or why and at which byte what was read is bad.
-#[derive(Clone, Copy)]
-pub enum Wrote {
-    Length(usize),
-    Refused(Refusal),
-    Bad(Fault),
-}
+use packet::Why;
 
 // Whether a head and n bytes fit behind those that are used. No sum of them need fit.
 fn room_for(room: usize, head: usize, used: usize, n: usize) -> bool
@@ -53,12 +45,12 @@ fn own_number(why: u8, number: u64, room: usize, used: usize, n: usize) -> u8
 }
 
 // The packet so far, as reading judges it; an empty one is good.
-fn so_far(e: Edition, memory: &[u8], used: usize) -> Packet
+fn so_far(e: Edition, memory: &[u8], used: usize) -> Result<usize, Why>
     requires { used ≤ length memory.now }
     ensures { result ≡ so_far e (take used memory.now) }
 {
     if used == 0 {
-        return Packet::Good(0);
+        return Ok(0);
     }
     packet::read_packet(e, &memory[..used])
 }
@@ -74,33 +66,33 @@ fn put_record(memory: &mut [u8], at: usize, number: u64, body: &[u8])
 }
 
 // The record behind a good packet so far, where nothing refuses it.
-fn put_own(memory: &mut [u8], used: usize, number: u64, why: u8, body: &[u8]) -> Wrote
+fn put_own(memory: &mut [u8], used: usize, number: u64, why: u8, body: &[u8]) -> Result<usize, Why>
     ensures { writing result memory.new ≡ put (own_number why number (length memory.old) (used + length (record_bytes number body.now))) memory.old used (record_bytes number body.now) }
 {
     let k = own_number(why, number, memory.len(), used, body.len());
     if k != 0 {
-        return Wrote::Refused(Refusal { number: k });
+        return Err(Why::Alone(Refusal { number: k }));
     }
     put_record(memory, used, number, body);
-    Wrote::Length(used + (10 + body.len()))
+    Ok(used + (10 + body.len()))
 }
 
 // A record, whose message is refused by why or is the body, behind a packet so far.
-fn append_as(e: Edition, memory: &mut [u8], used: usize, number: u64, why: u8, body: &[u8]) -> Wrote
+fn append_as(e: Edition, memory: &mut [u8], used: usize, number: u64, why: u8, body: &[u8]) -> Result<usize, Why>
     ensures { writing result memory.new ≡ appended_as e why memory.old used number body.now }
 {
     if memory.len() < used {
-        return Wrote::Refused(Refusal { number: 32 });
+        return Err(Why::Alone(Refusal { number: 32 }));
     }
     match so_far(e, memory, used) {
-        Packet::Refused(r) => Wrote::Refused(r),
-        Packet::Bad(f) => Wrote::Bad(f),
-        Packet::Good(_) => put_own(memory, used, number, why, body),
+        Err(Why::Alone(r)) => Err(Why::Alone(r)),
+        Err(Why::Placed(f)) => Err(Why::Placed(f)),
+        Ok(_) => put_own(memory, used, number, why, body),
     }
 }
 
 // A record behind a packet so far: refused by 32, then as reading refuses the packet so far, then by 5, 3 or 4, 1 and 32.
-pub fn append(e: Edition, memory: &mut [u8], used: usize, number: u64, body: &[u8]) -> Wrote
+pub fn append(e: Edition, memory: &mut [u8], used: usize, number: u64, body: &[u8]) -> Result<usize, Why>
     ensures { writing result memory.new ≡ appended e memory.old used number body.now }
 {
     let c = body::judge(e, body);
@@ -116,7 +108,7 @@ pub fn append_numbers(
     number: u64,
     n: &[u64; 8],
     t: &[u8; 28],
-) -> Wrote
+) -> Result<usize, Why>
     ensures { writing result memory.new ≡ numbers_appended e memory.old used number n.now t.now }
 {
     let d = numbers::draft_of(e, n, t);
@@ -126,28 +118,28 @@ pub fn append_numbers(
 }
 
 // The packet behind its length, where it fits.
-fn put_packet(memory: &mut [u8], used: usize, p: &[u8]) -> Wrote
+fn put_packet(memory: &mut [u8], used: usize, p: &[u8]) -> Result<usize, Why>
     ensures { writing result memory.new ≡ put (room_number (length memory.old) (used + length (length_first p.now))) memory.old used (length_first p.now) }
 {
     let n = p.len();
     if !room_for(memory.len(), 2, used, n) {
-        return Wrote::Refused(Refusal { number: 32 });
+        return Err(Why::Alone(Refusal { number: 32 }));
     }
     wire::put_le(memory, used, 2, n as u64);
     wire::put_at(memory, used + 2, p);
-    Wrote::Length(used + (2 + n))
+    Ok(used + (2 + n))
 }
 
 // A packet behind a recording so far: refused by 32, then as reading refuses the packet, then by 32.
-pub fn append_packet(e: Edition, memory: &mut [u8], used: usize, p: &[u8]) -> Wrote
+pub fn append_packet(e: Edition, memory: &mut [u8], used: usize, p: &[u8]) -> Result<usize, Why>
     ensures { writing result memory.new ≡ packet_appended e memory.old used p.now }
 {
     if memory.len() < used {
-        return Wrote::Refused(Refusal { number: 32 });
+        return Err(Why::Alone(Refusal { number: 32 }));
     }
     match packet::read_packet(e, p) {
-        Packet::Refused(r) => Wrote::Refused(r),
-        Packet::Bad(f) => Wrote::Bad(f),
-        Packet::Good(_) => put_packet(memory, used, p),
+        Err(Why::Alone(r)) => Err(Why::Alone(r)),
+        Err(Why::Placed(f)) => Err(Why::Placed(f)),
+        Ok(_) => put_packet(memory, used, p),
     }
 }

@@ -6,7 +6,9 @@ use mathlib.Core.List.{◌++◌}
 use Rattle.rows.specs.Rows.{rows}
 use Rattle.views.specs.Spread.{spread_of}
 use Rattle.views.specs.declared.Side.{Side}
-use Rattle.views.specs.declared.SpreadAnswer.{SpreadAnswer}
+use Rattle.std.specs.Prelude.{Option, Result}
+use Rattle.fields.specs.declared.Refusal.{Refusal}
+use Rattle.std.specs.Prelude.{ℤ}
 use Rattle.answer_sheet.specs.Keys.{spread_key, bid_key, ask_key, side_key}
 use Rattle.answer_sheet.specs.Lines.{plain, line_text}
 use Rattle.answer_sheet.specs.Sheet.{side_lines, spread_word, book_lines}
@@ -31,5 +33,5 @@ returns c =
     let rs = rows a.orders.now in
     let e = c.spread.ensures ∙ sym (spread_shown a.id a.orders.now a.symbols.now c.requires) in
     lines_first (plain spread_key (spread_word (spread_of a.id rs))) (side_lines Side.Buy a.id rs ++ side_lines Side.Sell a.id rs)
-    (wrote_as (ap (λ (x : SpreadAnswer). line_of spread_key (spread_word x)) e) c.spread_line-o.ensures)
+    (wrote_as (ap (λ (x : Result (Option ℤ) Refusal). line_of spread_key (spread_word x)) e) c.spread_line-o.ensures)
     (lines_then (side_lines Side.Buy a.id rs) (side_lines Side.Sell a.id rs) c.side_lines-p.ensures c.side_lines.ensures)

@@ -6,11 +6,11 @@ use Rattle.answer_sheet.proofs.levels_shown.Goals as goal
 
 pub returns-then-n-lt-LEVELS_SHOWN : goal.returns-then-n-lt-LEVELS_SHOWN
 unfolding levels_shown level_count
-returns-then-n-lt-LEVELS_SHOWN c = rw c.in-Levels.is (omega arith)
+returns-then-n-lt-LEVELS_SHOWN c = rw c.in-Ok.is (omega arith)
 
 pub returns-else-n-lt-LEVELS_SHOWN : goal.returns-else-n-lt-LEVELS_SHOWN
 unfolding levels_shown level_count
-returns-else-n-lt-LEVELS_SHOWN c = rw c.in-Levels.is (omega arith)
+returns-else-n-lt-LEVELS_SHOWN c = rw c.in-Ok.is (omega arith)
 
 pub returns-in-Refused : goal.returns-in-Refused
 unfolding levels_shown level_count

@@ -16,17 +16,17 @@ returns-in_default c =
 pub returns-then-not-next_ok : goal.returns-then-not-next_ok
 returns-then-not-next_ok c =
     let a = c.args in
-    let g = sizes_good a.orders.now a.symbols.now _ (sym c.in-Are.is ∙ c.counts-c.ensures) in
+    let g = sizes_good a.orders.now a.symbols.now _ (sym c.in-Ok.is ∙ c.counts-c.ensures) in
     next_refused a.word a.bad a.state a.orders.now a.symbols.now a.buf.now g (sym c.next_ok.ensures ∙ not-true _ c.if-not-next_ok.true-raw)
 
 pub all_lines-requires : goal.all_lines-requires
 all_lines-requires c =
-    sym c.in-Are.is ∙ c.counts-c.ensures
+    sym c.in-Ok.is ∙ c.counts-c.ensures
 
 pub returns : goal.returns
 returns c =
     let a = c.args in
-    let g = sizes_good a.orders.now a.symbols.now _ (sym c.in-Are.is ∙ c.counts-c.ensures) in
+    let g = sizes_good a.orders.now a.symbols.now _ (sym c.in-Ok.is ∙ c.counts-c.ensures) in
     let n = sym c.next_ok.ensures ∙ not-false _ c.if-not-next_ok.false-raw in
     let wrote = c.all_lines.ensures in
     let m : Machine a.bad a.state a.symbols.now = record { bad_fits = search rules; second_fits = wrote.2; stop_fits = wrote.1; bytes = λ i. omega (arith, c.type_inv.symbols i) } in

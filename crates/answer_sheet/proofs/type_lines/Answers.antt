@@ -9,10 +9,10 @@ use Rattle.answer_sheet.specs.Sheet.{type_lines}
 use borrow.Author.Rules.{rules}
 use Rattle.answer_sheet.proofs.type_lines.Goals as goal
 
-pub returns-in-Type : goal.returns-in-Type
+pub returns-in-Some : goal.returns-in-Some
 unfolding type_lines text_of line_text plain line_of join type_key
-returns-in-Type c = rw (c.in-Type.is, ← c.shown.ensures) (wrote_last (wrote_then c.bytes-o.ensures (wrote_then c.byte-p.ensures c.byte.ensures)))
+returns-in-Some c = rw (c.in-Some.is, ← c.shown.ensures) (wrote_last (wrote_then c.bytes-o.ensures (wrote_then c.byte-p.ensures c.byte.ensures)))
 
-pub returns-in-Reserved : goal.returns-in-Reserved
+pub returns-in-None : goal.returns-in-None
 unfolding type_lines text_of join
-returns-in-Reserved c = rw c.in-Reserved.is (wrote_none (search rules))
+returns-in-None c = rw c.in-None.is (wrote_none (search rules))

@@ -14,5 +14,5 @@ returns-in-Refused c = told_case _ _ c.in-Refused.is _
 pub returns-in-Bad : goal.returns-in-Bad
 returns-in-Bad c = told_bad _ _ c.in-Bad.is _ _ c.with_offset.ensures
 
-pub returns-in-Length : goal.returns-in-Length
-returns-in-Length c = told_case _ _ c.in-Length.is c.args.length.now
+pub returns-in-Ok : goal.returns-in-Ok
+returns-in-Ok c = told_case _ _ c.in-Ok.is c.args.length.now

@@ -13,5 +13,5 @@ returns-in-Refused c = convert_told _ _ _ _ c.in-Refused.is (rw (c.edition_of-f.
 pub returns-in-Bad : goal.returns-in-Bad
 returns-in-Bad c = convert_bad _ _ _ _ c.in-Bad.is (rw (c.edition_of-f.ensures, c.edition_of-t.ensures) at c.convert.ensures) _ _ c.with_offset.ensures
 
-pub returns-in-Updates : goal.returns-in-Updates
-returns-in-Updates c = convert_told _ _ _ _ c.in-Updates.is (rw (c.edition_of-f.ensures, c.edition_of-t.ensures) at c.convert.ensures) c.args.updates.now
+pub returns-in-Ok : goal.returns-in-Ok
+returns-in-Ok c = convert_told _ _ _ _ c.in-Ok.is (rw (c.edition_of-f.ensures, c.edition_of-t.ensures) at c.convert.ensures) c.args.updates.now

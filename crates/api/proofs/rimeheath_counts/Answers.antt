@@ -9,6 +9,6 @@ pub returns-in-Refused : goal.returns-in-Refused
 unfolding counts_answer counts_number
 returns-in-Refused c = counts_handed _ _ _ c.in-Refused.is c.counts.ensures c.args.counts.now
 
-pub returns-in-Are : goal.returns-in-Are
+pub returns-in-Ok : goal.returns-in-Ok
 unfolding counts_answer counts_number
-returns-in-Are c = counts_handed _ _ _ c.in-Are.is c.counts.ensures c.args.counts.now
+returns-in-Ok c = counts_handed _ _ _ c.in-Ok.is c.counts.ensures c.args.counts.now

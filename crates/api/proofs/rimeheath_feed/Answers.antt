@@ -9,5 +9,5 @@ pub returns-in-Refused : goal.returns-in-Refused
 unfolding feed_answer fed_number
 returns-in-Refused c = feed_handed _ _ _ _ _ _ _ (rw c.stream_from.ensures at c.feed.ensures) c.args.stream.now _ c.in-Refused.is
 
-pub returns-in-Took : goal.returns-in-Took
-returns-in-Took c = feed_took _ _ _ _ _ _ _ (rw c.stream_from.ensures at c.feed.ensures) _ _ c.in-Took.is _ c.stream_numbers.ensures
+pub returns-in-Ok : goal.returns-in-Ok
+returns-in-Ok c = feed_took _ _ _ _ _ _ _ (rw c.stream_from.ensures at c.feed.ensures) _ _ c.in-Ok.is _ c.stream_numbers.ensures

@@ -9,6 +9,6 @@ pub returns-in-Refused : goal.returns-in-Refused
 unfolding ladder_answer ladder_number
 returns-in-Refused c = ladder_handed _ _ c.in-Refused.is _ _ (rw c.side_asked.ensures at c.ladder.ensures) c.args.levels.now
 
-pub returns-in-Levels : goal.returns-in-Levels
+pub returns-in-Ok : goal.returns-in-Ok
 unfolding ladder_answer ladder_number
-returns-in-Levels c = ladder_handed _ _ c.in-Levels.is _ _ (rw c.side_asked.ensures at c.ladder.ensures) c.args.levels.now
+returns-in-Ok c = ladder_handed _ _ c.in-Ok.is _ _ (rw c.side_asked.ensures at c.ladder.ensures) c.args.levels.now

@@ -19,5 +19,5 @@ returns-in-Refused c = receive_handed _ _ _ _ _ _ _ (rw c.state_in.ensures at c.
 pub returns-in-Bad : goal.returns-in-Bad
 returns-in-Bad c = receive_bad _ _ _ _ _ _ _ (rw c.state_in.ensures at c.receive-r.ensures) _ _ _ c.in-Bad.is _ c.with_offset.ensures
 
-pub returns-in-Accepted : goal.returns-in-Accepted
-returns-in-Accepted c = receive_accepted _ _ _ _ _ _ _ (rw c.state_in.ensures at c.receive-r.ensures) _ _ _ c.in-Accepted.is _ c.state_numbers.ensures _ c.account_numbers.ensures
+pub returns-in-Ok : goal.returns-in-Ok
+returns-in-Ok c = receive_accepted _ _ _ _ _ _ _ (rw c.state_in.ensures at c.receive-r.ensures) _ _ _ c.in-Ok.is _ c.state_numbers.ensures _ c.account_numbers.ensures

@@ -9,6 +9,6 @@ pub returns-in-Refused : goal.returns-in-Refused
 unfolding sheet_answer sheet_number
 returns-in-Refused c = sheet_handed _ _ c.in-Refused.is _ _ (rw (c.state_in-s.ensures, c.word_of.ensures) at c.sheet.ensures) c.args.length.now
 
-pub returns-in-Length : goal.returns-in-Length
+pub returns-in-Ok : goal.returns-in-Ok
 unfolding sheet_answer sheet_number
-returns-in-Length c = sheet_handed _ _ c.in-Length.is _ _ (rw (c.state_in-s.ensures, c.word_of.ensures) at c.sheet.ensures) c.args.length.now
+returns-in-Ok c = sheet_handed _ _ c.in-Ok.is _ _ (rw (c.state_in-s.ensures, c.word_of.ensures) at c.sheet.ensures) c.args.length.now

@@ -8,5 +8,5 @@ pub returns-in-Refused : goal.returns-in-Refused
 unfolding start_answer
 returns-in-Refused c = start_handed _ _ c.in-Refused.is _ _ _ _ _ (rw c.edition_of.ensures at c.start.ensures) c.args.state.now
 
-pub returns-in-Ready : goal.returns-in-Ready
-returns-in-Ready c = start_ready _ _ c.in-Ready.is _ _ _ _ _ (rw c.edition_of.ensures at c.start.ensures) c.args.state.now _ c.state_numbers.ensures
+pub returns-in-Ok : goal.returns-in-Ok
+returns-in-Ok c = start_ready _ _ c.in-Ok.is _ _ _ _ _ (rw c.edition_of.ensures at c.start.ensures) c.args.state.now _ c.state_numbers.ensures

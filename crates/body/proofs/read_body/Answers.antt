@@ -2,13 +2,15 @@
 -- Assumes nothing.
 use mathlib.Core.Path.{sym, ap, ◌∙◌}
 use Rattle.body.specs.Read.{message, read_body}
-use Rattle.body.specs.declared.Judged.{Judged}
+use Rattle.std.specs.Prelude.{Result}
+use Rattle.fields.specs.declared.Fault.{Fault}
+use Rattle.kinds.specs.declared.Kind.{Kind}
 use Rattle.body.proofs.read_body.Goals as goal
 
 pub returns-in-Bad : goal.returns-in-Bad
 unfolding read_body message
-returns-in-Bad c = ap (λ (x : Judged). message x c.args.b.now) (sym c.in-Bad.is ∙ c.judge_body.ensures)
+returns-in-Bad c = ap (λ (x : Result Kind Fault). message x c.args.b.now) (sym c.in-Bad.is ∙ c.judge_body.ensures)
 
 pub returns-in-Good : goal.returns-in-Good
 unfolding read_body message
-returns-in-Good c = c.decode.ensures ∙ ap (λ (x : Judged). message x c.args.b.now) (sym c.in-Good.is ∙ c.judge_body.ensures)
+returns-in-Good c = c.decode.ensures ∙ ap (λ (x : Result Kind Fault). message x c.args.b.now) (sym c.in-Good.is ∙ c.judge_body.ensures)

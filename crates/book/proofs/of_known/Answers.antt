@@ -4,10 +4,10 @@ use mathlib.Core.Path.{refl}
 use Rattle.book.specs.Plan.{of_known}
 use Rattle.book.proofs.of_known.Goals as goal
 
-pub returns-in-At : goal.returns-in-At
+pub returns-in-Some : goal.returns-in-Some
 unfolding of_known
-returns-in-At c = rw c.in-At.is refl
+returns-in-Some c = rw c.in-Some.is refl
 
-pub returns-in-Nothing : goal.returns-in-Nothing
+pub returns-in-None : goal.returns-in-None
 unfolding of_known
-returns-in-Nothing c = rw c.in-Nothing.is refl
+returns-in-None c = rw c.in-None.is refl

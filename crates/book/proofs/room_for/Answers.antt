@@ -10,8 +10,8 @@ returns-in_default c = rw c.in_default.is refl
 
 pub returns-in_default-free : goal.returns-in_default-free
 unfolding room_for
-returns-in_default-free c = rw (c.in-Nowhere.is, c.in_default-free.is) refl
+returns-in_default-free c = rw (c.in-None.is, c.in_default-free.is) refl
 
 pub returns : goal.returns
 unfolding room_for
-returns c = rw (c.in-Nowhere.is, c.in-At.is) c.on_rows.ensures
+returns c = rw (c.in-None.is, c.in-Some.is) c.on_rows.ensures

@@ -11,7 +11,7 @@ unfolding target
 returns-in_default c = rw c.in_default.is refl
 
 pub returns-then-symbol_in-symbol : goal.returns-then-symbol_in-symbol
-returns-then-symbol_in-symbol c = rw c.in-Live.is (sym (target_other _ _ _ (λ e. c.if-symbol_in-symbol.true (c.symbol_in.ensures ∙ e))))
+returns-then-symbol_in-symbol c = rw c.in-Some.is (sym (target_other _ _ _ (λ e. c.if-symbol_in-symbol.true (c.symbol_in.ensures ∙ e))))
 
 pub returns : goal.returns
-returns c = rw c.in-Live.is (sym (target_own _ _ _ (omega arith)))
+returns c = rw c.in-Some.is (sym (target_own _ _ _ (omega arith)))

@@ -4,10 +4,10 @@ use mathlib.Core.Path.{refl}
 use Rattle.book.specs.Plan.{update_plan}
 use Rattle.book.proofs.update_plan.Goals as goal
 
-pub returns-in-At : goal.returns-in-At
+pub returns-in-Some : goal.returns-in-Some
 unfolding update_plan
-returns-in-At c = rw c.in-At.is refl
+returns-in-Some c = rw c.in-Some.is refl
 
-pub returns-in-Nothing : goal.returns-in-Nothing
+pub returns-in-None : goal.returns-in-None
 unfolding update_plan
-returns-in-Nothing c = rw c.in-Nothing.is refl
+returns-in-None c = rw c.in-None.is refl

@@ -5,7 +5,7 @@ use mathlib.Core.Bool.{true, false}
 use Prim.Native.Nat.{ℕ, ◌%◌}
 use native.Mathlib.Omega.{arith}
 use lib.ListN.{get_or}
-use Rattle.facts.specs.declared.Found.TheVariants.{At}
+use Rattle.std.specs.Prelude.{Some}
 use Rattle.rows.specs.Rows.{rows}
 use Rattle.index.specs.Index.{fits}
 use Rattle.index.proofs.Cases.{hash_below, look_start, look_stop, look_hit, look_on, look_end}
@@ -28,7 +28,7 @@ returns-then-is_row c =
     let w : c.word-s.result ≡ get_or a.ix.now l.p 0 = c.word-s.ensures in
     let z : get_or a.ix.now l.p 0 ≡ 0 → ⊥ = λ e. c.if-s-eq0.false (w ∙ e) in
     let f : fits a.id (rows a.t.now) (get_or a.ix.now l.p 0) ≡ true = cc in
-    ap (λ (k : ℕ). At (k % 65536)) w ∙ sym (l.invariant.2 ∙ look_hit a.ix.now (rows a.t.now) a.id l.n l.p (omega arith) z f)
+    ap (λ (k : ℕ). Some (k % 65536)) w ∙ sym (l.invariant.2 ∙ look_hit a.ix.now (rows a.t.now) a.id l.n l.p (omega arith) z f)
 
 pub overflow_add-p : goal.overflow_add-p
 overflow_add-p c = omega arith

@@ -10,7 +10,7 @@ pub returns-in_default : goal.returns-in_default
 returns-in_default c = sym (free_none c.args.ix.now (rows c.args.t.now) (sym c.first_block.ensures ∙ c.in_default.is))
 
 pub overflow_mul-b : goal.overflow_mul-b
-overflow_mul-b c = omega (arith, block_below c.args.ix.now c.in-At.b (sym c.first_block.ensures ∙ c.in-At.is))
+overflow_mul-b c = omega (arith, block_below c.args.ix.now c.in-Some.b (sym c.first_block.ensures ∙ c.in-Some.is))
 
 pub returns : goal.returns
-returns c = c.free_from.ensures ∙ sym (free_at c.args.ix.now (rows c.args.t.now) c.in-At.b (sym c.first_block.ensures ∙ c.in-At.is))
+returns c = c.free_from.ensures ∙ sym (free_at c.args.ix.now (rows c.args.t.now) c.in-Some.b (sym c.first_block.ensures ∙ c.in-Some.is))

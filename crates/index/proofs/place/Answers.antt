@@ -18,8 +18,8 @@ returns-in_default c = let a = c.args in sym (placed_none a.ix.now a.id a.i (ome
 pub returns : goal.returns
 returns c =
     let a = c.args in
-    let p = c.in-At.p in
+    let p = c.in-Some.p in
     c.put_word-2.ensures
     ∙ ap (λ (l : List ℕ). set l 32768 (c.word-used.result + 1)) (c.put_word.ensures ∙ ap (set a.ix.now p) c.pack.ensures)
     ∙ ap (λ (k : ℕ). set (set a.ix.now p (packed a.id a.i)) 32768 (k + 1)) c.word-used.ensures
-    ∙ sym (placed_at a.ix.now a.id a.i p (omega (arith, c.word-used.ensures)) (sym c.find_vacant.ensures ∙ c.in-At.is))
+    ∙ sym (placed_at a.ix.now a.id a.i p (omega (arith, c.word-used.ensures)) (sym c.find_vacant.ensures ∙ c.in-Some.is))

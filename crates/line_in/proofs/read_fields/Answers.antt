@@ -22,14 +22,14 @@ returns-in-Wrong c =
     let t0 : took_as c.take_all.result b g ≡ all = c.take_all.ensures ∙ ap (λ (l : List ℕ). take_all c.args.e c.args.k (rest s c.args.from) (well (draft l (replicate 10 0)))) c.blank_body-body.ensures in
     fields_wrong c.args.e c.args.n c.args.k (length s) all c.args.out.now c.in-Wrong.x (sym t0 ∙ ap (λ (t : Took). took_as t b g) c.in-Wrong.is)
 
-pub returns-in-At : goal.returns-in-At
-returns-in-At c =
+pub returns-in-Some : goal.returns-in-Some
+returns-in-Some c =
     let s = c.args.s.now in let b = c.take_all.new.body in let g = c.take_all.new.given in let all = take_all c.args.e c.args.k (rest s c.args.from) (well (blank_draft c.args.e c.args.k)) in
     let t0 : took_as c.take_all.result b g ≡ all = c.take_all.ensures ∙ ap (λ (l : List ℕ). take_all c.args.e c.args.k (rest s c.args.from) (well (draft l (replicate 10 0)))) c.blank_body-body.ensures in
-    ap (λ (x : Slip). reading (Line.Wrong x) c.args.out.now) c.slip_at.ensures ∙ fields_needed c.args.e c.args.n c.args.k (length s) all c.args.out.now (draft b g) c.in-At.i (sym t0 ∙ ap (λ (t : Took). took_as t b g) c.in-Well.is) (sym c.first_missing.ensures ∙ c.in-At.is)
+    ap (λ (x : Slip). reading (Line.Wrong x) c.args.out.now) c.slip_at.ensures ∙ fields_needed c.args.e c.args.n c.args.k (length s) all c.args.out.now (draft b g) c.in-Some.i (sym t0 ∙ ap (λ (t : Took). took_as t b g) c.in-Well.is) (sym c.first_missing.ensures ∙ c.in-Some.is)
 
-pub returns-in-Nothing : goal.returns-in-Nothing
-returns-in-Nothing c =
+pub returns-in-None : goal.returns-in-None
+returns-in-None c =
     let s = c.args.s.now in let b = c.take_all.new.body in let g = c.take_all.new.given in let all = take_all c.args.e c.args.k (rest s c.args.from) (well (blank_draft c.args.e c.args.k)) in
     let t0 : took_as c.take_all.result b g ≡ all = c.take_all.ensures ∙ ap (λ (l : List ℕ). take_all c.args.e c.args.k (rest s c.args.from) (well (draft l (replicate 10 0)))) c.blank_body-body.ensures in
-    c.judge.ensures ∙ fields_whole c.args.e c.args.n c.args.k (length s) all c.args.out.now (draft b g) (sym t0 ∙ ap (λ (t : Took). took_as t b g) c.in-Well.is) (sym c.first_missing.ensures ∙ c.in-Nothing.is)
+    c.judge.ensures ∙ fields_whole c.args.e c.args.n c.args.k (length s) all c.args.out.now (draft b g) (sym t0 ∙ ap (λ (t : Took). took_as t b g) c.in-Well.is) (sym c.first_missing.ensures ∙ c.in-None.is)

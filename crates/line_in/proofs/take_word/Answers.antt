@@ -7,7 +7,7 @@ use mathlib.Core.List.{List}
 use native.Mathlib.Omega.{arith}
 use lib.ListN.{length, take, drop, length-take, length-drop}
 use lib.Seq.{take_all}
-use Rattle.facts.specs.declared.Found.{Found}
+use Rattle.std.specs.Prelude.{Option, Some}
 use Rattle.keys.specs.Keys.{key_named}
 use Rattle.keys.proofs.Laws.{most_fields_lem, named_inside}
 use Rattle.spans.specs.Spans.{word}
@@ -22,10 +22,10 @@ pub slice_bounds-key_named-end : goal.slice_bounds-key_named-end
 slice_bounds-key_named-end c = rw length-take (omega arith)
 
 pub take_field-requires : goal.take_field-requires
-take_field-requires c = let q = named_inside c.args.e c.args.k (take c.place_of-p.result c.args.w.now) c.in-At.i (sym c.key_named.ensures ∙ c.in-At.is) in (omega (arith, most_fields_lem c.args.e c.args.k), omega arith, omega arith)
+take_field-requires c = let q = named_inside c.args.e c.args.k (take c.place_of-p.result c.args.w.now) c.in-Some.i (sym c.key_named.ensures ∙ c.in-Some.is) in (omega (arith, most_fields_lem c.args.e c.args.k), omega arith, omega arith)
 
-pub returns-in-Nothing : goal.returns-in-Nothing
-returns-in-Nothing c = ap slipped c.slip_at-in-Nothing.ensures ∙ key_unknown c.args.e c.args.k (key_named c.args.e c.args.k (take c.place_of-p.result c.args.w.now)) c.args.at (c.args.at + (c.place_of-p.result + 1)) (drop (c.place_of-p.result + 1) c.args.w.now) (draft c.args.body.now c.args.given.now) (sym c.key_named.ensures ∙ c.in-Nothing.is) ∙ word_key c.args.e c.args.k (word c.args.at c.args.w.now) (draft c.args.body.now c.args.given.now) c.place_of-p.result c.place_of-p.ensures (omega arith)
+pub returns-in-None : goal.returns-in-None
+returns-in-None c = ap slipped c.slip_at-in-None.ensures ∙ key_unknown c.args.e c.args.k (key_named c.args.e c.args.k (take c.place_of-p.result c.args.w.now)) c.args.at (c.args.at + (c.place_of-p.result + 1)) (drop (c.place_of-p.result + 1) c.args.w.now) (draft c.args.body.now c.args.given.now) (sym c.key_named.ensures ∙ c.in-None.is) ∙ word_key c.args.e c.args.k (word c.args.at c.args.w.now) (draft c.args.body.now c.args.given.now) c.place_of-p.result c.place_of-p.ensures (omega arith)
 
-pub returns-in-At : goal.returns-in-At
-returns-in-At c = c.take_field.ensures ∙ ap (λ (s : List ℕ). take_field c.args.e c.args.k (Found.At c.in-At.i) c.args.at (c.args.at + (c.place_of-p.result + 1)) s (draft c.args.body.now c.args.given.now)) (take_all (length c.args.w.now - (c.place_of-p.result + 1)) (drop (c.place_of-p.result + 1) c.args.w.now) (rw length-drop (omega arith))) ∙ ap (λ (f : Found). take_field c.args.e c.args.k f c.args.at (c.args.at + (c.place_of-p.result + 1)) (drop (c.place_of-p.result + 1) c.args.w.now) (draft c.args.body.now c.args.given.now)) (sym c.in-At.is ∙ c.key_named.ensures) ∙ word_key c.args.e c.args.k (word c.args.at c.args.w.now) (draft c.args.body.now c.args.given.now) c.place_of-p.result c.place_of-p.ensures (omega arith)
+pub returns-in-Some : goal.returns-in-Some
+returns-in-Some c = c.take_field.ensures ∙ ap (λ (s : List ℕ). take_field c.args.e c.args.k (Some c.in-Some.i) c.args.at (c.args.at + (c.place_of-p.result + 1)) s (draft c.args.body.now c.args.given.now)) (take_all (length c.args.w.now - (c.place_of-p.result + 1)) (drop (c.place_of-p.result + 1) c.args.w.now) (rw length-drop (omega arith))) ∙ ap (λ (f : Option ℕ). take_field c.args.e c.args.k f c.args.at (c.args.at + (c.place_of-p.result + 1)) (drop (c.place_of-p.result + 1) c.args.w.now) (draft c.args.body.now c.args.given.now)) (sym c.in-Some.is ∙ c.key_named.ensures) ∙ word_key c.args.e c.args.k (word c.args.at c.args.w.now) (draft c.args.body.now c.args.given.now) c.place_of-p.result c.place_of-p.ensures (omega arith)

@@ -7,8 +7,8 @@ use Rattle.recording.specs.declared.Stream.{Stream}
 use Rattle.recording.proofs.Exits.{heard_accepted, heard_refused, heard_bad, missed_as}
 use Rattle.recording.proofs.hear.Goals as goal
 
-pub returns-in-Accepted : goal.returns-in-Accepted
-returns-in-Accepted c = (heard_accepted (standing_of c.args.k c.args.orders.now c.args.symbols.now c.args.shelf.now c.args.index.now) c.args.p.now c.requires (handled c.receive-a.result.answer _) c.receive-a.ensures _ c.in-Accepted.is c.add-sums.result c.add-sums.ensures, refl, refl)
+pub returns-in-Ok : goal.returns-in-Ok
+returns-in-Ok c = (heard_accepted (standing_of c.args.k c.args.orders.now c.args.symbols.now c.args.shelf.now c.args.index.now) c.args.p.now c.requires (handled c.receive-a.result.answer _) c.receive-a.ensures _ c.in-Ok.is c.add-sums.result c.add-sums.ensures, refl, refl)
 
 pub returns-in-Refused : goal.returns-in-Refused
 returns-in-Refused c = (missed_as c.args.k _ _ _ _ _ _ _ c.missed.ensures ∙ heard_refused (standing_of c.args.k c.args.orders.now c.args.symbols.now c.args.shelf.now c.args.index.now) c.args.p.now c.requires (handled c.receive-a.result.answer _) c.receive-a.ensures _ c.in-Refused.is, ap (λ (v : Stream). v.held) c.missed.ensures, ap (λ (v : Stream). v.skip) c.missed.ensures)

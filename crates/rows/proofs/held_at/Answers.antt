@@ -4,10 +4,10 @@ use mathlib.Core.Path.{refl}
 use Rattle.rows.specs.Find.{held_at}
 use Rattle.rows.proofs.held_at.Goals as goal
 
-pub returns-in-At : goal.returns-in-At
+pub returns-in-Some : goal.returns-in-Some
 unfolding held_at
-returns-in-At c = rw (c.in-At.is, ← c.row_at.ensures) refl
+returns-in-Some c = rw (c.in-Some.is, ← c.row_at.ensures) refl
 
-pub returns-in-Nothing : goal.returns-in-Nothing
+pub returns-in-None : goal.returns-in-None
 unfolding held_at
-returns-in-Nothing c = rw c.in-Nothing.is refl
+returns-in-None c = rw c.in-None.is refl

@@ -5,12 +5,12 @@ use Rattle.symbols.specs.Entries.{entries}
 use Rattle.symbols.proofs.FindLaws.{found_known, nowhere_unknown}
 use Rattle.symbols.proofs.known.Goals as goal
 
-pub returns-in-At : goal.returns-in-At
-returns-in-At c =
+pub returns-in-Some : goal.returns-in-Some
+returns-in-Some c =
     let a = c.args in
-    sym (found_known a.id (entries a.t.now) c.in-At.field-0 (sym c.find_symbol-f.ensures ∙ c.in-At.is))
+    sym (found_known a.id (entries a.t.now) c.in-Some.field-0 (sym c.find_symbol-f.ensures ∙ c.in-Some.is))
 
-pub returns-in-Nothing : goal.returns-in-Nothing
-returns-in-Nothing c =
+pub returns-in-None : goal.returns-in-None
+returns-in-None c =
     let a = c.args in
-    sym (nowhere_unknown a.id (entries a.t.now) (sym c.find_symbol-f.ensures ∙ c.in-Nothing.is))
+    sym (nowhere_unknown a.id (entries a.t.now) (sym c.find_symbol-f.ensures ∙ c.in-None.is))
