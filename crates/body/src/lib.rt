@@ -12,6 +12,7 @@ ghost use Rattle.body.specs.Shown.{security_in};
 use editions::Edition;
 use fields::{Body, Fault};
 use kinds::Kind;
+use wire::Number;
 
 pub fn nanos_ok(n: u32) -> bool
     ensures { result ≡ nanos_ok n }
@@ -81,7 +82,7 @@ fn fault_at(ok: bool, at: usize, behind: usize) -> usize
 fn stamp_fault(b: &[u8], behind: usize) -> usize
     ensures { result ≡ pick (nanos_ok (field b.now 1 4)) behind 1 }
 {
-    fault_at(nanos_ok(wire::u32_at(b, 1)), 1, behind)
+    fault_at(nanos_ok(u32::at(b, 1)), 1, behind)
 }
 
 // Price and size, which stand side by side in every message that has them; no range stands behind them.
@@ -90,16 +91,16 @@ fn deal_fault(b: &[u8], at: u8) -> usize
 {
     let i = at as usize;
     let j = i + 8;
-    let size = fault_at(size_ok(wire::u32_at(b, j)), j, 0);
-    fault_at(price_ok(wire::u64_at(b, i)), i, size)
+    let size = fault_at(size_ok(u32::at(b, j)), j, 0);
+    fault_at(price_ok(u64::at(b, i)), i, size)
 }
 
 fn symbol_fault(e: Edition, b: &[u8]) -> usize
     ensures { result ≡ fault_of e Kind.SymbolUpdate b.now }
 {
-    let security = security_ok(e, wire::u8_at(b, 20));
-    let test = test_ok(wire::u8_at(b, 21));
-    let market = market_ok(wire::u8_at(b, 41));
+    let security = security_ok(e, u8::at(b, 20));
+    let test = test_ok(u8::at(b, 21));
+    let market = market_ok(u8::at(b, 41));
     let behind = fault_at(test, 21, fault_at(market, 41, 0));
     stamp_fault(b, fault_at(security, 20, behind))
 }
@@ -108,7 +109,7 @@ fn symbol_fault(e: Edition, b: &[u8]) -> usize
 fn add_fault(b: &[u8]) -> usize
     ensures { (e : Edition) → result ≡ fault_of e Kind.Add b.now }
 {
-    let side = side_ok(wire::u8_at(b, 17));
+    let side = side_ok(u8::at(b, 17));
     stamp_fault(b, fault_at(side, 17, deal_fault(b, 18)))
 }
 
@@ -161,7 +162,7 @@ pub fn judge_body(e: Edition, b: &[u8]) -> Result<Kind, Fault>
 {
     let c = judge(e, b);
     if c == 0 {
-        return Ok(kinds::kind_of(wire::u8_at(b, 0)));
+        return Ok(kinds::kind_of(u8::at(b, 0)));
     }
     Err(Fault {
         number: (c % 256) as u8,

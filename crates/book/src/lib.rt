@@ -18,6 +18,7 @@ use fields::{AddOrder, DeleteOrder, ModifyOrder, OrderExecution, SymbolClear};
 use kinds::Kind;
 use orders::RowWork;
 use rows::Row;
+use wire::Number;
 
 // What a book has by value: the current second.
 #[derive(Clone, Copy)]
@@ -202,7 +203,7 @@ fn order_in(orders: &[u64], index: &[u64], id: u64) -> Option<(usize, Row)>
 fn on_update(symbols: &[u8], clock: Clock, body: &[u8]) -> Plan
     ensures { result ≡ update_plan clock (place_for (id_of body.now) (entries symbols.now)) }
 {
-    update_plan(clock, symbols::find_place(symbols, wire::u32_at(body, 5)))
+    update_plan(clock, symbols::find_place(symbols, u32::at(body, 5)))
 }
 
 fn names_order(k: Kind) -> bool
@@ -230,8 +231,8 @@ fn plan_named(
     requires { names_order k ≡ true }
     ensures { result ≡ plan_by (decoded k body.now) number body.now clock (looks (ledger (book orders.now symbols.now clock) index.now)) }
 {
-    let entry = engines::find_entry(symbols, index, wire::u32_at(body, 5));
-    let order = order_in(orders, index, wire::u64_at(body, 9));
+    let entry = engines::find_entry(symbols, index, u32::at(body, 5));
+    let order = order_in(orders, index, u64::at(body, 9));
     match k {
         Kind::Add => {
             let free = engines::find_free(orders, index);
@@ -250,11 +251,11 @@ fn plan_other(k: Kind, symbols: &[u8], index: &[u64], clock: Clock, body: &[u8])
 {
     match k {
         Kind::SystemTime => at_rest(Clock {
-            second: wire::u32_at(body, 1),
+            second: u32::at(body, 1),
         }),
         Kind::SymbolUpdate => on_update(symbols, clock, body),
         Kind::SymbolClear => {
-            let entry = engines::find_entry(symbols, index, wire::u32_at(body, 5));
+            let entry = engines::find_entry(symbols, index, u32::at(body, 5));
             clear_plan(clock, fields::clear_of(body), entry)
         }
         Kind::Unknown => Plan::Stop(27),

@@ -12,6 +12,7 @@ ghost use Rattle.conversion.specs.Piece.{passing, passed, passed_by, tally_of, p
 use editions::Edition;
 use fields::{Fault, Refusal};
 use packet::Why;
+use wire::Number;
 
 // What became of a packet of a recording: rewritten, with so many Symbol Updates; passed on as it is, since it is refused before and after; or barred, since its own edition alone refuses it.
 #[derive(Clone, Copy)]
@@ -113,7 +114,7 @@ fn turn(from: Edition, to: Edition, all: u8, others: &[u8], b: &mut [u8]) -> Res
         barred: 0,
     };
     while 2 <= b.len() - at {
-        let n = wire::u16_at(b, at) as usize;
+        let n = u16::at(b, at) as usize;
         if b.len() - at - 2 < n {
             return Ok((at, t));
         }

@@ -10,6 +10,7 @@ ghost use Rattle.engines.specs.Engines.{good_index, order_by, free_by, hinted, e
 
 use orders::RowWork;
 use rows::Row;
+use wire::Number;
 
 // No index, or one of the stated size.
 pub fn good_index(n: usize) -> bool
@@ -114,6 +115,6 @@ pub fn note_entry(ix: &mut [u64], w: Option<usize>, body: &[u8])
 {
     match w {
         None => {}
-        Some(i) => index::put_hint(ix, wire::u32_at(body, 5), i),
+        Some(i) => index::put_hint(ix, u32::at(body, 5), i),
     }
 }

@@ -5,6 +5,7 @@ ghost use Rattle.std.specs.Prelude.{◌≡◌};
 ghost use Rattle.fields.specs.Fields.{status_of, clear_of, add_of, modify_of, delete_of, execution_of, trade_of, cancel_of, symbol_of, security_of, update_of, state_of, decoded};
 
 use kinds::Kind;
+use wire::Number;
 
 // Security Trading Status (4.4).
 #[derive(Clone, Copy)]
@@ -155,11 +156,11 @@ pub fn status_of(b: &[u8]) -> TradingStatus
     ensures { result ≡ status_of b.now }
 {
     TradingStatus {
-        nanos: wire::u32_at(b, 1),
-        symbol: wire::u32_at(b, 5),
-        trading: wire::u8_at(b, 9),
-        market: wire::u8_at(b, 10),
-        short: wire::u8_at(b, 11),
+        nanos: u32::at(b, 1),
+        symbol: u32::at(b, 5),
+        trading: u8::at(b, 9),
+        market: u8::at(b, 10),
+        short: u8::at(b, 11),
     }
 }
 
@@ -167,8 +168,8 @@ pub fn clear_of(b: &[u8]) -> SymbolClear
     ensures { result ≡ clear_of b.now }
 {
     SymbolClear {
-        nanos: wire::u32_at(b, 1),
-        symbol: wire::u32_at(b, 5),
+        nanos: u32::at(b, 1),
+        symbol: u32::at(b, 5),
     }
 }
 
@@ -176,13 +177,13 @@ pub fn add_of(b: &[u8]) -> AddOrder
     ensures { result ≡ add_of b.now }
 {
     AddOrder {
-        nanos: wire::u32_at(b, 1),
-        symbol: wire::u32_at(b, 5),
-        order: wire::u64_at(b, 9),
-        side: wire::u8_at(b, 17),
-        price: wire::u64_at(b, 18),
-        size: wire::u32_at(b, 26),
-        attributable: wire::u32_at(b, 30),
+        nanos: u32::at(b, 1),
+        symbol: u32::at(b, 5),
+        order: u64::at(b, 9),
+        side: u8::at(b, 17),
+        price: u64::at(b, 18),
+        size: u32::at(b, 26),
+        attributable: u32::at(b, 30),
     }
 }
 
@@ -190,12 +191,12 @@ pub fn modify_of(b: &[u8]) -> ModifyOrder
     ensures { result ≡ modify_of b.now }
 {
     ModifyOrder {
-        nanos: wire::u32_at(b, 1),
-        symbol: wire::u32_at(b, 5),
-        order: wire::u64_at(b, 9),
-        price: wire::u64_at(b, 17),
-        size: wire::u32_at(b, 25),
-        flags: wire::u8_at(b, 29),
+        nanos: u32::at(b, 1),
+        symbol: u32::at(b, 5),
+        order: u64::at(b, 9),
+        price: u64::at(b, 17),
+        size: u32::at(b, 25),
+        flags: u8::at(b, 29),
     }
 }
 
@@ -203,9 +204,9 @@ pub fn delete_of(b: &[u8]) -> DeleteOrder
     ensures { result ≡ delete_of b.now }
 {
     DeleteOrder {
-        nanos: wire::u32_at(b, 1),
-        symbol: wire::u32_at(b, 5),
-        order: wire::u64_at(b, 9),
+        nanos: u32::at(b, 1),
+        symbol: u32::at(b, 5),
+        order: u64::at(b, 9),
     }
 }
 
@@ -213,13 +214,13 @@ pub fn execution_of(b: &[u8]) -> OrderExecution
     ensures { result ≡ execution_of b.now }
 {
     OrderExecution {
-        nanos: wire::u32_at(b, 1),
-        symbol: wire::u32_at(b, 5),
-        order: wire::u64_at(b, 9),
-        trade: wire::u64_at(b, 17),
-        price: wire::u64_at(b, 25),
-        size: wire::u32_at(b, 33),
-        flags: wire::u8_at(b, 37),
+        nanos: u32::at(b, 1),
+        symbol: u32::at(b, 5),
+        order: u64::at(b, 9),
+        trade: u64::at(b, 17),
+        price: u64::at(b, 25),
+        size: u32::at(b, 33),
+        flags: u8::at(b, 37),
     }
 }
 
@@ -227,13 +228,13 @@ pub fn trade_of(b: &[u8]) -> Trade
     ensures { result ≡ trade_of b.now }
 {
     Trade {
-        nanos: wire::u32_at(b, 1),
-        symbol: wire::u32_at(b, 5),
-        trade: wire::u64_at(b, 9),
-        correction: wire::u8_at(b, 17),
-        price: wire::u64_at(b, 18),
-        size: wire::u32_at(b, 26),
-        flags: wire::u8_at(b, 30),
+        nanos: u32::at(b, 1),
+        symbol: u32::at(b, 5),
+        trade: u64::at(b, 9),
+        correction: u8::at(b, 17),
+        price: u64::at(b, 18),
+        size: u32::at(b, 26),
+        flags: u8::at(b, 30),
     }
 }
 
@@ -241,28 +242,28 @@ pub fn cancel_of(b: &[u8]) -> TradeCancel
     ensures { result ≡ cancel_of b.now }
 {
     TradeCancel {
-        nanos: wire::u32_at(b, 1),
-        symbol: wire::u32_at(b, 5),
-        trade: wire::u64_at(b, 9),
-        correction: wire::u8_at(b, 17),
-        price: wire::u64_at(b, 18),
-        size: wire::u32_at(b, 26),
+        nanos: u32::at(b, 1),
+        symbol: u32::at(b, 5),
+        trade: u64::at(b, 9),
+        correction: u8::at(b, 17),
+        price: u64::at(b, 18),
+        size: u32::at(b, 26),
     }
 }
 
 pub fn symbol_of(b: &[u8]) -> Symbol
     ensures { result ≡ symbol_of b.now }
 {
-    let ticker = wire::eleven_at(b, 9);
-    let opening = wire::eight_at(b, 25);
-    let closing = wire::eight_at(b, 33);
+    let ticker = wire::bytes_at(b, 9);
+    let opening = wire::bytes_at(b, 25);
+    let closing = wire::bytes_at(b, 33);
     Symbol {
-        id: wire::u32_at(b, 5),
+        id: u32::at(b, 5),
         ticker,
         opening,
         closing,
-        lot: wire::u16_at(b, 23),
-        market: wire::u8_at(b, 41),
+        lot: u16::at(b, 23),
+        market: u8::at(b, 41),
     }
 }
 
@@ -270,7 +271,7 @@ pub fn symbol_of(b: &[u8]) -> Symbol
 pub fn security_of(b: &[u8]) -> u8
     ensures { result ≡ security_of b.now }
 {
-    wire::u8_at(b, 20)
+    u8::at(b, 20)
 }
 
 pub fn update_of(b: &[u8]) -> SymbolUpdate
@@ -278,23 +279,23 @@ pub fn update_of(b: &[u8]) -> SymbolUpdate
 {
     let symbol = symbol_of(b);
     SymbolUpdate {
-        nanos: wire::u32_at(b, 1),
+        nanos: u32::at(b, 1),
         symbol,
         security: security_of(b),
-        test: wire::u8_at(b, 21),
-        reserved: wire::u8_at(b, 22),
+        test: u8::at(b, 21),
+        reserved: u8::at(b, 22),
     }
 }
 
 pub fn state_of(b: &[u8]) -> SystemState
     ensures { result ≡ state_of b.now }
 {
-    let version = wire::eight_at(b, 5);
+    let version = wire::bytes_at(b, 5);
     SystemState {
-        nanos: wire::u32_at(b, 1),
+        nanos: u32::at(b, 1),
         version,
-        session: wire::u8_at(b, 13),
-        status: wire::u8_at(b, 14),
+        session: u8::at(b, 13),
+        status: u8::at(b, 14),
     }
 }
 
@@ -303,7 +304,7 @@ pub fn decode(k: Kind, b: &[u8]) -> Body
     ensures { result ≡ decoded k b.now }
 {
     match k {
-        Kind::SystemTime => Body::SystemTime(wire::u32_at(b, 1)),
+        Kind::SystemTime => Body::SystemTime(u32::at(b, 1)),
         Kind::SymbolUpdate => Body::SymbolUpdate,
         Kind::SystemState => Body::SystemState,
         Kind::TradingStatus => Body::TradingStatus(status_of(b)),

@@ -11,6 +11,7 @@ use editions::Edition;
 use keys::Form;
 use kinds::Kind;
 use styles::Style;
+use wire::Number;
 
 // Whether the field of a body is written: it has to be, or it is not that of the blank body.
 fn is_shown(f: Form, b: &[u8], blank: &[u8]) -> bool
@@ -91,6 +92,6 @@ pub fn write_line(e: Edition, buf: &mut [u8], at: usize, number: u64, body: &[u8
 {
     let mut b = [0u8; 42];
     wire::copy_at(body, 0, &mut b);
-    let k = kinds::kind_of(wire::u8_at(body, 0));
+    let k = kinds::kind_of(u8::at(body, 0));
     put_line(buf, at, e, k, number, &b)
 }

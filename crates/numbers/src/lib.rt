@@ -18,6 +18,7 @@ use fields::{
     SystemState, Trade, TradeCancel, TradingStatus,
 };
 use kinds::Kind;
+use wire::Number;
 
 // A body from numbers and text: why there is none, or 0; its length; its bytes, with zeros behind them.
 #[derive(Clone, Copy)]
@@ -175,9 +176,9 @@ fn cancel_fields(t: u64, s: TradeCancel) -> [u64; 8]
 pub fn fields_of(e: Edition, k: Kind, b: &[u8]) -> [u64; 8]
     ensures { result ≡ typed e (get_or b.now 0 0) (decoded k b.now) b.now }
 {
-    let t = wire::u8_at(b, 0) as u64;
+    let t = u8::at(b, 0) as u64;
     match k {
-        Kind::SystemTime => [t, wire::u32_at(b, 1) as u64, 0, 0, 0, 0, 0, 0],
+        Kind::SystemTime => [t, u32::at(b, 1) as u64, 0, 0, 0, 0, 0, 0],
         Kind::SymbolUpdate => update_fields(t, fields::update_of(b), body::security_in(e, b)),
         Kind::SystemState => state_fields(t, fields::state_of(b)),
         Kind::TradingStatus => status_fields(t, fields::status_of(b)),
@@ -274,7 +275,7 @@ fn security_from(e: Edition, n: &[u64; 8], t: &[u8; 28]) -> u64
 {
     match e {
         Edition::V13 => n[4],
-        Edition::V13b => wire::u8_at(t, 27) as u64,
+        Edition::V13b => u8::at(t, 27) as u64,
     }
 }
 
@@ -331,9 +332,9 @@ fn symbol_from(n: &[u64; 8], t: &[u8; 28]) -> Symbol
     requires { (e : Edition) × Fit symbol_update (update_from e n.now t.now) }
     ensures { result ≡ symbol_from n.now t.now }
 {
-    let ticker = wire::eleven_at(t, 0);
-    let opening = wire::eight_at(t, 11);
-    let closing = wire::eight_at(t, 19);
+    let ticker = wire::bytes_at::<11>(t, 0);
+    let opening = wire::bytes_at::<8>(t, 11);
+    let closing = wire::bytes_at::<8>(t, 19);
     Symbol {
         id: (n[1] % 4294967296) as u32,
         ticker,
@@ -364,7 +365,7 @@ fn state_from(n: &[u64; 8], t: &[u8; 28]) -> [u8; 42]
     requires { Fit system_state (state_from n.now t.now) }
     ensures { result ≡ padded (written system_state (state_from n.now t.now)) 0 42 }
 {
-    let version = wire::eight_at(t, 0);
+    let version = wire::bytes_at::<8>(t, 0);
     let b = encode::state_body(SystemState {
         nanos: (n[1] % 4294967296) as u32,
         version,

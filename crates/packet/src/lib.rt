@@ -7,6 +7,7 @@ ghost use Rattle.packet.specs.Packet.{read_packet};
 
 use editions::Edition;
 use fields::{Fault, Refusal};
+use wire::Number;
 
 // What the ten header bytes of a record say.
 #[derive(Clone, Copy)]
@@ -38,8 +39,8 @@ pub fn head_at(p: &[u8], at: usize) -> Head
     }
     let t = &p[at..];
     Head {
-        number: wire::u64_at(t, 0),
-        len: wire::u16_at(t, 8) as usize,
+        number: u64::at(t, 0),
+        len: u16::at(t, 8) as usize,
     }
 }
 

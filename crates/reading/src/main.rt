@@ -12,6 +12,7 @@ use std::env::Env;
 use std::io;
 use std::io::Read;
 use packet::Why;
+use wire::Number;
 
 // The longest packet that a two-byte length can announce.
 const LONGEST: usize = 65535;
@@ -64,7 +65,7 @@ fn read_one(
     if streams::read_full(from, &mut length)? < 2 {
         return Ok(false);
     }
-    let n = wire::u16_at(&length, 0) as usize;
+    let n = u16::at(&length, 0) as usize;
     if !fill(from, held, n)? {
         return Ok(false);
     }
@@ -153,7 +154,7 @@ fn show_bad(rt: &impl Print, t: &[u8], f: Fault) -> io::Result<()> {
     if b.len() == 0 {
         return rt.print(", empty body");
     }
-    let k = kinds::kind_of(wire::u8_at(b, 0));
+    let k = kinds::kind_of(u8::at(b, 0));
     show_kind(rt, k)?;
     if n == 4 {
         show_field(rt, k, f.at)
@@ -256,7 +257,7 @@ fn show_records(rt: &impl Print, e: Edition, p: &[u8]) -> io::Result<()> {
 
 // The type byte, and the fields in the order of their places.
 fn show_body(rt: &impl Print, e: Edition, b: &[u8]) -> io::Result<()> {
-    also(rt, wire::u8_at(b, 0) as u64)?;
+    also(rt, u8::at(b, 0) as u64)?;
     show_fields(rt, e, b)?;
     end_line(rt)
 }

@@ -20,6 +20,7 @@ use editions::Edition;
 use facts::LAST_NUMBER;
 use fields::{Fault, Refusal};
 use packet::Why;
+use wire::Number;
 
 // The largest next number: one above the last sequence number.
 const MOST_NEXT: u64 = LAST_NUMBER + 1;
@@ -218,7 +219,7 @@ fn take_next(
     let next = at.next;
     let clock = at.clock;
     let i = (next % 64) as usize;
-    let k = kinds::kind_of(wire::u8_at(body, 0));
+    let k = kinds::kind_of(u8::at(body, 0));
     let a = book::try_kind(k, orders, symbols, index, clock, next, body, true);
     let after = a.clock;
     if a.rule != 0 {

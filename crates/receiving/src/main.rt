@@ -10,6 +10,7 @@ use std::io;
 use std::io::Read;
 use views::Side;
 use packet::Why;
+use wire::Number;
 
 // The capacities of the program `sheet`: five numbers a row.
 const ORDERS: usize = rows::ROW_SIZE * facts::SHEET_ROWS;
@@ -116,7 +117,7 @@ fn read_packet(from: &mut impl Read, held: &mut [u8]) -> io::Result<Option<usize
     if streams::read_full(from, &mut length)? < 2 {
         return Ok(None);
     }
-    let n = wire::u16_at(&length, 0) as usize;
+    let n = u16::at(&length, 0) as usize;
     if fill(from, held, n)? {
         Ok(Some(n))
     } else {
@@ -227,7 +228,7 @@ fn show_entries(rt: &impl Print, symbols: &[u8]) -> io::Result<()> {
 }
 
 fn show_entry(rt: &impl Print, i: usize, e: &[u8]) -> io::Result<()> {
-    if wire::u8_at(e, 0) == 0 {
+    if u8::at(e, 0) == 0 {
         return Ok(());
     }
     rt.print("entry")?;

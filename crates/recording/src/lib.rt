@@ -11,6 +11,7 @@ use facts::{HOLD_LEAST, PACKET_MOST};
 use fields::{Fault, Refusal};
 use receiver::State;
 use packet::Why;
+use wire::Number;
 
 // What a stream keeps between chunks, beside its buffer: the receiver, how many bytes of an unfinished packet are in the buffer, how many
 // of an over-long one are still to come, how many packets were refused and why the last of them was (0 and 0 before the first), and the counts.
@@ -158,7 +159,7 @@ fn push(
         r.held = 1;
         return r;
     }
-    let n = wire::u16_at(hold, 0) as usize;
+    let n = u16::at(hold, 0) as usize;
     if PACKET_MOST < n {
         r.held = 0;
         r.skip = n;
@@ -177,7 +178,7 @@ fn whole(chunk: &[u8], at: usize) -> usize
     ensures { 0 < result → WholeAt chunk.now at result }
 {
     let left = chunk.len() - at;
-    let n = wire::u16_at(chunk, at) as usize;
+    let n = u16::at(chunk, at) as usize;
     if PACKET_MOST < n {
         return 0;
     }

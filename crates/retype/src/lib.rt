@@ -7,6 +7,7 @@ ghost use Rattle.retype.specs.Types.{exceptions, whole_exceptions, names as name
 ghost use Rattle.retype.specs.Retyped.{asked, byte_in, retyping, retypes};
 
 use editions::Edition;
+use wire::Number;
 
 // The bytes of an exception.
 pub const EXCEPTION_SIZE: usize = 13;
@@ -23,15 +24,15 @@ fn names(x: &[u8], b: &[u8]) -> bool
     ensures { result ≡ names_symbol x.now b.now }
 {
     let s = fields::symbol_of(b);
-    let by = wire::u8_at(x, 0);
+    let by = u8::at(x, 0);
     if by == 0 {
-        return wire::u32_at(x, 1) == s.id;
+        return u32::at(x, 1) == s.id;
     }
     if by != 1 {
         return false;
     }
     let ticker = s.ticker;
-    let name = wire::eleven_at(x, 1);
+    let name = wire::bytes_at::<11>(x, 1);
     check::same(&name, &ticker)
 }
 
@@ -71,7 +72,7 @@ pub fn type_for(all: u8, others: &[u8], b: &[u8]) -> u8
     ensures { result ≡ type_for all others.now b.now }
 {
     match find_name(others, b) {
-        Some(i) => wire::u8_at(exception_in(others, i), 12),
+        Some(i) => u8::at(exception_in(others, i), 12),
         None => all,
     }
 }
@@ -80,7 +81,7 @@ pub fn type_for(all: u8, others: &[u8], b: &[u8]) -> u8
 fn is_bad(e: Edition, x: &[u8]) -> bool
     ensures { result ≡ bad_type e x.now }
 {
-    !body::security_ok(e, wire::u8_at(x, 12))
+    !body::security_ok(e, u8::at(x, 12))
 }
 
 // The first exception whose type is none of the edition's.
@@ -125,7 +126,7 @@ fn byte_in(e: Edition, y: u8) -> u8
 pub fn retype_body(to: Edition, all: u8, others: &[u8], b: &mut [u8]) -> bool
     ensures { retyping result b.new ≡ retypes (asked to all others.now) b.old }
 {
-    if wire::u8_at(b, 0) != 1 {
+    if u8::at(b, 0) != 1 {
         return false;
     }
     if 20 < b.len() {

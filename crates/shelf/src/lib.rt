@@ -11,6 +11,8 @@ ghost use Rattle.arbitration.specs.Receive.{highest as highest_number};
 ghost use Rattle.shelf.specs.Shelf.{slot_size, good_shelf, bytes_of, slot_at, put_slot};
 ghost use Rattle.shelf.specs.Store.{shelf_store};
 
+use wire::Number;
+
 // The bytes of a slot.
 const SLOT: usize = 74;
 
@@ -34,13 +36,13 @@ fn slot(s: &[u8], i: usize) -> &[u8]
 pub fn slot_number(s: &[u8], i: usize) -> u64
     ensures { result ≡ (slot_at s.now i).number }
 {
-    wire::u64_at(slot(s, i), 0)
+    u64::at(slot(s, i), 0)
 }
 
 pub fn slot_len(s: &[u8], i: usize) -> usize
     ensures { result ≡ (slot_at s.now i).len }
 {
-    wire::u16_at(slot(s, i), 8) as usize
+    u16::at(slot(s, i), 8) as usize
 }
 
 // The part with the slot's body: as many bytes as its length says, and never more than the 64.
@@ -51,7 +53,7 @@ pub fn slot_body<'a>(s: &'a [u8], i: usize) -> &'a [u8]
     if x.len() < SLOT {
         return &x[0..0];
     }
-    let n = wire::u16_at(x, 8) as usize;
+    let n = u16::at(x, 8) as usize;
     if 64 < n {
         return &x[10..74];
     }
@@ -64,7 +66,7 @@ fn same_bytes(x: &[u8], body: &[u8]) -> bool
 {
     let mut k: usize = 0;
     while k < 64 {
-        if wire::u8_at(x, 10 + k) != wire::u8_at(body, k) {
+        if u8::at(x, 10 + k) != u8::at(body, k) {
             return false;
         }
         k += 1;
@@ -77,10 +79,10 @@ pub fn holds(s: &[u8], i: usize, number: u64, body: &[u8]) -> bool
     ensures { result ≡ same_slot (slot_at s.now i) (slot_for number body.now) }
 {
     let x = slot(s, i);
-    if wire::u64_at(x, 0) != number {
+    if u64::at(x, 0) != number {
         return false;
     }
-    if wire::u16_at(x, 8) as usize != body.len() {
+    if u16::at(x, 8) as usize != body.len() {
         return false;
     }
     same_bytes(x, body)

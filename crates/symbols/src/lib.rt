@@ -9,6 +9,7 @@ ghost use Rattle.symbols.specs.Find.{is_symbol, find_symbol, find_free_entry, kn
 ghost use Rattle.symbols.specs.Work.{entered};
 
 use fields::Symbol;
+use wire::Number;
 
 // The type byte of an entry in use.
 const USED: u8 = 1;
@@ -69,22 +70,22 @@ pub fn entry_at(t: &[u8], i: usize) -> Symbol
 fn is_used(e: &[u8]) -> bool
     ensures { result ≡ used e.now }
 {
-    wire::u8_at(e, 0) == USED
+    u8::at(e, 0) == USED
 }
 
 fn is_free(e: &[u8]) -> bool
     ensures { result ≡ free_entry e.now }
 {
-    wire::u8_at(e, 0) == FREE
+    u8::at(e, 0) == FREE
 }
 
 fn is_symbol(e: &[u8], id: u32) -> bool
     ensures { result ≡ is_symbol id e.now }
 {
-    if wire::u8_at(e, 0) != USED {
+    if u8::at(e, 0) != USED {
         return false;
     }
-    wire::u32_at(e, 5) == id
+    u32::at(e, 5) == id
 }
 
 pub fn is_used_at(t: &[u8], i: usize) -> bool

@@ -8,6 +8,7 @@ ghost use Rattle.values.specs.Values.{most_of, in_bytes, value_in, value_text, s
 
 use figures::Figure;
 use styles::Style;
+use wire::Number;
 
 // The largest number of a field of w bytes.
 pub fn most_of(w: usize) -> u64
@@ -67,9 +68,9 @@ pub fn put_value(buf: &mut [u8], at: usize, style: Style, v: &[u8]) -> usize
     ensures { Wrote buf.old at (value_text style v.now) buf.new result }
 {
     match style {
-        Style::Number => text::decimal(buf, at, wire::u64_at(v, 0)),
-        Style::Price => figures::put_price(buf, at, wire::u64_at(v, 0)),
-        Style::Clock => figures::put_clock(buf, at, wire::u64_at(v, 0)),
+        Style::Number => text::decimal(buf, at, u64::at(v, 0)),
+        Style::Price => figures::put_price(buf, at, u64::at(v, 0)),
+        Style::Clock => figures::put_clock(buf, at, u64::at(v, 0)),
         Style::Text => letters::put_text(buf, at, v),
     }
 }

@@ -7,10 +7,12 @@ use Prim.Native.Nat.{ℕ, zero, suc, ◌+◌, ◌-◌, ◌*◌, ◌/◌, ◌%◌
 use mathlib.Core.Bool.{Bool, true, false}
 use lib.Dec.{leb}
 use borrow.Author.Tests.{leb-true, leb-false, le-leb, lt-leb}
-use native.Mathlib.Nat.{pow-suc, pow-succ', pow-zero, zero-add, add-zero, suc-add, add-suc, mul_assoc}
+use native.Mathlib.Nat.{pow-suc, pow-succ', pow-zero, zero-add, add-zero, suc-add, add-suc, mul_assoc, mul_comm}
 use native.Mathlib.Omega.{arith}
 use lib.ListN.{length, take, drop, get_or, set, replicate, length-append, length-drop, length-replicate, drop_of_length-le}
 use lib.Seq.{sets, sets-eq, take_at, drop_at, drop-drop, take-nil, take_all, drop-nil, length-take-le, take-append-le, get_or-take, get_or-drop, drop-cons, ext_get_or}
+use Rattle.std.proofs.Common.{add-one}
+use Rattle.std.specs.Int.{sum_through, byte_worth}
 use Rattle.facts.proofs.PieceLaws.{same_left}
 use Rattle.facts.proofs.Stores.{sets_past}
 use Rattle.wire.specs.Le.{le, to_le, field, padded, Bytes}
@@ -100,6 +102,17 @@ field_same a b at w h = field_alike a b at at w (λ k u. h (at + k) (omega arith
 -- a number of at most n bytes stands in a copy of n bytes from there
 pub field_copied : (b : List ℕ) (at n w : ℕ) → w ≤ n → field (padded b at n) 0 w ≡ field b at w
 field_copied b at n w h = field_alike (padded b at n) b 0 at w (λ k u. rw (zero-add k) (get_or_padded b at n k (omega arith)))
+
+-- what the library reads of bytes, the low one first, is the field that they are
+sum_field : (b : List ℕ) (n : ℕ) → sum_through (λ i. byte_worth i (get_or b i 0)) n ≡ field b 0 (suc n)
+sum_field b zero = sym (field_one b 0)
+sum_field b (suc n) =
+    let split : field b 0 (suc (suc n)) ≡ field b 0 (suc n) + 256 ^ suc n * field b (suc n) 1 = rw (zero-add (suc n), add-one (suc n)) at (field_split b 0 (suc n) 1) in
+    rw (sum_field b n, split, field_one b (suc n), mul_comm (256 ^ suc n) (get_or b (suc n) 0)) refl
+
+-- and so of a padded copy it reads what stands there
+pub number_copied : (b c : List ℕ) (at n : ℕ) → c ≡ padded b at (suc n) → sum_through (λ i. byte_worth i (get_or c i 0)) n ≡ field b at (suc n)
+number_copied b c at n e = rw e (sum_field (padded b at (suc n)) n ∙ field_copied b at (suc n) (suc n) (omega arith))
 
 -- and so it stands in a padded copy that reaches so far
 pub field_padded : (b : List ℕ) (n at w : ℕ) → at + w ≤ n → field (padded b 0 n) at w ≡ field b at w

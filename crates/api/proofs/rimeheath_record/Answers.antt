@@ -8,11 +8,11 @@ use Rattle.api.proofs.Handing.{record_handed, record_bad}
 use Rattle.api.proofs.rimeheath_record.Goals as goal
 
 pub with_offset-requires : goal.with_offset-requires
-with_offset-requires c = omega (arith, record_small _ c.args.rest.now _ (sym c.in-Bad.is ∙ c.read_record.ensures))
+with_offset-requires c = omega (arith, record_small _ c.args.rest.now _ (sym c.in-Err.is ∙ c.read_record.ensures))
 
-pub returns-in-Bad : goal.returns-in-Bad
-returns-in-Bad c = record_bad _ _ _ c.in-Bad.is (rw c.edition_of.ensures at c.read_record.ensures) _ _ c.with_offset.ensures
+pub returns-in-Err : goal.returns-in-Err
+returns-in-Err c = record_bad _ _ _ c.in-Err.is (rw c.edition_of.ensures at c.read_record.ensures) _ _ c.with_offset.ensures
 
-pub returns-in-Good : goal.returns-in-Good
+pub returns-in-Ok : goal.returns-in-Ok
 unfolding record_answer
-returns-in-Good c = record_handed _ _ _ c.in-Good.is (rw c.edition_of.ensures at c.read_record.ensures) c.args.head.now
+returns-in-Ok c = record_handed _ _ _ c.in-Ok.is (rw c.edition_of.ensures at c.read_record.ensures) c.args.head.now

@@ -8,7 +8,7 @@ use Rattle.body.proofs.Codes.{code_good, code_bad}
 use Rattle.body.proofs.judge_body.Goals as goal
 
 pub returns-then-c-eq0 : goal.returns-then-c-eq0
-returns-then-c-eq0 c = ap (λ (k : Kind). Ok k) (c.kind_of.ensures ∙ ap kind_of c.u8_at.ensures) ∙ code_good c.args.e c.args.b.now (sym c.judge-c.ensures ∙ c.if-c-eq0.true)
+returns-then-c-eq0 c = ap (λ (k : Kind). Ok k) (c.kind_of.ensures ∙ ap kind_of c.at.ensures) ∙ code_good c.args.e c.args.b.now (sym c.judge-c.ensures ∙ c.if-c-eq0.true)
 
 pub returns : goal.returns
 returns c = code_bad c.args.e c.args.b.now _ c.judge-c.ensures c.if-c-eq0.false

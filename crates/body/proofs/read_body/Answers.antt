@@ -7,10 +7,10 @@ use Rattle.fields.specs.declared.Fault.{Fault}
 use Rattle.kinds.specs.declared.Kind.{Kind}
 use Rattle.body.proofs.read_body.Goals as goal
 
-pub returns-in-Bad : goal.returns-in-Bad
+pub returns-in-Err : goal.returns-in-Err
 unfolding read_body message
-returns-in-Bad c = ap (λ (x : Result Kind Fault). message x c.args.b.now) (sym c.in-Bad.is ∙ c.judge_body.ensures)
+returns-in-Err c = ap (λ (x : Result Kind Fault). message x c.args.b.now) (sym c.in-Err.is ∙ c.judge_body.ensures)
 
-pub returns-in-Good : goal.returns-in-Good
+pub returns-in-Ok : goal.returns-in-Ok
 unfolding read_body message
-returns-in-Good c = c.decode.ensures ∙ ap (λ (x : Result Kind Fault). message x c.args.b.now) (sym c.in-Good.is ∙ c.judge_body.ensures)
+returns-in-Ok c = c.decode.ensures ∙ ap (λ (x : Result Kind Fault). message x c.args.b.now) (sym c.in-Ok.is ∙ c.judge_body.ensures)

@@ -3,4 +3,4 @@
 use Rattle.body.proofs.stamp_fault.Goals as goal
 
 pub returns : goal.returns
-returns c = rw (← c.u32_at.ensures, ← c.nanos_ok.ensures) c.fault_at.ensures
+returns c = rw (← c.at.ensures, ← c.nanos_ok.ensures) c.fault_at.ensures

@@ -16,7 +16,7 @@ use Rattle.book.proofs.plan_other.Goals as goal
 
 pub returns-in-SystemTime : goal.returns-in-SystemTime
 unfolding plan_by decoded
-returns-in-SystemTime c = λ o n. c.at_rest.ensures ∙ ap (λ (m : ℕ). plan_by (Body.SystemTime m) n c.args.body.now c.args.clock (looks (ledger (book o c.args.symbols.now c.args.clock) c.args.index.now))) c.u32_at.ensures ∙ kind_plan c.args.k _ n c.args.body.now c.args.clock (looks (ledger (book o c.args.symbols.now c.args.clock) c.args.index.now)) c.in-SystemTime.is
+returns-in-SystemTime c = λ o n. c.at_rest.ensures ∙ ap (λ (m : ℕ). plan_by (Body.SystemTime m) n c.args.body.now c.args.clock (looks (ledger (book o c.args.symbols.now c.args.clock) c.args.index.now))) c.at.ensures ∙ kind_plan c.args.k _ n c.args.body.now c.args.clock (looks (ledger (book o c.args.symbols.now c.args.clock) c.args.index.now)) c.in-SystemTime.is
 
 pub returns-in-SymbolUpdate : goal.returns-in-SymbolUpdate
 unfolding plan_by decoded
@@ -24,7 +24,7 @@ returns-in-SymbolUpdate c = λ o n. c.on_update.ensures ∙ kind_plan c.args.k _
 
 pub returns-in-SymbolClear : goal.returns-in-SymbolClear
 unfolding plan_by decoded
-returns-in-SymbolClear c = λ o n. c.clear_plan.ensures ∙ (λ i. clear_plan c.args.clock (c.clear_of.ensures i) ((c.find_entry-entry.ensures ∙ ap (λ (s : ℕ). entry_by c.args.index.now s (entries c.args.symbols.now)) c.u32_at-in-SymbolClear.ensures) i)) ∙ kind_plan c.args.k _ n c.args.body.now c.args.clock (looks (ledger (book o c.args.symbols.now c.args.clock) c.args.index.now)) c.in-SymbolClear.is
+returns-in-SymbolClear c = λ o n. c.clear_plan.ensures ∙ (λ i. clear_plan c.args.clock (c.clear_of.ensures i) ((c.find_entry-entry.ensures ∙ ap (λ (s : ℕ). entry_by c.args.index.now s (entries c.args.symbols.now)) c.at-in-SymbolClear.ensures) i)) ∙ kind_plan c.args.k _ n c.args.body.now c.args.clock (looks (ledger (book o c.args.symbols.now c.args.clock) c.args.index.now)) c.in-SymbolClear.is
 
 pub returns-in-Unknown : goal.returns-in-Unknown
 unfolding plan_by decoded

@@ -4,11 +4,11 @@ use mathlib.Core.Path.{sym, ◌∙◌}
 use Rattle.conversion.proofs.Exits.{bar_taken, bar_refused, bar_bad}
 use Rattle.conversion.proofs.bar.Goals as goal
 
-pub returns-in-Good : goal.returns-in-Good
-returns-in-Good c = λ a. bar_taken a c.args.f c.args.to c.args.p.now _ _ (sym c.read_packet.ensures ∙ c.in-Good.is) c.put_le.ensures
+pub returns-in-Ok : goal.returns-in-Ok
+returns-in-Ok c = λ a. bar_taken a c.args.f c.args.to c.args.p.now _ _ (sym c.read_packet.ensures ∙ c.in-Ok.is) c.put_le.ensures
 
 pub returns-in-Refused : goal.returns-in-Refused
 returns-in-Refused c = λ a. bar_refused a c.args.f c.args.to c.args.p.now _ (sym c.read_packet.ensures ∙ c.in-Refused.is)
 
-pub returns-in-Bad : goal.returns-in-Bad
-returns-in-Bad c = λ a. bar_bad a c.args.f c.args.to c.args.p.now _ (sym c.read_packet.ensures ∙ c.in-Bad.is)
+pub returns-in-Err : goal.returns-in-Err
+returns-in-Err c = λ a. bar_bad a c.args.f c.args.to c.args.p.now _ (sym c.read_packet.ensures ∙ c.in-Err.is)

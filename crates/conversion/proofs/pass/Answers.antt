@@ -7,16 +7,16 @@ use Rattle.conversion.proofs.Exits.{packet_is, pass_good, pass_refused, pass_bad
 use Rattle.conversion.proofs.pass.Goals as goal
 
 pub rewrite-requires : goal.rewrite-requires
-rewrite-requires c = packet_is c.args.from c.args.p.now _ (sym c.read_packet.ensures ∙ c.in-Good.is)
+rewrite-requires c = packet_is c.args.from c.args.p.now _ (sym c.read_packet.ensures ∙ c.in-Ok.is)
 
 pub bar-requires : goal.bar-requires
-bar-requires c = packet_small c.args.from c.args.p.now _ (sym c.read_packet.ensures ∙ c.in-Bad.is)
+bar-requires c = packet_small c.args.from c.args.p.now _ (sym c.read_packet.ensures ∙ c.in-Err.is)
 
-pub returns-in-Good : goal.returns-in-Good
-returns-in-Good c = pass_good c.args.from (asked c.args.to c.args.all c.args.others.now) c.args.p.now _ c.rewrite.result _ (sym c.read_packet.ensures ∙ c.in-Good.is) c.rewrite.ensures
+pub returns-in-Ok : goal.returns-in-Ok
+returns-in-Ok c = pass_good c.args.from (asked c.args.to c.args.all c.args.others.now) c.args.p.now _ c.rewrite.result _ (sym c.read_packet.ensures ∙ c.in-Ok.is) c.rewrite.ensures
 
 pub returns-in-Refused : goal.returns-in-Refused
 returns-in-Refused c = pass_refused c.args.from (asked c.args.to c.args.all c.args.others.now) c.args.p.now _ (sym c.read_packet.ensures ∙ c.in-Refused.is)
 
-pub returns-in-Bad : goal.returns-in-Bad
-returns-in-Bad c = pass_bad c.args.from (asked c.args.to c.args.all c.args.others.now) c.args.p.now _ _ (sym c.read_packet.ensures ∙ c.in-Bad.is) (c.bar.ensures (asked c.args.to c.args.all c.args.others.now))
+pub returns-in-Err : goal.returns-in-Err
+returns-in-Err c = pass_bad c.args.from (asked c.args.to c.args.all c.args.others.now) c.args.p.now _ _ (sym c.read_packet.ensures ∙ c.in-Err.is) (c.bar.ensures (asked c.args.to c.args.all c.args.others.now))

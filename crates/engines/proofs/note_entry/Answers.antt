@@ -11,4 +11,4 @@ returns-in-Keep c = rw c.in-Keep.is refl
 
 pub returns-in-Put : goal.returns-in-Put
 unfolding hinted_to
-returns-in-Put c = rw c.in-Put.is (c.put_hint.ensures ∙ ap (λ (n : ℕ). set c.args.ix.now (hint_at n) c.in-Put.i) c.u32_at.ensures)
+returns-in-Put c = rw c.in-Put.is (c.put_hint.ensures ∙ ap (λ (n : ℕ). set c.args.ix.now (hint_at n) c.in-Put.i) c.at.ensures)

@@ -7,7 +7,7 @@ use Rattle.fields.proofs.decode.Goals as goal
 
 pub returns-in-SystemTime : goal.returns-in-SystemTime
 unfolding decoded
-returns-in-SystemTime c = rw c.in-SystemTime.is (ap Body.SystemTime c.u32_at.ensures)
+returns-in-SystemTime c = rw c.in-SystemTime.is (ap Body.SystemTime c.at.ensures)
 
 pub returns-in-SymbolUpdate : goal.returns-in-SymbolUpdate
 unfolding decoded

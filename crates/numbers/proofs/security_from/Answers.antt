@@ -7,4 +7,4 @@ pub returns-in-V13 : goal.returns-in-V13
 returns-in-V13 c = rw c.in-V13.is refl
 
 pub returns-in-V13b : goal.returns-in-V13b
-returns-in-V13b c = rw c.in-V13b.is c.u8_at.ensures
+returns-in-V13b c = rw c.in-V13b.is c.at.ensures

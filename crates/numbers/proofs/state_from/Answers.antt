@@ -6,4 +6,4 @@ use Rattle.numbers.proofs.state_from.Goals as goal
 pub returns : goal.returns
 returns c =
     let f = c.requires in
-    rw (c.widen.ensures, c.state_body-b.ensures, c.eight_at-version.ensures, mod-eq_of_lt f.0, mod-eq_of_lt f.1.1.0, mod-eq_of_lt f.1.1.1.0)
+    rw (c.widen.ensures, c.state_body-b.ensures, c.bytes_at-version.ensures, mod-eq_of_lt f.0, mod-eq_of_lt f.1.1.0, mod-eq_of_lt f.1.1.1.0)

@@ -6,4 +6,4 @@ use Rattle.numbers.proofs.symbol_from.Goals as goal
 pub returns : goal.returns
 returns c =
     let f = c.requires.1 in
-    rw (c.eleven_at-ticker.ensures, c.eight_at-opening.ensures, c.eight_at-closing.ensures, mod-eq_of_lt f.1.0, mod-eq_of_lt f.1.1.1.1.1.1.0, mod-eq_of_lt f.1.1.1.1.1.1.1.1.1.0)
+    rw (c.bytes_at-ticker.ensures, c.bytes_at-opening.ensures, c.bytes_at-closing.ensures, mod-eq_of_lt f.1.0, mod-eq_of_lt f.1.1.1.1.1.1.0, mod-eq_of_lt f.1.1.1.1.1.1.1.1.1.0)

@@ -17,22 +17,22 @@ pub loop-at-init : goal.loop-at-init
 loop-at-init c = (omega arith, omega arith, more_none (told (frames_from c.args.e (length c.args.p.now) c.args.p.now)))
 
 pub overflow_add-fault : goal.overflow_add-fault
-overflow_add-fault c = let g = at_bad c.args.e c.args.p.now c.loop-at.at c.loop-at.records c.read_record.result c.loop-at-test.true c.read_record.ensures _ c.in-Bad.is in omega (arith, g.0)
+overflow_add-fault c = let g = at_bad c.args.e c.args.p.now c.loop-at.at c.loop-at.records c.read_record.result c.loop-at-test.true c.read_record.ensures _ c.in-Err.is in omega (arith, g.0)
 
-pub returns-in-Bad : goal.returns-in-Bad
-returns-in-Bad c = let g = at_bad c.args.e c.args.p.now c.loop-at.at c.loop-at.records c.read_record.result c.loop-at-test.true c.read_record.ensures _ c.in-Bad.is in sym (packet_is c.args.e c.args.p.now (omega arith) c.if-p-gt-PACKET_MOST.false ∙ c.loop-at.invariant.2 ∙ g.1)
+pub returns-in-Err : goal.returns-in-Err
+returns-in-Err c = let g = at_bad c.args.e c.args.p.now c.loop-at.at c.loop-at.records c.read_record.result c.loop-at-test.true c.read_record.ensures _ c.in-Err.is in sym (packet_is c.args.e c.args.p.now (omega arith) c.if-p-gt-PACKET_MOST.false ∙ c.loop-at.invariant.2 ∙ g.1)
 
 pub overflow_add-at : goal.overflow_add-at
-overflow_add-at c = let g = at_good c.args.e c.args.p.now c.loop-at.at c.loop-at.records c.read_record.result c.loop-at-test.true c.read_record.ensures _ c.in-Good.is in omega (arith, g.0)
+overflow_add-at c = let g = at_good c.args.e c.args.p.now c.loop-at.at c.loop-at.records c.read_record.result c.loop-at-test.true c.read_record.ensures _ c.in-Ok.is in omega (arith, g.0)
 
-pub overflow_add-at-in-Good : goal.overflow_add-at-in-Good
-overflow_add-at-in-Good c = let g = at_good c.args.e c.args.p.now c.loop-at.at c.loop-at.records c.read_record.result c.loop-at-test.true c.read_record.ensures _ c.in-Good.is in omega (arith, g.0)
+pub overflow_add-at-in-Ok : goal.overflow_add-at-in-Ok
+overflow_add-at-in-Ok c = let g = at_good c.args.e c.args.p.now c.loop-at.at c.loop-at.records c.read_record.result c.loop-at-test.true c.read_record.ensures _ c.in-Ok.is in omega (arith, g.0)
 
 pub loop-at-smaller : goal.loop-at-smaller
-loop-at-smaller c = let g = at_good c.args.e c.args.p.now c.loop-at.at c.loop-at.records c.read_record.result c.loop-at-test.true c.read_record.ensures _ c.in-Good.is in omega (arith, g.0)
+loop-at-smaller c = let g = at_good c.args.e c.args.p.now c.loop-at.at c.loop-at.records c.read_record.result c.loop-at-test.true c.read_record.ensures _ c.in-Ok.is in omega (arith, g.0)
 
 pub loop-at-preserved : goal.loop-at-preserved
-loop-at-preserved c = let g = at_good c.args.e c.args.p.now c.loop-at.at c.loop-at.records c.read_record.result c.loop-at-test.true c.read_record.ensures _ c.in-Good.is in (g.0, omega arith, c.loop-at.invariant.2 ∙ g.1)
+loop-at-preserved c = let g = at_good c.args.e c.args.p.now c.loop-at.at c.loop-at.records c.read_record.result c.loop-at-test.true c.read_record.ensures _ c.in-Ok.is in (g.0, omega arith, c.loop-at.invariant.2 ∙ g.1)
 
 pub returns : goal.returns
 returns c = sym (packet_is c.args.e c.args.p.now (omega arith) c.if-p-gt-PACKET_MOST.false ∙ c.loop-at.invariant.2 ∙ at_end c.args.e c.args.p.now c.loop-at.at c.loop-at.records c.loop-at-test.false)

@@ -18,15 +18,15 @@ returns-then-not-next_ok c = refused_next (real c.args.state.edition) (lent c.ar
 
 pub accept-requires : goal.accept-requires
 accept-requires c =
-    let g = good_framing c.args.state.edition c.args.p.now _ (sym c.read_packet.ensures ∙ c.in-Good.is) in
+    let g = good_framing c.args.state.edition c.args.p.now _ (sym c.read_packet.ensures ∙ c.in-Ok.is) in
     let sized = (real_laws c.args.state.edition).sized_ok (ledger (book c.args.orders.now c.args.symbols.now c.args.state.clock) c.args.index.now) c.args.shelf.now (sym c.sizes_ok.ensures ∙ not-false c.sizes_ok.result c.if-not-sizes_ok.false-raw) in
     (next_most c.args.state.next (sym c.next_ok.ensures ∙ not-false c.next_ok.result c.if-not-next_ok.false-raw), record { cs = g.0; framing_is = g.1 }, sized)
 
 pub returns-in-Refused : goal.returns-in-Refused
 returns-in-Refused c = refused_packet (real c.args.state.edition) (lent c.args.orders.now c.args.symbols.now c.args.shelf.now c.args.index.now c.args.state) c.args.p.now (sym c.sizes_ok.ensures ∙ not-false c.sizes_ok.result c.if-not-sizes_ok.false-raw) (sym c.next_ok.ensures ∙ not-false c.next_ok.result c.if-not-next_ok.false-raw) _ (refused_framing c.args.state.edition c.args.p.now _ (sym c.read_packet.ensures ∙ c.in-Refused.is))
 
-pub returns-in-Bad : goal.returns-in-Bad
-returns-in-Bad c = refused_packet (real c.args.state.edition) (lent c.args.orders.now c.args.symbols.now c.args.shelf.now c.args.index.now c.args.state) c.args.p.now (sym c.sizes_ok.ensures ∙ not-false c.sizes_ok.result c.if-not-sizes_ok.false-raw) (sym c.next_ok.ensures ∙ not-false c.next_ok.result c.if-not-next_ok.false-raw) _ (bad_framing c.args.state.edition c.args.p.now _ (sym c.read_packet.ensures ∙ c.in-Bad.is))
+pub returns-in-Err : goal.returns-in-Err
+returns-in-Err c = refused_packet (real c.args.state.edition) (lent c.args.orders.now c.args.symbols.now c.args.shelf.now c.args.index.now c.args.state) c.args.p.now (sym c.sizes_ok.ensures ∙ not-false c.sizes_ok.result c.if-not-sizes_ok.false-raw) (sym c.next_ok.ensures ∙ not-false c.next_ok.result c.if-not-next_ok.false-raw) _ (bad_framing c.args.state.edition c.args.p.now _ (sym c.read_packet.ensures ∙ c.in-Err.is))
 
-pub returns-in-Good : goal.returns-in-Good
-returns-in-Good c = c.accept.ensures ∙ by_frame (real c.args.state.edition) (lent c.args.orders.now c.args.symbols.now c.args.shelf.now c.args.index.now c.args.state) c.args.p.now (sym c.sizes_ok.ensures ∙ not-false c.sizes_ok.result c.if-not-sizes_ok.false-raw) (sym c.next_ok.ensures ∙ not-false c.next_ok.result c.if-not-next_ok.false-raw)
+pub returns-in-Ok : goal.returns-in-Ok
+returns-in-Ok c = c.accept.ensures ∙ by_frame (real c.args.state.edition) (lent c.args.orders.now c.args.symbols.now c.args.shelf.now c.args.index.now c.args.state) c.args.p.now (sym c.sizes_ok.ensures ∙ not-false c.sizes_ok.result c.if-not-sizes_ok.false-raw) (sym c.next_ok.ensures ∙ not-false c.next_ok.result c.if-not-next_ok.false-raw)

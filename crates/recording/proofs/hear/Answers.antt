@@ -13,5 +13,5 @@ returns-in-Ok c = (heard_accepted (standing_of c.args.k c.args.orders.now c.args
 pub returns-in-Refused : goal.returns-in-Refused
 returns-in-Refused c = (missed_as c.args.k _ _ _ _ _ _ _ c.missed.ensures ∙ heard_refused (standing_of c.args.k c.args.orders.now c.args.symbols.now c.args.shelf.now c.args.index.now) c.args.p.now c.requires (handled c.receive-a.result.answer _) c.receive-a.ensures _ c.in-Refused.is, ap (λ (v : Stream). v.held) c.missed.ensures, ap (λ (v : Stream). v.skip) c.missed.ensures)
 
-pub returns-in-Bad : goal.returns-in-Bad
-returns-in-Bad c = (missed_as c.args.k _ _ _ _ _ _ _ c.missed-in-Bad.ensures ∙ heard_bad (standing_of c.args.k c.args.orders.now c.args.symbols.now c.args.shelf.now c.args.index.now) c.args.p.now c.requires (handled c.receive-a.result.answer _) c.receive-a.ensures _ c.in-Bad.is, ap (λ (v : Stream). v.held) c.missed-in-Bad.ensures, ap (λ (v : Stream). v.skip) c.missed-in-Bad.ensures)
+pub returns-in-Err : goal.returns-in-Err
+returns-in-Err c = (missed_as c.args.k _ _ _ _ _ _ _ c.missed-in-Err.ensures ∙ heard_bad (standing_of c.args.k c.args.orders.now c.args.symbols.now c.args.shelf.now c.args.index.now) c.args.p.now c.requires (handled c.receive-a.result.answer _) c.receive-a.ensures _ c.in-Err.is, ap (λ (v : Stream). v.held) c.missed-in-Err.ensures, ap (λ (v : Stream). v.skip) c.missed-in-Err.ensures)

@@ -8,19 +8,19 @@ pub returns-then-u64_at-number : goal.returns-then-u64_at-number
 returns-then-u64_at-number c =
     let a = c.args in
     let x = c.slot-x in
-    other_number a.s.now a.i x.result.now x.ensures a.number a.body.now (λ e. c.if-u64_at-number.true (c.u64_at.ensures ∙ e))
+    other_number a.s.now a.i x.result.now x.ensures a.number a.body.now (λ e. c.if-u64_at-number.true (c.at.ensures ∙ e))
 
 pub returns-then-u16_at-body : goal.returns-then-u16_at-body
 returns-then-u16_at-body c =
     let a = c.args in
     let x = c.slot-x in
-    other_length a.s.now a.i x.result.now x.ensures a.number a.body.now (sym c.u64_at.ensures ∙ c.if-u64_at-number.false)
-    (λ e. c.if-u16_at-body.true (c.u16_at.ensures ∙ e))
+    other_length a.s.now a.i x.result.now x.ensures a.number a.body.now (sym c.at.ensures ∙ c.if-u64_at-number.false)
+    (λ e. c.if-u16_at-body.true (c.at.ensures ∙ e))
 
 pub returns : goal.returns
 returns c =
     let a = c.args in
     let x = c.slot-x in
     c.same_bytes.ensures
-    ∙ bytes_decide a.s.now a.i x.result.now x.ensures a.number a.body.now (sym c.u64_at.ensures ∙ c.if-u64_at-number.false)
-    (sym c.u16_at.ensures ∙ c.if-u16_at-body.false)
+    ∙ bytes_decide a.s.now a.i x.result.now x.ensures a.number a.body.now (sym c.at.ensures ∙ c.if-u64_at-number.false)
+    (sym c.at.ensures ∙ c.if-u16_at-body.false)

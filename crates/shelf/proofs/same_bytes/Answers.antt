@@ -16,7 +16,7 @@ returns-then-u8_at c =
     let a = c.args in
     let l = c.loop-k in
     one_differs a.x.now a.body.now l.k (omega arith)
-    (λ e. c.if-u8_at.true (omega (arith, c.u8_at.ensures, e, c.u8_at-in-loop-k.ensures)))
+    (λ e. c.if-u8_at.true (omega (arith, c.at.ensures, e, c.at-in-loop-k.ensures)))
 
 pub loop-k-preserved : goal.loop-k-preserved
 loop-k-preserved c =
@@ -24,7 +24,7 @@ loop-k-preserved c =
     let l = c.loop-k in (
       omega arith,
       below_more (λ (j : ℕ). get_or a.x.now (10 + j) 0 ≡ get_or a.body.now j 0) l.k l.invariant.1
-          (omega (arith, c.u8_at.ensures, c.if-u8_at.false, c.u8_at-in-loop-k.ensures)),
+          (omega (arith, c.at.ensures, c.if-u8_at.false, c.at-in-loop-k.ensures)),
     )
 
 pub returns : goal.returns

@@ -13,12 +13,12 @@ pub returns-then-n-gt64 : goal.returns-then-n-gt64
 returns-then-n-gt64 c =
     let a = c.args in
     let x = c.slot-x in
-    let n = c.u16_at-n in
+    let n = c.at-n in
     body_long a.s.now a.i x.result.now x.ensures n.result n.ensures c.if-x-lt-SLOT.false c.if-n-gt64.true
 
 pub returns : goal.returns
 returns c =
     let a = c.args in
     let x = c.slot-x in
-    let n = c.u16_at-n in
+    let n = c.at-n in
     body_in a.s.now a.i x.result.now x.ensures n.result n.ensures c.if-x-lt-SLOT.false c.if-n-gt64.false

@@ -5,4 +5,4 @@ use Rattle.shelf.proofs.Laws.{len_is}
 use Rattle.shelf.proofs.slot_len.Goals as goal
 
 pub returns : goal.returns
-returns c = let a = c.args in c.u16_at.ensures ∙ len_is a.s.now a.i c.slot.result.now c.slot.ensures
+returns c = let a = c.args in c.at.ensures ∙ len_is a.s.now a.i c.slot.result.now c.slot.ensures

@@ -5,4 +5,4 @@ use Rattle.shelf.proofs.Laws.{number_is}
 use Rattle.shelf.proofs.slot_number.Goals as goal
 
 pub returns : goal.returns
-returns c = let a = c.args in c.u64_at.ensures ∙ number_is a.s.now a.i c.slot.result.now c.slot.ensures
+returns c = let a = c.args in c.at.ensures ∙ number_is a.s.now a.i c.slot.result.now c.slot.ensures

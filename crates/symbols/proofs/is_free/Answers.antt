@@ -7,4 +7,4 @@ use Rattle.symbols.proofs.is_free.Goals as goal
 
 pub returns : goal.returns
 unfolding free_entry
-returns c = ap (λ n. eqb n 0) c.u8_at.ensures
+returns c = ap (λ n. eqb n 0) c.at.ensures

@@ -13,7 +13,7 @@ pub returns-then-u8_at-ne-USED : goal.returns-then-u8_at-ne-USED
 unfolding used
 returns-then-u8_at-ne-USED c =
     let a = c.args in
-    let e = a.e.now in sym (unused_symbol a.id e (ne_eqb (get_or e 0 0) 1 (λ z. c.if-u8_at-ne-USED.true (c.u8_at.ensures ∙ z))))
+    let e = a.e.now in sym (unused_symbol a.id e (ne_eqb (get_or e 0 0) 1 (λ z. c.if-u8_at-ne-USED.true (c.at.ensures ∙ z))))
 
 pub returns : goal.returns
 unfolding used
@@ -21,4 +21,4 @@ returns c =
     let a = c.args in
     let e = a.e.now in
     let h : get_or e 0 0 ≡ 1 = omega arith in
-    ap (λ n. eqb n a.id) c.u32_at.ensures ∙ sym (used_symbol a.id e (eq-eqb (get_or e 0 0) 1 h))
+    ap (λ n. eqb n a.id) c.at.ensures ∙ sym (used_symbol a.id e (eq-eqb (get_or e 0 0) 1 h))

@@ -7,4 +7,4 @@ use Rattle.symbols.proofs.is_used.Goals as goal
 
 pub returns : goal.returns
 unfolding used
-returns c = ap (λ n. eqb n 1) c.u8_at.ensures
+returns c = ap (λ n. eqb n 1) c.at.ensures

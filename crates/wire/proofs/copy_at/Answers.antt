@@ -13,13 +13,10 @@ pub returns-then-b-at : goal.returns-then-b-at
 returns-then-b-at c = c.wipe.ensures ∙ zeros_alone c.args.b.now c.args.at (length c.args.out.now) c.if-b-at.true
 
 pub returns-then-n-k : goal.returns-then-n-k
-returns-then-n-k c = c.copy.ensures ∙ (ap (λ (m : ℕ). take m (drop c.args.at c.args.b.now)) (add-sub_cancel_left c.args.at (length c.args.out.now)) ∙ sym (padded_part c.args.b.now c.args.at (length c.args.out.now) (omega arith)))
+returns-then-n-k c = c.copy_from_slice.ensures.after ∙ (ap (λ (m : ℕ). take m (drop c.args.at c.args.b.now)) (add-sub_cancel_left c.args.at (length c.args.out.now)) ∙ sym (padded_part c.args.b.now c.args.at (length c.args.out.now) (omega arith)))
 
-pub slice_bounds-copy-end-4 : goal.slice_bounds-copy-end-4
-slice_bounds-copy-end-4 c = sym (zeros_room (length c.args.out.now) (length c.args.b.now - c.args.at) _ (omega arith) c.wipe-2.ensures)
-
-pub copy-requires-2 : goal.copy-requires-2
-copy-requires-2 c = length-take-le (length c.args.b.now - c.args.at) (drop c.args.at c.args.b.now) (rw length-drop (omega arith)) ∙ sym (zeros_room (length c.args.out.now) (length c.args.b.now - c.args.at) _ (omega arith) c.wipe-2.ensures)
+pub copy_from_slice-requires-2 : goal.copy_from_slice-requires-2
+copy_from_slice-requires-2 c = sym (length-take-le (length c.args.b.now - c.args.at) (drop c.args.at c.args.b.now) (rw length-drop (omega arith)) ∙ sym (zeros_room (length c.args.out.now) (length c.args.b.now - c.args.at) _ (omega arith) c.wipe-2.ensures))
 
 pub returns : goal.returns
-returns c = front_and_zeros c.args.b.now c.args.at (length c.args.out.now) _ _ (omega arith) (omega arith) c.wipe-2.ensures c.copy-2.ensures
+returns c = front_and_zeros c.args.b.now c.args.at (length c.args.out.now) _ _ (omega arith) (omega arith) c.wipe-2.ensures c.copy_from_slice-2.ensures.after

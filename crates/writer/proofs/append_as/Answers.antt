@@ -13,10 +13,10 @@ pub returns-in-Refused : goal.returns-in-Refused
 unfolding appended_as
 returns-in-Refused c = refused_here _ _ c.args.memory.now c.args.used _ _ c.if-memory-used.false (sym c.so_far.ensures ∙ c.in-Refused.is)
 
-pub returns-in-Bad : goal.returns-in-Bad
+pub returns-in-Err : goal.returns-in-Err
 unfolding appended_as
-returns-in-Bad c = bad_here _ _ c.args.memory.now c.args.used _ _ c.if-memory-used.false (sym c.so_far.ensures ∙ c.in-Bad.is)
+returns-in-Err c = bad_here _ _ c.args.memory.now c.args.used _ _ c.if-memory-used.false (sym c.so_far.ensures ∙ c.in-Err.is)
 
-pub returns-in-Good : goal.returns-in-Good
+pub returns-in-Ok : goal.returns-in-Ok
 unfolding appended_as
-returns-in-Good c = c.put_own.ensures ∙ good_here _ _ c.args.memory.now c.args.used _ _ c.if-memory-used.false (sym c.so_far.ensures ∙ c.in-Good.is)
+returns-in-Ok c = c.put_own.ensures ∙ good_here _ _ c.args.memory.now c.args.used _ _ c.if-memory-used.false (sym c.so_far.ensures ∙ c.in-Ok.is)
