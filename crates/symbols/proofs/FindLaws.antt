@@ -12,6 +12,7 @@ use borrow.Author.Tests.{eq-eqb, ne_eqb, eqb-true, ltb-true, ltb-false}
 use Rattle.facts.specs.Pick.{both}
 use Rattle.facts.specs.Search.{first, is_found, or_else}
 use Rattle.std.specs.Prelude.{Option, Some, None}
+use Rattle.std.specs.Option.{is_some}
 use Rattle.facts.proofs.Picks.{both_true}
 use Rattle.facts.proofs.Searches.{first_at, first_none}
 use Rattle.symbols.specs.Entries.{used, free_entry, id_of}
@@ -75,6 +76,14 @@ pub record Known (id : ℕ) (es : List (List ℕ)) : Type 0 where
   pub found : find_symbol id es ≡ Some place
   pub inside : place < length es
   pub its : is_symbol id (get_or es place []) ≡ true
+
+pub known_some : (id : ℕ) (es : List (List ℕ)) → is_some (find_symbol id es) ≡ known_symbol id es
+unfolding known_symbol
+known_some id es = go (find_symbol id es)
+  where
+    go : (f : Option ℕ) → is_some f ≡ is_found f
+    go (Some i) = refl
+    go None = refl
 
 pub found_known : (id : ℕ) (es : List (List ℕ)) (i : ℕ) → find_symbol id es ≡ Some i → known_symbol id es ≡ true
 unfolding known_symbol

@@ -21,17 +21,9 @@ const FREE: u8 = 0;
 pub fn good_entries(n: usize) -> bool
     ensures { result ≡ good_entries n }
 {
-    if n % facts::ENTRY_SIZE != 0 {
-        return false;
-    }
-    let k = n / facts::ENTRY_SIZE;
-    if k < 1 {
-        return false;
-    }
-    if k > facts::MOST_ENTRIES {
-        return false;
-    }
-    true
+    n % facts::ENTRY_SIZE == 0
+        && 1 <= n / facts::ENTRY_SIZE
+        && n / facts::ENTRY_SIZE <= facts::MOST_ENTRIES
 }
 
 pub fn entry_count(t: &[u8]) -> usize
@@ -82,10 +74,7 @@ fn is_free(e: &[u8]) -> bool
 fn is_symbol(e: &[u8], id: u32) -> bool
     ensures { result ≡ is_symbol id e.now }
 {
-    if u8::at(e, 0) != USED {
-        return false;
-    }
-    u32::at(e, 5) == id
+    is_used(e) && u32::at(e, 5) == id
 }
 
 pub fn is_used_at(t: &[u8], i: usize) -> bool
@@ -131,21 +120,13 @@ fn find_free_entry(t: &[u8]) -> Option<usize>
 pub fn known(t: &[u8], id: u32) -> bool
     ensures { result ≡ known_symbol id (entries t.now) }
 {
-    let f = find_symbol(t, id);
-    match f {
-        Some(_) => true,
-        None => false,
-    }
+    find_symbol(t, id).is_some()
 }
 
 pub fn find_place(t: &[u8], id: u32) -> Option<usize>
     ensures { result ≡ place_for id (entries t.now) }
 {
-    let own = find_symbol(t, id);
-    match own {
-        Some(i) => Some(i),
-        None => find_free_entry(t),
-    }
+    find_symbol(t, id).or_else(|| find_free_entry(t))
 }
 
 fn put_entry(t: &mut [u8], i: usize, body: &[u8])
@@ -163,9 +144,8 @@ fn put_entry(t: &mut [u8], i: usize, body: &[u8])
 pub fn commit(t: &mut [u8], w: Option<usize>, body: &[u8])
     ensures { t.new ≡ entered w body.now t.old }
 {
-    match w {
-        None => {}
-        Some(i) => put_entry(t, i, body),
+    if let Some(i) = w {
+        put_entry(t, i, body);
     }
 }
 

@@ -1,13 +1,13 @@
--- Each work is one call, and that call ensures its case of the definition.
+-- The work is one call, and that call ensures its case of the definition.
 -- Assumes nothing.
-use mathlib.Core.Path.{refl}
+use Rattle.std.proofs.Common.{refl}
 use Rattle.symbols.specs.Work.{entered}
 use Rattle.symbols.proofs.commit.Goals as goal
 
-pub returns-in-Keep : goal.returns-in-Keep
+pub returns-in-Some : goal.returns-in-Some
 unfolding entered
-returns-in-Keep c = rw c.in-Keep.is refl
+returns-in-Some c = rw c.in-Some.is c.put_entry.ensures
 
-pub returns-in-Put : goal.returns-in-Put
+pub returns-in_default : goal.returns-in_default
 unfolding entered
-returns-in-Put c = rw c.in-Put.is c.put_entry.ensures
+returns-in_default c = rw c.in_default.is refl

@@ -1,16 +1,9 @@
--- The symbol's own entry where the search finds it (place_own), else the lowest free one (place_fresh).
--- Assumes nothing.
-use mathlib.Core.Path.{sym, ◌∙◌}
-use Rattle.symbols.specs.Entries.{entries}
-use Rattle.symbols.proofs.FindLaws.{place_own, place_fresh}
+use Rattle.std.proofs.Common.{arith}
+use Rattle.std.proofs.lemmas.Grind.{common_steps}
+use Rattle.symbols.specs.Find.{place_for}
 use Rattle.symbols.proofs.find_place.Goals as goal
 
-pub returns-in-Some : goal.returns-in-Some
-returns-in-Some c =
-    let a = c.args in
-    sym (place_own a.id (entries a.t.now) c.in-Some.i (sym c.find_symbol-own.ensures ∙ c.in-Some.is))
-
-pub returns-in-None : goal.returns-in-None
-returns-in-None c =
-    let a = c.args in
-    c.find_free_entry.ensures ∙ sym (place_fresh a.id (entries a.t.now) (sym c.find_symbol-own.ensures ∙ c.in-None.is))
+-- src/lib.rt:118:1
+pub returns : goal.returns
+unfolding place_for
+returns c = grind (arith, common_steps, c.or_else.ensures)

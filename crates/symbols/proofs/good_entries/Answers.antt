@@ -1,18 +1,14 @@
--- A good size meets its three tests (good-entries), so a broken one refutes it, and all three make it good.
--- Assumes nothing.
-use mathlib.Core.Path.{sym}
-use native.Mathlib.Omega.{arith}
-use Rattle.symbols.proofs.EntryLaws.{entries_not_good, entries_good}
+use Rattle.std.proofs.Common.{arith}
+use Rattle.std.proofs.lemmas.Grind.{common_steps}
+use Rattle.facts.specs.Pick.{both}
+use Rattle.symbols.specs.Entries.{good_entries}
 use Rattle.symbols.proofs.good_entries.Goals as goal
+use Rattle.symbols.proofs.good_entries.Goals.{then-n-eq0, else-n-eq0}
 
-pub returns-then-n-ne0 : goal.returns-then-n-ne0
-returns-then-n-ne0 c = entries_not_good _ (λ w. omega arith)
+pub returns-then-n-ge1 : goal.returns-then-n-ge1
+unfolding good_entries both
+returns-then-n-ge1 c = grind (arith, common_steps)
 
-pub returns-then-k-lt1 : goal.returns-then-k-lt1
-returns-then-k-lt1 c = entries_not_good _ (λ w. omega arith)
-
-pub returns-then-k-gt-MOST_ENTRIES : goal.returns-then-k-gt-MOST_ENTRIES
-returns-then-k-gt-MOST_ENTRIES c = entries_not_good _ (λ w. omega arith)
-
-pub returns : goal.returns
-returns c = sym (entries_good _ (omega arith, omega arith, omega arith))
+pub returns-else-n-ge1 : goal.returns-else-n-ge1
+unfolding good_entries both
+returns-else-n-ge1 c = grind (arith, common_steps)

@@ -1,24 +1,14 @@
--- Another type byte than a used entry's decides by itself; with that one the ID has to be the same.
+-- The type byte decides by itself where it is not a used entry's; with that one the ID has to be the same.
 -- Assumes nothing.
-use mathlib.Core.Path.{◌≡◌, sym, ap, ◌∙◌}
-use native.Mathlib.Omega.{arith}
-use lib.ListN.{get_or}
+use Rattle.std.proofs.Common.{sym, ◌∙◌, ap}
 use lib.Dec.{eqb}
-use borrow.Author.Tests.{eq-eqb, ne_eqb}
-use Rattle.symbols.specs.Entries.{used}
 use Rattle.symbols.proofs.FindLaws.{used_symbol, unused_symbol}
 use Rattle.symbols.proofs.is_symbol.Goals as goal
 
-pub returns-then-u8_at-ne-USED : goal.returns-then-u8_at-ne-USED
-unfolding used
-returns-then-u8_at-ne-USED c =
-    let a = c.args in
-    let e = a.e.now in sym (unused_symbol a.id e (ne_eqb (get_or e 0 0) 1 (λ z. c.if-u8_at-ne-USED.true (c.at.ensures ∙ z))))
+pub returns-then-is_used : goal.returns-then-is_used
+returns-then-is_used c =
+    ap (λ n. eqb n c.args.id) c.at.ensures ∙ sym (used_symbol c.args.id c.args.e.now (sym c.is_used.ensures ∙ c.if-is_used.true))
 
-pub returns : goal.returns
-unfolding used
-returns c =
-    let a = c.args in
-    let e = a.e.now in
-    let h : get_or e 0 0 ≡ 1 = omega arith in
-    ap (λ n. eqb n a.id) c.at.ensures ∙ sym (used_symbol a.id e (eq-eqb (get_or e 0 0) 1 h))
+pub returns-else-is_used : goal.returns-else-is_used
+returns-else-is_used c =
+    c.if-is_used.false ∙ sym (unused_symbol c.args.id c.args.e.now (sym c.is_used.ensures ∙ c.if-is_used.false))
