@@ -113,8 +113,7 @@ pub fn note(t: &[u64], ix: &mut [u64], w: RowWork)
 pub fn note_entry(ix: &mut [u64], w: Option<usize>, body: &[u8])
     ensures { ix.new ≡ hinted_to w body.now ix.old }
 {
-    match w {
-        None => {}
-        Some(i) => index::put_hint(ix, u32::at(body, 5), i),
+    if let Some(i) = w {
+        index::put_hint(ix, u32::at(body, 5), i);
     }
 }
