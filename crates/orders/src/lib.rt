@@ -9,7 +9,7 @@ ghost use Rattle.orders.specs.Work.{moves, remade, reduced, wiped, cleared, comm
 use rows::Row;
 
 // The work of a message on the order table: a row at its place, or the symbol whose rows go.
-#[derive(Clone, Copy)]
+#[derive(Clone, Copy, PartialEq, Eq, Debug)]
 pub enum RowWork {
     Keep,
     Put(usize, Row),

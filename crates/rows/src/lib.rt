@@ -12,7 +12,7 @@ ghost use Rattle.rows.specs.Find.{is_order, find_order, find_free, held_at, of_s
 pub const ROW_SIZE: usize = 5;
 
 // key: the symbol and the side, by `key_for`.
-#[derive(Clone, Copy)]
+#[derive(Clone, Copy, PartialEq, Eq, Debug)]
 pub struct Row {
     pub order: u64,
     pub key: u64,
