@@ -211,12 +211,10 @@ fn with_from(a: Asked, e: Option<Edition>) -> Asked {
 }
 
 fn with_type(a: Asked, value: &[u8], others: &mut [u8]) -> Asked {
-    let mut one = [0u8; retype::EXCEPTION_SIZE];
-    let t = words::type_asked(value, &mut one);
-    match t {
-        TypeWord::All(b) => with_all(a, b),
-        TypeWord::Exception => with_exception(a, &one, others),
-        TypeWord::Wrong => wrong(a),
+    match words::type_asked(value) {
+        Some(TypeWord::All(b)) => with_all(a, b),
+        Some(TypeWord::Exception(one)) => with_exception(a, &one, others),
+        None => wrong(a),
     }
 }
 
