@@ -5,11 +5,11 @@ use Rattle.arbitration.specs.Slots.{slot_for}
 use Rattle.shelf.proofs.Laws.{part_put, put_past}
 use Rattle.shelf.proofs.put.Goals as goal
 
-pub returns-then-s-i : goal.returns-then-s-i
-returns-then-s-i c = let a = c.args in put_past a.s.now a.i (slot_for a.number a.body.now) c.if-s-i.true
-
-pub returns : goal.returns
-returns c =
+pub returns-then-i-s : goal.returns-then-i-s
+returns-then-i-s c =
     let a = c.args in
-    let f = c.fill in
-    part_put a.s.now a.i (slot_for a.number a.body.now) f.new.x c.if-s-i.false f.ensures (length_padded a.body.now 0 64)
+    let w = c.write in
+    part_put a.s.now a.i (slot_for a.number a.body.now) w.new.x c.if-i-s.true w.ensures (length_padded a.body.now 0 64)
+
+pub returns-else-i-s : goal.returns-else-i-s
+returns-else-i-s c = let a = c.args in put_past a.s.now a.i (slot_for a.number a.body.now) c.if-i-s.false

@@ -1,7 +1,7 @@
 -- Number and length stored in front, and the body's part behind them, are the slot (filled).
 -- Assumes nothing.
 use Rattle.shelf.proofs.Laws.{filled}
-use Rattle.shelf.proofs.fill.Goals as goal
+use Rattle.shelf.proofs.write.Goals as goal
 
 pub returns : goal.returns
 returns c =
