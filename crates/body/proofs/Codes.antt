@@ -1,6 +1,6 @@
 -- Judging as one number: what the tests on the way say of the judgement, and that the number tells it.
 -- Assumes nothing.
-use mathlib.Core.Path.{◌≡◌, sym, ap, subst, ◌∙◌}
+use mathlib.Core.Path.{◌≡◌, refl, sym, ap, subst, ◌∙◌}
 use mathlib.Core.Logic.{inl, inr}
 use mathlib.Core.List.{List}
 use Prim.Native.Nat.{ℕ, ◌/◌, ◌%◌, ◌≤◌, ◌<◌}
@@ -14,9 +14,11 @@ use Rattle.kinds.specs.declared.Kind.{Kind}
 use Rattle.fields.specs.Fields.{bad_at}
 use Rattle.fields.specs.declared.Fault.{Fault}
 use Rattle.body.specs.Faults.{fault_of}
-use Rattle.body.specs.Read.{framed, ranged, judge_body, judged_number, judged_code}
+use Rattle.body.specs.Read.{framed, judge_fields, ranged, judge_body, judged_number, judged_code}
 use Rattle.std.specs.Prelude.{Result, Ok, Err}
 use Rattle.body.specs.Places.{BadBody}
+use Rattle.body.proofs.Tests.{passed, failed}
+use lib.Dec.{eqb}
 use Rattle.body.proofs.Laws.{JudgedAs, judge_sound, Judgement, good, bad, judgement}
 
 module _ (ed : Edition) (b : List ℕ) where
@@ -30,14 +32,18 @@ module _ (ed : Edition) (b : List ℕ) where
     unfolding judge_body framed pick both
     length_judged h = simp (lt-ltb 0 (length b) some, ← by_table, ne_eqb (length b) n h)
 
-    module _ (whole : length b ≡ n) (k : Kind) (by_type : k ≡ kind_of (get_or b 0 0)) (at : ℕ) (by_fields : at ≡ fault_of ed k b) where
-      pub good_told : at ≡ 0 → Ok k ≡ judge_body ed b
-      unfolding judge_body framed ranged pick both
-      good_told z = simp (lt-ltb 0 (length b) some, ← by_table, eq-eqb (length b) n whole, ← by_type, ← by_fields, eq-eqb at 0 z)
+    module _ (whole : length b ≡ n) (k : Kind) (by_type : k ≡ kind_of (get_or b 0 0)) where
+      fields_judged : (r : Result Kind Fault) → ranged ed k b ≡ r → r ≡ judge_body ed b
+      unfolding judge_body framed pick both
+      fields_judged r e = simp (lt-ltb 0 (length b) some, ← by_table, eq-eqb (length b) n whole, ← by_type, e)
 
-      pub fault_told : (at ≡ 0 → ⊥) → Err (bad_at 4 at) ≡ judge_body ed b
-      unfolding judge_body framed ranged pick both
-      fault_told z = simp (lt-ltb 0 (length b) some, ← by_table, eq-eqb (length b) n whole, ← by_type, ← by_fields, ne_eqb at 0 z)
+      pub good_told : (u : Unit {0}) → judge_fields ed k b ≡ Ok u → Ok k ≡ judge_body ed b
+      unfolding judge_fields ranged pick
+      good_told u e = let q = passed (eqb (fault_of ed k b) 0) (fault_of ed k b) u e in fields_judged (Ok k) (rw q refl)
+
+      pub fault_told : (f : Fault) → judge_fields ed k b ≡ Err f → Err f ≡ judge_body ed b
+      unfolding judge_fields ranged pick
+      fault_told f e = let q = failed (eqb (fault_of ed k b) 0) (fault_of ed k b) f e in fields_judged (Err f) (rw q.0 (ap (λ (x : Fault). Err x) (sym q.1)))
 
   -- ---- by the number
   number_bound : (f : Fault) → BadBody ed b f → (3 ≤ f.number) × (f.number ≤ 4)

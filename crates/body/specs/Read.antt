@@ -13,6 +13,14 @@ use Rattle.body.specs.Faults.{fault_of}
 unfoldable pub framed : List ℕ → Bool
 framed b = both (ltb 0 (length b)) (eqb (length b) (length_of (get_or b 0 0)))
 
+-- 4, at a field whose test fails
+abbrev pub tested : Bool → ℕ → Result (Unit {0}) Fault
+tested ok at = pick ok (Ok tt) (Err (bad_at 4 at))
+
+-- the fields of a kind: 4 at the earliest one out of range (no field starts at 0)
+unfoldable pub judge_fields : Edition → Kind → List ℕ → Result (Unit {0}) Fault
+judge_fields ed k b = tested (eqb (fault_of ed k b) 0) (fault_of ed k b)
+
 -- else 4, "a field out of range": at "the first byte of the earliest bad field by offset"
 unfoldable pub ranged : Edition → Kind → List ℕ → Result Kind Fault
 ranged ed k b = pick (eqb (fault_of ed k b) 0) (Ok k) (Err (bad_at 4 (fault_of ed k b)))
@@ -30,7 +38,12 @@ judged_number (Err f) = f.number
 abbrev pub with_offset : Fault → ℕ
 with_offset f = f.number + 256 * f.at
 
--- all that judging tells but the kind, in one number: 0 for a good body
+-- all that judging tells but the kind
+abbrev pub judged : Result Kind Fault → Result (Unit {0}) Fault
+judged (Ok k) = Ok tt
+judged (Err f) = Err f
+
+-- the same in one number: 0 for a good body
 abbrev pub judged_code : Result Kind Fault → ℕ
 judged_code (Ok k) = 0
 judged_code (Err f) = with_offset f

@@ -1,8 +1,8 @@
--- The test that the code makes is the definition's.
+-- The test decides.
 -- Assumes nothing.
 use mathlib.Core.Path.{refl}
 use Rattle.facts.specs.Pick.{pick}
-use Rattle.body.proofs.fault_at.Goals as goal
+use Rattle.body.proofs.judge_field.Goals as goal
 
 pub returns-then-ok : goal.returns-then-ok
 unfolding pick
