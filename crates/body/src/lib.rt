@@ -75,7 +75,11 @@ pub fn market_ok(x: u8) -> bool
 fn judge_field(at: usize, ok: bool) -> Result<(), Fault>
     ensures { result ≡ tested ok at }
 {
-    if ok { Ok(()) } else { Err(Fault { number: 4, at }) }
+    if ok {
+        Ok(())
+    } else {
+        Err(Fault { number: 4, at })
+    }
 }
 
 // The Timestamp, which lies behind the type byte of every message that carries one.
@@ -127,7 +131,9 @@ fn judge_fields(e: Edition, k: Kind, b: &[u8]) -> Result<(), Fault>
 {
     match k {
         Kind::SystemTime | Kind::Unknown => Ok(()),
-        Kind::SystemState | Kind::TradingStatus | Kind::SymbolClear | Kind::Delete => judge_stamp(b),
+        Kind::SystemState | Kind::TradingStatus | Kind::SymbolClear | Kind::Delete => judge_stamp(
+            b,
+        ),
         Kind::SymbolUpdate => judge_update(e, b),
         Kind::Add => judge_add(b),
         Kind::Modify => judge_stamped_deal(b, 17),
