@@ -14,12 +14,21 @@ use Rattle.kinds.specs.declared.Kind.{Kind}
 use Rattle.fields.specs.Fields.{bad_at}
 use Rattle.fields.specs.declared.Fault.{Fault}
 use Rattle.body.specs.Faults.{fault_of}
-use Rattle.body.specs.Read.{framed, judge_fields, ranged, judge_body, judged_number, judged_code}
+use Rattle.body.specs.Read.{framed, judge_fields, ranged, judge_body, judged, judged_number, judged_code}
 use Rattle.std.specs.Prelude.{Result, Ok, Err}
 use Rattle.body.specs.Places.{BadBody}
 use Rattle.body.proofs.Tests.{passed, failed}
 use lib.Dec.{eqb}
 use Rattle.body.proofs.Laws.{JudgedAs, judge_sound, Judgement, good, bad, judgement}
+
+-- ---- what is told of a judgement without its kind
+pub told_good : (r : Result Kind Fault) (u : Unit {0}) → judged r ≡ Ok u → (k : Kind) × (Ok k ≡ r)
+told_good (Ok k) u e = (k, refl)
+told_good (Err f) u e = let z : ◌≡◌ {A = ℕ} 0 1 = cc in absurd (omega arith)
+
+pub told_bad : (r : Result Kind Fault) (f : Fault) → judged r ≡ Err f → Err f ≡ r
+told_bad (Ok k) f e = let z : ◌≡◌ {A = ℕ} 0 1 = cc in absurd (omega arith)
+told_bad (Err g) f e = let q : g ≡ f = cc in ap (λ (x : Fault). Err x) (sym q)
 
 module _ (ed : Edition) (b : List ℕ) where
   -- ---- by the tests

@@ -5,7 +5,6 @@ use Rattle.facts.specs.Pick.{pick, both}
 use Rattle.editions.specs.declared.Edition.{Edition}
 use Rattle.wire.specs.Records.{Rec, Frames, bad, records}
 use Rattle.fields.specs.Fields.{refusal}
-use Rattle.fields.specs.declared.Refusal.{Refusal}
 use Rattle.fields.specs.declared.Fault.{Fault}
 use Rattle.packet.specs.Record.{rec_of, shifted, read_record}
 use Rattle.packet.specs.declared.Why.{Why}
@@ -47,8 +46,12 @@ told (records cs) = Ok (length cs)
 unfoldable pub read_packet : Edition → List ℕ → Result ℕ Why
 read_packet ed p = told (framing ed p)
 
--- document 01's number of each answer, 0 for a good packet
+-- document 01's number of a refusal
+abbrev pub why_number : Why → ℕ
+why_number (Why.Alone r) = r.number
+why_number (Why.Placed f) = f.number
+
+-- and of each answer, 0 for a good packet
 abbrev pub packet_number : Result ℕ Why → ℕ
 packet_number (Ok n) = 0
-packet_number (Err (Why.Alone r)) = r.number
-packet_number (Err (Why.Placed f)) = f.number
+packet_number (Err w) = why_number w

@@ -1,9 +1,10 @@
 // Reads a packet: records back to back, each judged by 2, 5, 3, 4 from the front, before anything is done with any of them.
 #![tactic(auto)]
 
-ghost use Rattle.std.specs.Prelude.{◌≡◌, drop};
-ghost use Rattle.packet.specs.Record.{number_ok, head_of, body_of, read_record};
+ghost use Rattle.std.specs.Prelude.{◌≡◌, ◌<◌, ◌+◌, drop};
+ghost use Rattle.packet.specs.Record.{number_ok, head_of, body_of, shifted, read_record};
 ghost use Rattle.packet.specs.Packet.{read_packet};
+ghost use Rattle.packet.specs.declared.Why.{Why};
 
 use editions::Edition;
 use fields::{Fault, Refusal};
@@ -21,6 +22,22 @@ pub struct Head {
 pub enum Why {
     Alone(Refusal),
     Placed(Fault),
+}
+
+impl From<Refusal> for Why {
+    ghost from_gives = { λ r w. w ≡ Why.Alone r };
+
+    fn from(r: Refusal) -> Why {
+        Why::Alone(r)
+    }
+}
+
+impl From<Fault> for Why {
+    ghost from_gives = { λ f w. w ≡ Why.Placed f };
+
+    fn from(f: Fault) -> Why {
+        Why::Placed(f)
+    }
 }
 
 // Whether a sequence number is in range.
@@ -62,57 +79,50 @@ pub fn body_at(p: &[u8], at: usize) -> &[u8]
     &p[from..from + n]
 }
 
+// What is bad at a place of a part that starts n bytes further on.
+fn shifted(n: usize, f: Fault) -> Fault
+    requires { n + f.at < 18446744073709551616 }
+    ensures { result ≡ shifted n f }
+{
+    Fault {
+        number: f.number,
+        at: n + f.at,
+    }
+}
+
 // Judges the first record of what is left: 2, 5, then what the body's judge says of its part.
 pub fn read_record(e: Edition, t: &[u8]) -> Result<Head, Fault>
     ensures { result ≡ read_record e t.now }
 {
-    if t.len() < 10 {
-        return Err(Fault { number: 2, at: 0 });
-    }
     let h = head_at(t, 0);
-    let n = h.len;
-    if t.len() - 10 < n {
+    if t.len() < 10 || t.len() - 10 < h.len {
         return Err(Fault { number: 2, at: 0 });
     }
     if !number_ok(h.number) {
         return Err(Fault { number: 5, at: 0 });
     }
-    let c = body::judge(e, &t[10..10 + n]);
-    if c == 0 {
-        return Ok(h);
+    match body::judge(e, &t[10..10 + h.len]) {
+        Ok(()) => Ok(h),
+        Err(f) => Err(shifted(10, f)),
     }
-    Err(Fault {
-        number: (c % 256) as u8,
-        at: 10 + c / 256,
-    })
 }
 
 // Judges a whole packet of an edition: 1, then its records from the front.
 pub fn read_packet(e: Edition, p: &[u8]) -> Result<usize, Why>
     ensures { result ≡ read_packet e p.now }
 {
-    if p.len() < 1 {
-        return Err(Why::Alone(Refusal { number: 1 }));
-    }
-    if facts::PACKET_MOST < p.len() {
+    if p.is_empty() || facts::PACKET_MOST < p.len() {
         return Err(Why::Alone(Refusal { number: 1 }));
     }
     let mut at: usize = 0;
     let mut records: usize = 0;
     while at < p.len() {
         match read_record(e, &p[at..]) {
-            Err(f) => {
-                let fault = Fault {
-                    number: f.number,
-                    at: at + f.at,
-                };
-                return Err(Why::Placed(fault));
-            }
             Ok(h) => {
-                let n = h.len;
-                at = at + (10 + n);
-                records = records + 1;
+                at += 10 + h.len;
+                records += 1;
             }
+            Err(f) => return Err(Why::Placed(shifted(at, f))),
         }
     }
     Ok(records)
