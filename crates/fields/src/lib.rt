@@ -8,7 +8,7 @@ use kinds::Kind;
 use wire::Number;
 
 // Security Trading Status (4.4).
-#[derive(Clone, Copy)]
+#[derive(Clone, Copy, Debug, PartialEq, Eq)]
 pub struct TradingStatus {
     pub nanos: u32,
     pub symbol: u32,
@@ -18,14 +18,14 @@ pub struct TradingStatus {
 }
 
 // Symbol Clear (4.5).
-#[derive(Clone, Copy)]
+#[derive(Clone, Copy, Debug, PartialEq, Eq)]
 pub struct SymbolClear {
     pub nanos: u32,
     pub symbol: u32,
 }
 
 // Add Order (4.6); the attributable ID is its four letters read as one number.
-#[derive(Clone, Copy)]
+#[derive(Clone, Copy, Debug, PartialEq, Eq)]
 pub struct AddOrder {
     pub nanos: u32,
     pub symbol: u32,
@@ -37,7 +37,7 @@ pub struct AddOrder {
 }
 
 // Modify Order (4.7).
-#[derive(Clone, Copy)]
+#[derive(Clone, Copy, Debug, PartialEq, Eq)]
 pub struct ModifyOrder {
     pub nanos: u32,
     pub symbol: u32,
@@ -48,7 +48,7 @@ pub struct ModifyOrder {
 }
 
 // Delete Order (4.8).
-#[derive(Clone, Copy)]
+#[derive(Clone, Copy, Debug, PartialEq, Eq)]
 pub struct DeleteOrder {
     pub nanos: u32,
     pub symbol: u32,
@@ -56,7 +56,7 @@ pub struct DeleteOrder {
 }
 
 // Order Execution (4.9).
-#[derive(Clone, Copy)]
+#[derive(Clone, Copy, Debug, PartialEq, Eq)]
 pub struct OrderExecution {
     pub nanos: u32,
     pub symbol: u32,
@@ -68,7 +68,7 @@ pub struct OrderExecution {
 }
 
 // Trade (4.10).
-#[derive(Clone, Copy)]
+#[derive(Clone, Copy, Debug, PartialEq, Eq)]
 pub struct Trade {
     pub nanos: u32,
     pub symbol: u32,
@@ -80,7 +80,7 @@ pub struct Trade {
 }
 
 // Trade Cancel (4.11).
-#[derive(Clone, Copy)]
+#[derive(Clone, Copy, Debug, PartialEq, Eq)]
 pub struct TradeCancel {
     pub nanos: u32,
     pub symbol: u32,
@@ -91,7 +91,7 @@ pub struct TradeCancel {
 }
 
 // Symbol Update (4.2), what the table and the sheet show of it. All of its fields are in SymbolUpdate.
-#[derive(Clone, Copy)]
+#[derive(Clone, Copy, Debug, PartialEq, Eq)]
 pub struct Symbol {
     pub id: u32,
     pub ticker: [u8; 11],
@@ -102,7 +102,7 @@ pub struct Symbol {
 }
 
 // Symbol Update (4.2), every field of it: byte 20 is the Security Type of 1.3 and reserved from 1.3.a on, byte 22 is reserved.
-#[derive(Clone, Copy)]
+#[derive(Clone, Copy, Debug, PartialEq, Eq)]
 pub struct SymbolUpdate {
     pub nanos: u32,
     pub symbol: Symbol,
@@ -112,7 +112,7 @@ pub struct SymbolUpdate {
 }
 
 // System State (4.3).
-#[derive(Clone, Copy)]
+#[derive(Clone, Copy, Debug, PartialEq, Eq)]
 pub struct SystemState {
     pub nanos: u32,
     pub version: [u8; 8],
@@ -121,14 +121,14 @@ pub struct SystemState {
 }
 
 // Why something is refused: document 01's number.
-#[derive(Clone, Copy)]
+#[derive(Clone, Copy, Debug, PartialEq, Eq)]
 pub struct Refusal {
     pub number: u8,
 }
 
 // Why bytes that were read are refused: the number, 2 to 5, and the offset of the first byte at fault in what was read. A stream keeps
 // its last refusal so too, with offset 0 where the number stands alone.
-#[derive(Clone, Copy)]
+#[derive(Clone, Copy, Debug, PartialEq, Eq)]
 pub struct Fault {
     pub number: u8,
     pub at: usize,
@@ -136,7 +136,7 @@ pub struct Fault {
 
 // What a body says, or why it is refused. An enum holds no array, so the fields of a Symbol Update and of a System State stand
 // beside it: update_of and state_of.
-#[derive(Clone, Copy)]
+#[derive(Clone, Copy, Debug, PartialEq, Eq)]
 pub enum Body {
     SystemTime(u32),
     SymbolUpdate,

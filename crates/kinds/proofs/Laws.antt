@@ -1,16 +1,14 @@
 -- The table's rule, from one test that the checker computes over its pairs, and what it says of every type byte.
 -- Assumes nothing.
-use mathlib.Core.Path.{◌≡◌, refl, ap, ◌∙◌}
-use mathlib.Core.List.{List, [], ◌∷◌}
+use mathlib.Core.Path.{◌≡◌, refl, sym, ap, ◌∙◌}
+use mathlib.Core.List.{List, [], ◌∷◌, ◌++◌, append_assoc}
 use mathlib.Core.Bool.{Bool, true, false}
 use mathlib.Core.Logic.{◌⊎◌, inl, inr}
-use Prim.Native.Nat.{ℕ, ◌+◌, ◌≤◌, ◌<◌}
-use native.Mathlib.Numerals.{add-one}
+use Prim.Native.Nat.{ℕ, ◌≤◌}
 use native.Mathlib.Omega.{arith}
-use lib.ListN.{length, get_or, drop}
-use lib.Seq.{drop-cons}
+use lib.ListN.{length}
 use lib.Dec.{eqb, leb}
-use borrow.Author.Tests.{eqb-true, leb-true}
+use borrow.Author.Tests.{eq-eqb, ne_eqb, eqb-true, leb-true}
 use Rattle.facts.specs.Limits.{entry_size}
 use Rattle.facts.specs.Pick.{pick, both}
 use Rattle.facts.proofs.Picks.{pick_ind, both_true}
@@ -18,10 +16,22 @@ use Rattle.kinds.specs.Table.{table, lookup, length_of, kind_of, type_of, kind_l
 use Rattle.kinds.specs.declared.Kind.{Kind}
 use Rattle.kinds.specs.declared.Pair.{Pair}
 
--- one pair of a table: what the search for t finds from pair i on
-pub lookup_at : (t : ℕ) (l : List Pair) (i : ℕ) (d : Pair) → i < length l → lookup t (drop i l) ≡ pick (eqb t (get_or l i d).code) (get_or l i d).len (lookup t (drop (i + 1) l))
-unfolding lookup
-lookup_at t l i d h = rw (drop-cons l i d, add-one) refl
+-- one pair more at the front of a table: it is found, or what was found stays
+pub lookup_hit : (t : ℕ) (m : Pair) (l : List Pair) → m.code ≡ t → m.len ≡ lookup t (m ∷ l)
+unfolding lookup pick
+lookup_hit t m l h = simp (eq-eqb t m.code (sym h))
+
+pub lookup_miss : (t : ℕ) (m : Pair) (l : List Pair) → (m.code ≡ t → ⊥) → lookup t l ≡ lookup t (m ∷ l)
+unfolding lookup pick
+lookup_miss t m l h = simp (ne_eqb t m.code (λ e. h (sym e)))
+
+-- a table in two parts: its last pair taken off the first of them, and none left there
+pub last_taken : (l rest seen : List Pair) (m : Pair) → table ≡ l ++ seen → l ≡ rest ++ (m ∷ []) → table ≡ rest ++ (m ∷ seen)
+last_taken l rest seen m whole last = whole ∙ (ap (λ (k : List Pair). k ++ seen) last ∙ append_assoc rest (m ∷ []) seen)
+
+pub all_taken : (l seen : List Pair) → table ≡ l ++ seen → length l ≡ 0 → seen ≡ table
+all_taken [] seen whole none = sym whole
+all_taken (m ∷ l) seen whole none = absurd (omega arith)
 
 -- a test of every pair of a table
 unfoldable pub pairs : (ℕ → ℕ → Bool) → List Pair → Bool

@@ -211,7 +211,7 @@ fn laid(ticker: [u8; 11], opening: [u8; 8], closing: [u8; 8], last: u8) -> [u8; 
     wire::put_at(&mut out, 0, &ticker);
     wire::put_at(&mut out, 11, &opening);
     wire::put_at(&mut out, 19, &closing);
-    wire::put_byte(&mut out, 27, last);
+    last.put(&mut out, 27);
     out
 }
 

@@ -2,50 +2,79 @@
 // A byte past the end counts as 0 and is not stored, so that every function here answers for any slice and any place.
 #![tactic(auto)]
 
-ghost use Rattle.std.specs.Prelude.{ℕ, List, ◌≡◌, ◌+◌, ◌≤◌, ◌<◌, length, get_or, set, replicate, leb};
+ghost use Rattle.std.specs.Prelude.{ℕ, List, [], ◌∷◌, ◌≡◌, length, get_or, replicate};
 ghost use Rattle.std.proofs.lemmas.List.Edits.{sets};
 ghost use Rattle.wire.specs.Le.{to_le, field, padded};
 
-// A number of the feed, by its width: what stands at a place of a run of bytes, whether all of it is there or not.
+// A number of the feed, by its width: read from a place of a run of bytes, whether all of it is there or not, and stored from a place
+// on, as far as the slice reaches; the low byte first.
 pub trait Number: Sized {
     ghost read: { List ℕ → ℕ → Self };
 
+    ghost laid_out: { Self → List ℕ };
+
     fn at(b: &[u8], at: usize) -> Self
         ensures { result ≡ read b.now at };
+
+    fn put(self, out: &mut [u8], at: usize)
+        ensures { out.new ≡ sets out.old at (laid_out self) };
 }
 
 impl Number for u8 {
     ghost read = { λ b at. get_or b at 0 };
 
+    ghost laid_out = { λ n. n ∷ [] };
+
     fn at(b: &[u8], at: usize) -> u8 {
         if at < b.len() { b[at] } else { 0 }
+    }
+
+    fn put(self, out: &mut [u8], at: usize) {
+        put_at(out, at, &[self]);
     }
 }
 
 impl Number for u16 {
     ghost read = { λ b at. field b at 2 };
 
+    ghost laid_out = { λ n. to_le 2 n };
+
     fn at(b: &[u8], at: usize) -> u16 {
         u16::from_le_bytes(bytes_at(b, at))
+    }
+
+    fn put(self, out: &mut [u8], at: usize) {
+        put_at(out, at, &self.to_le_bytes());
     }
 }
 
 impl Number for u32 {
     ghost read = { λ b at. field b at 4 };
 
+    ghost laid_out = { λ n. to_le 4 n };
+
     fn at(b: &[u8], at: usize) -> u32 {
         u32::from_le_bytes(bytes_at(b, at))
+    }
+
+    fn put(self, out: &mut [u8], at: usize) {
+        put_at(out, at, &self.to_le_bytes());
     }
 }
 
 impl Number for u64 {
     ghost read = { λ b at. field b at 8 };
 
+    ghost laid_out = { λ n. to_le 8 n };
+
     fn at(b: &[u8], at: usize) -> u64 {
         u64::from_le_bytes(bytes_at(b, at))
     }
-}
 
+    fn put(self, out: &mut [u8], at: usize) {
+        put_at(out, at, &self.to_le_bytes());
+    }
+}
 
 // The bytes from at on, into the whole of out, with zeros for those past the end.
 pub fn copy_at(b: &[u8], at: usize, out: &mut [u8])
@@ -65,11 +94,15 @@ pub fn copy_at(b: &[u8], at: usize, out: &mut [u8])
     out[..k].copy_from_slice(&b[at..]);
 }
 
-// The N bytes from at on, with zeros for those past the end.
+// The N bytes from at on, with zeros for those past the end; those that are all there, as nearly always, in one copy of a size that is known.
 pub fn bytes_at<const N: usize>(b: &[u8], at: usize) -> [u8; N]
     ensures { result ≡ padded b.now at N }
 {
     let mut out = [0u8; N];
+    if at <= b.len() && N <= b.len() - at {
+        out.copy_from_slice(&b[at..at + N]);
+        return out;
+    }
     copy_at(b, at, &mut out);
     out
 }
@@ -85,26 +118,14 @@ pub fn wipe(t: &mut [u8])
 pub fn put_le(out: &mut [u8], at: usize, w: usize, n: u64)
     ensures { out.new ≡ sets out.old at (to_le w n) }
 {
-    let mut v = n;
-    let mut i = at;
-    let mut left = w;
-    while 0 < left {
-        if out.len() <= i {
-            return;
-        }
-        out[i] = (v % 256) as u8;
-        v = v / 256;
-        i += 1;
-        left -= 1;
+    if out.len() <= at {
+        return;
     }
-}
-
-// One byte, stored at a place, if it is there.
-pub fn put_byte(out: &mut [u8], at: usize, x: u8)
-    ensures { out.new ≡ set out.old at x }
-{
-    if at < out.len() {
-        out[at] = x;
+    let reached = w.min(out.len() - at);
+    let mut v = n;
+    for x in out[at..at + reached].iter_mut() {
+        *x = (v % 256) as u8;
+        v /= 256;
     }
 }
 
@@ -112,15 +133,9 @@ pub fn put_byte(out: &mut [u8], at: usize, x: u8)
 pub fn put_at(out: &mut [u8], at: usize, s: &[u8])
     ensures { out.new ≡ sets out.old at s.now }
 {
-    let n = s.len();
-    let mut i = at;
-    let mut k: usize = 0;
-    while k < n {
-        if out.len() <= i {
-            return;
-        }
-        out[i] = s[k];
-        i += 1;
-        k += 1;
+    if out.len() <= at {
+        return;
     }
+    let n = s.len().min(out.len() - at);
+    out[at..at + n].copy_from_slice(&s[..n]);
 }

@@ -3,4 +3,4 @@
 use Rattle.encode.proofs.front.Goals as goal
 
 pub returns : goal.returns
-returns c = rw (c.put_four-2.ensures, c.put_four.ensures, c.put_byte.ensures)
+returns c = rw (c.put-3.ensures, c.put-2.ensures, c.put.ensures)

@@ -3,4 +3,4 @@
 use Rattle.encode.proofs.front_id.Goals as goal
 
 pub returns : goal.returns
-returns c = rw (c.put_le.ensures, c.front.ensures)
+returns c = rw (c.put.ensures, c.front.ensures)

@@ -1,43 +1,30 @@
--- Each turn takes one pair more: what the search from pair i on finds.
+-- Each turn takes one pair more off the end of those that are left, and the search goes on from it; in the end it is of the whole table.
 -- Assumes nothing.
-use borrow.Author.Tests.{eq-eqb, ne_eqb}
-use Rattle.facts.specs.Pick.{pick}
-use Rattle.kinds.specs.Table.{pair}
-use Rattle.kinds.proofs.Laws.{lookup_at}
-use mathlib.Core.Path.{◌≡◌, refl, sym, ap, ◌∙◌}
-use Prim.Native.Nat.{◌+◌, ◌-◌}
-use native.Mathlib.Omega.{arith}
-use lib.ListN.{get_or, drop}
+use mathlib.Core.Path.{refl, ap, ◌∙◌}
+use mathlib.Core.List.{List, [], ◌∷◌}
 use Rattle.kinds.specs.Table.{length_of, lookup, table}
+use Rattle.kinds.specs.declared.Pair.{Pair}
+use Rattle.kinds.proofs.Laws.{lookup_hit, lookup_miss, last_taken, all_taken}
 use Rattle.kinds.proofs.length_of.Goals as goal
 
-pub loop-i-init : goal.loop-i-init
+pub loop-m-init : goal.loop-m-init
 unfolding lookup table
-loop-i-init c = (omega arith, refl)
+loop-m-init c = ([], (rw (c.into_iter-m-iterator.ensures.into_iter_gives, c.rev-m-items.ensures.source, c.iter.ensures.rest) refl, refl))
 
-pub loop-i-smaller-then-m-t : goal.loop-i-smaller-then-m-t
-loop-i-smaller-then-m-t c = omega arith
+pub loop-m-preserved-then-m-t : goal.loop-m-preserved-then-m-t
+loop-m-preserved-then-m-t c =
+    let i = c.loop-m.invariant in
+    let m : Pair = c.in-Some.m.now in
+    (m ∷ i.0, (last_taken _ _ i.0 m i.1.0 c.in-Some.ensures.steps, lookup_hit c.args.t m i.0 c.if-m-t.true))
 
-pub loop-i-preserved-then-m-t : goal.loop-i-preserved-then-m-t
-unfolding table pick
-loop-i-preserved-then-m-t c =
-    let t = c.args.t in
-    let i = c.loop-i.i - 1 in
-    (omega arith, sym (lookup_at t table i (pair 0 0) (omega arith) ∙ simp (eq-eqb t (get_or table i (pair 0 0)).code (sym c.if-m-t.true))))
-
-pub loop-i-smaller : goal.loop-i-smaller
-loop-i-smaller c = omega arith
-
-pub loop-i-preserved : goal.loop-i-preserved
-unfolding table pick
-loop-i-preserved c =
-    let t = c.args.t in
-    let i = c.loop-i.i - 1 in
-    let e : i + 1 ≡ c.loop-i.i = omega arith in
-    (omega arith, c.loop-i.invariant.1 ∙ ap (λ k. lookup t (drop k table)) (sym e) ∙ sym (lookup_at t table i (pair 0 0) (omega arith) ∙ simp (ne_eqb t (get_or table i (pair 0 0)).code (λ e. c.if-m-t.false (sym e)))))
+pub loop-m-preserved : goal.loop-m-preserved
+loop-m-preserved c =
+    let i = c.loop-m.invariant in
+    let m : Pair = c.in-Some.m.now in
+    (m ∷ i.0, (last_taken _ _ i.0 m i.1.0 c.in-Some.ensures.steps, i.1.1 ∙ lookup_miss c.args.t m i.0 c.if-m-t.false))
 
 pub returns : goal.returns
 unfolding length_of
 returns c =
-    let e : c.loop-i.i ≡ 0 = omega arith in
-    c.loop-i.invariant.1 ∙ ap (λ k. lookup c.args.t (drop k table)) e
+    let i = c.loop-m.invariant in
+    i.1.1 ∙ ap (λ (l : List Pair). lookup c.args.t l) (all_taken _ i.0 i.1.0 c.in-None.ensures.steps.0)

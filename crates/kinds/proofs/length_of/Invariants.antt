@@ -1,13 +1,10 @@
--- Each turn takes one pair more: what the search from pair i on finds.
+-- Each turn takes one pair more off the end of those that are left: the search of the pairs behind them has found n.
 -- Assumes nothing.
 use mathlib.Core.Path.{◌≡◌}
-use Prim.Native.Nat.{◌≤◌}
-use lib.ListN.{drop}
+use mathlib.Core.List.{List, ◌++◌}
 use Rattle.kinds.specs.Table.{lookup, table}
+use Rattle.kinds.specs.declared.Pair.{Pair}
 use Rattle.kinds.proofs.length_of.Given as goal
 
-abbrev pub invariant-loop-i : goal.invariant-loop-i
-invariant-loop-i l = (l.i ≤ 11) × (l.n ≡ lookup l.t (drop l.i table))
-
-abbrev pub decreases-loop-i : goal.decreases-loop-i
-decreases-loop-i l = l.i
+abbrev pub invariant-loop-m : goal.invariant-loop-m
+invariant-loop-m l = (seen : List Pair) × ((table ≡ l.m-iterator.iter.rest.now ++ seen) × (l.n ≡ lookup l.t seen))
