@@ -26,6 +26,7 @@ ghost use Rattle.api.specs.Messages.{body_answer};
 use answer_sheet::Recording;
 use arbitration::Counts;
 use book::Clock;
+use editions::Edition;
 use fields::Fault;
 use receiver::{Account, State};
 use recording::Stream;
@@ -42,7 +43,7 @@ fn state_numbers(s: State) -> [u64; 4]
         s.next,
         clock.second as u64,
         s.stop as u64,
-        editions::number_of(e),
+        u64::from(e),
     ]
 }
 
@@ -57,7 +58,7 @@ pub fn rimeheath_start(
 ) -> u8
     ensures { start_call result state.new orders.new symbols.new shelf.new index.new ≡ start_answer (started (edition_of edition) orders.old symbols.old shelf.old index.old) state.old }
 {
-    match receiver::start(editions::edition_of(edition), orders, symbols, shelf, index) {
+    match receiver::start(Edition::from(edition), orders, symbols, shelf, index) {
         Err(r) => r.number,
         Ok(s) => {
             *state = state_numbers(s);
@@ -76,7 +77,7 @@ fn state_in(l: &[u64; 4]) -> State
             second: (l[1] % 4294967296) as u32,
         },
         stop: (l[2] % 256) as u8,
-        edition: editions::edition_of(l[3]),
+        edition: Edition::from(l[3]),
     }
 }
 
@@ -300,7 +301,7 @@ pub fn rimeheath_counts(orders: &[u64], symbols: &[u8], counts: &mut [u64; 2]) -
 pub fn rimeheath_packet(edition: u64, p: &[u8], records: &mut [u64; 1]) -> u32
     ensures { call result records.new ≡ packet_answer (read_packet (edition_of edition) p.now) records.old }
 {
-    match packet::read_packet(editions::edition_of(edition), p) {
+    match packet::read_packet(Edition::from(edition), p) {
         Err(Why::Alone(r)) => r.number as u32,
         Err(Why::Placed(f)) => with_offset(f),
         Ok(n) => {
@@ -314,7 +315,7 @@ pub fn rimeheath_packet(edition: u64, p: &[u8], records: &mut [u64; 1]) -> u32
 pub fn rimeheath_record(edition: u64, rest: &[u8], head: &mut [u64; 2]) -> u32
     ensures { call result head.new ≡ record_answer (read_record (edition_of edition) rest.now) head.old }
 {
-    match packet::read_record(editions::edition_of(edition), rest) {
+    match packet::read_record(Edition::from(edition), rest) {
         Err(f) => with_offset(f),
         Ok(h) => {
             *head = [h.number, h.len as u64];
@@ -327,7 +328,7 @@ pub fn rimeheath_record(edition: u64, rest: &[u8], head: &mut [u64; 2]) -> u32
 pub fn rimeheath_body(edition: u64, b: &[u8], fields: &mut [u64; 8], text: &mut [u8; 28]) -> u32
     ensures { fill_call result fields.new text.new ≡ body_answer (edition_of edition) (judge_body (edition_of edition) b.now) (read_body (edition_of edition) b.now) b.now fields.old text.old }
 {
-    let e = editions::edition_of(edition);
+    let e = Edition::from(edition);
     match body::judge_body(e, b) {
         Err(f) => with_offset(f),
         Ok(k) => {
@@ -381,8 +382,8 @@ pub fn rimeheath_convert(
 ) -> u32
     ensures { convert_call result p.new updates.new ≡ convert_answer (converted (edition_of from) (asked (edition_of to) kind others.now) p.old) updates.old }
 {
-    let f = editions::edition_of(from);
-    let t = editions::edition_of(to);
+    let f = Edition::from(from);
+    let t = Edition::from(to);
     match conversion::convert(f, t, kind, others, p) {
         Err(Why::Alone(r)) => r.number as u32,
         Err(Why::Placed(f)) => with_offset(f),
@@ -404,8 +405,8 @@ pub fn rimeheath_convert_piece(
 ) -> u8
     ensures { convert_call result b.new counts.new ≡ piece_answer (turned_to (edition_of from) (asked (edition_of to) kind others.now) b.old) counts.old }
 {
-    let f = editions::edition_of(from);
-    let t = editions::edition_of(to);
+    let f = Edition::from(from);
+    let t = Edition::from(to);
     match conversion::convert_piece(f, t, kind, others, b) {
         Err(r) => r.number,
         Ok((n, c)) => {
@@ -442,7 +443,7 @@ pub fn rimeheath_append(
 ) -> u32
     ensures { fill_call result length.new memory.new ≡ write_answer (numbers_appended (edition_of edition) memory.old used number fields.now text.now) length.old }
 {
-    let e = editions::edition_of(edition);
+    let e = Edition::from(edition);
     let w = writer::append_numbers(e, memory, used, number, fields, text);
     length_told(w, length)
 }
@@ -457,7 +458,7 @@ pub fn rimeheath_append_packet(
 ) -> u32
     ensures { fill_call result length.new memory.new ≡ write_answer (packet_appended (edition_of edition) memory.old used p.now) length.old }
 {
-    let e = editions::edition_of(edition);
+    let e = Edition::from(edition);
     let w = writer::append_packet(e, memory, used, p);
     length_told(w, length)
 }

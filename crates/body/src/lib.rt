@@ -149,7 +149,7 @@ pub fn judge_body(e: Edition, b: &[u8]) -> Result<Kind, Fault>
     if b.is_empty() || b.len() != kinds::length_of(b[0]) {
         return Err(Fault { number: 3, at: 0 });
     }
-    let k = kinds::kind_of(b[0]);
+    let k = Kind::from(b[0]);
     judge_fields(e, k, b)?;
     Ok(k)
 }

@@ -92,6 +92,6 @@ pub fn write_line(e: Edition, buf: &mut [u8], at: usize, number: u64, body: &[u8
 {
     let mut b = [0u8; 42];
     wire::copy_at(body, 0, &mut b);
-    let k = kinds::kind_of(u8::at(body, 0));
+    let k = Kind::from(u8::at(body, 0));
     put_line(buf, at, e, k, number, &b)
 }

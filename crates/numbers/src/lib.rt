@@ -539,7 +539,7 @@ fn kind_in(v: u64) -> Kind
     ensures { result ≡ kind_of v }
 {
     if v < 256 {
-        return kinds::kind_of(v as u8);
+        return Kind::from(v as u8);
     }
     Kind::Unknown
 }

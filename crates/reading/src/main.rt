@@ -154,7 +154,7 @@ fn show_bad(rt: &impl Print, t: &[u8], f: Fault) -> io::Result<()> {
     if b.len() == 0 {
         return rt.print(", empty body");
     }
-    let k = kinds::kind_of(u8::at(b, 0));
+    let k = Kind::from(u8::at(b, 0));
     show_kind(rt, k)?;
     if n == 4 {
         show_field(rt, k, f.at)

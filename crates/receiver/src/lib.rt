@@ -19,6 +19,7 @@ use book::Clock;
 use editions::Edition;
 use facts::LAST_NUMBER;
 use fields::{Fault, Refusal};
+use kinds::Kind;
 use packet::Why;
 use wire::Number;
 
@@ -219,7 +220,7 @@ fn take_next(
     let next = at.next;
     let clock = at.clock;
     let i = (next % 64) as usize;
-    let k = kinds::kind_of(u8::at(body, 0));
+    let k = Kind::from(u8::at(body, 0));
     let a = book::try_kind(k, orders, symbols, index, clock, next, body, true);
     let after = a.clock;
     if a.rule != 0 {

@@ -7,4 +7,4 @@ pub length_told-requires : goal.length_told-requires
 length_told-requires c = numbers_small _ _ _ _ _ _ _ _ c.append_numbers-w.ensures
 
 pub returns : goal.returns
-returns c = write_told _ _ _ (rw c.edition_of-e.ensures at c.append_numbers-w.ensures) _ _ _ c.length_told.ensures
+returns c = write_told _ _ _ (rw c.from-e.ensures at c.append_numbers-w.ensures) _ _ _ c.length_told.ensures

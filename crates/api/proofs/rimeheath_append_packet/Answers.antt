@@ -7,4 +7,4 @@ pub length_told-requires : goal.length_told-requires
 length_told-requires c = append_packet_small _ _ _ _ _ _ c.append_packet-w.ensures
 
 pub returns : goal.returns
-returns c = write_told _ _ _ (rw c.edition_of-e.ensures at c.append_packet-w.ensures) _ _ _ c.length_told.ensures
+returns c = write_told _ _ _ (rw c.from-e.ensures at c.append_packet-w.ensures) _ _ _ c.length_told.ensures

@@ -10,7 +10,7 @@ pub with_offset-requires : goal.with_offset-requires
 with_offset-requires c = omega (arith, judged_small _ c.args.b.now _ (sym c.in-Err.is ∙ c.judge_body.ensures))
 
 pub returns-in-Err : goal.returns-in-Err
-returns-in-Err c = rw (← c.edition_of-e.ensures) (body_refused _ _ _ _ _ c.judge_body.ensures _ c.in-Err.is _ c.with_offset.ensures)
+returns-in-Err c = rw (← c.from-e.ensures) (body_refused _ _ _ _ _ c.judge_body.ensures _ c.in-Err.is _ c.with_offset.ensures)
 
 pub returns-in-Ok : goal.returns-in-Ok
-returns-in-Ok c = rw (← c.edition_of-e.ensures) (body_told _ _ _ _ _ c.judge_body.ensures _ c.in-Ok.is _ _ c.fields_of.ensures c.text_of.ensures)
+returns-in-Ok c = rw (← c.from-e.ensures) (body_told _ _ _ _ _ c.judge_body.ensures _ c.in-Ok.is _ _ c.fields_of.ensures c.text_of.ensures)

@@ -8,10 +8,10 @@ pub with_offset-requires : goal.with_offset-requires
 with_offset-requires c = omega (arith, convert_small _ _ _ _ (sym (ap (λ (x : Conversion). x.answer) c.convert.ensures) ∙ c.in-Err.is))
 
 pub returns-in-Refused : goal.returns-in-Refused
-returns-in-Refused c = convert_told _ _ _ _ c.in-Refused.is (rw (c.edition_of-f.ensures, c.edition_of-t.ensures) at c.convert.ensures) _
+returns-in-Refused c = convert_told _ _ _ _ c.in-Refused.is (rw (c.from-f.ensures, c.from-t.ensures) at c.convert.ensures) _
 
 pub returns-in-Err : goal.returns-in-Err
-returns-in-Err c = convert_bad _ _ _ _ c.in-Err.is (rw (c.edition_of-f.ensures, c.edition_of-t.ensures) at c.convert.ensures) _ _ c.with_offset.ensures
+returns-in-Err c = convert_bad _ _ _ _ c.in-Err.is (rw (c.from-f.ensures, c.from-t.ensures) at c.convert.ensures) _ _ c.with_offset.ensures
 
 pub returns-in-Ok : goal.returns-in-Ok
-returns-in-Ok c = convert_told _ _ _ _ c.in-Ok.is (rw (c.edition_of-f.ensures, c.edition_of-t.ensures) at c.convert.ensures) c.args.updates.now
+returns-in-Ok c = convert_told _ _ _ _ c.in-Ok.is (rw (c.from-f.ensures, c.from-t.ensures) at c.convert.ensures) c.args.updates.now

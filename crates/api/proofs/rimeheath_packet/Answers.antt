@@ -12,11 +12,11 @@ with_offset-requires c = omega (arith, packet_small _ c.args.p.now _ (sym c.read
 
 pub returns-in-Refused : goal.returns-in-Refused
 unfolding packet_answer
-returns-in-Refused c = packet_handed _ _ _ c.in-Refused.is (rw c.edition_of.ensures at c.read_packet.ensures) c.args.records.now
+returns-in-Refused c = packet_handed _ _ _ c.in-Refused.is (rw c.from.ensures at c.read_packet.ensures) c.args.records.now
 
 pub returns-in-Err : goal.returns-in-Err
-returns-in-Err c = packet_bad _ _ _ c.in-Err.is (rw c.edition_of.ensures at c.read_packet.ensures) _ _ c.with_offset.ensures
+returns-in-Err c = packet_bad _ _ _ c.in-Err.is (rw c.from.ensures at c.read_packet.ensures) _ _ c.with_offset.ensures
 
 pub returns-in-Ok : goal.returns-in-Ok
 unfolding packet_answer
-returns-in-Ok c = packet_handed _ _ _ c.in-Ok.is (rw c.edition_of.ensures at c.read_packet.ensures) c.args.records.now
+returns-in-Ok c = packet_handed _ _ _ c.in-Ok.is (rw c.from.ensures at c.read_packet.ensures) c.args.records.now

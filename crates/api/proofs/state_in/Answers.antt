@@ -3,4 +3,4 @@
 use Rattle.api.proofs.state_in.Goals as goal
 
 pub returns : goal.returns
-returns c = rw c.edition_of.ensures
+returns c = rw c.from.ensures

@@ -15,7 +15,7 @@ returns-then-is_empty c = elim c.then-is_empty.branch [ then-is_empty-via-then-i
 pub returns-in_err-judge_fields : goal.returns-in_err-judge_fields
 returns-in_err-judge_fields c =
     let p = err_from_is_err_and c.from_residual.result c.from_residual.ensures.1 in
-    p.1 ∙ ap (λ (f : Fault). Err f) p.2 ∙ fault_told c.args.e c.args.b.now (grind arith) _ c.length_of.ensures c.if-b-length_of.false _ c.kind_of-k.ensures _ (sym c.judge_fields.ensures ∙ c.in_err-judge_fields.was)
+    p.1 ∙ ap (λ (f : Fault). Err f) p.2 ∙ fault_told c.args.e c.args.b.now (grind arith) _ c.length_of.ensures c.if-b-length_of.false _ c.from-k.ensures _ (sym c.judge_fields.ensures ∙ c.in_err-judge_fields.was)
 
 pub returns : goal.returns
-returns c = good_told c.args.e c.args.b.now (grind arith) _ c.length_of.ensures c.if-b-length_of.false _ c.kind_of-k.ensures _ (sym c.judge_fields.ensures ∙ c.in_ok-judge_fields.was)
+returns c = good_told c.args.e c.args.b.now (grind arith) _ c.length_of.ensures c.if-b-length_of.false _ c.from-k.ensures _ (sym c.judge_fields.ensures ∙ c.in_ok-judge_fields.was)

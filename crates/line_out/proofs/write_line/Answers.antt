@@ -7,4 +7,4 @@ use Rattle.line_out.proofs.write_line.Goals as goal
 pub returns : goal.returns
 returns c =
     let a = c.args in
-    wrote_as (line_told a.e a.number a.body.now _ c.at.result c.kind_of-k.result c.at.ensures c.kind_of-k.ensures c.copy_at.ensures) c.put_line.ensures
+    wrote_as (line_told a.e a.number a.body.now _ c.at.result c.from-k.result c.at.ensures c.from-k.ensures c.copy_at.ensures) c.put_line.ensures
