@@ -3,14 +3,15 @@
 use mathlib.Core.Path.{◌≡◌, refl, sym, ap, ◌∙◌}
 use mathlib.Core.List.{List, [], ◌∷◌, ◌++◌, map}
 use mathlib.Core.Bool.{Bool, true, false}
-use Prim.Native.Nat.{ℕ, suc, ◌+◌, ◌*◌, ◌/◌, ◌≤◌, ◌<◌}
+use Prim.Native.Nat.{ℕ, zero, suc, ◌+◌, ◌*◌, ◌/◌, ◌≤◌, ◌<◌}
 use native.Mathlib.Nat.{add-zero, mod-lt, mod_def}
 use native.Mathlib.Omega.{arith}
 use lib.ListN.{length, get_or, set, take, drop, replicate, length-replicate, get_or-replicate, length-drop, length-map, get_or-map, get_or-eq_default}
 use lib.Seq.{get_or-set_same, get_or-set_other}
 use lib.Dec.{ltb}
 use borrow.Author.Tests.{ltb-true, ltb-false}
-use Rattle.facts.specs.Pieces.{pieces}
+use Rattle.std.specs.Simd.{first_chunks}
+use Rattle.facts.specs.Pieces.{cut, pieces}
 use Rattle.facts.proofs.PieceLaws.{length_pieces, get_or_pieces, get_or_piece, put_in, put_out, length_put, put_self, pieces_replicate, map_replicate, length_piece, length_join, wide_map, values_put, values_join, rest_put, rest_values, values_rest}
 use Rattle.rows.specs.declared.Row.{Row}
 use Rattle.rows.specs.Rows.{row_of, numbers_of, rows, row_count, rest, flat, put_row, zero_row}
@@ -19,7 +20,7 @@ use Rattle.rows.specs.Rows.{row_of, numbers_of, rows, row_count, rest, flat, put
 pub row_eq : (a b : Row) → a.order ≡ b.order → a.key ≡ b.key → a.price ≡ b.price → a.size ≡ b.size → a.rank ≡ b.rank → a ≡ b
 row_eq a b p q r s u = λ i. record { order = p i; key = q i; price = r i; size = s i; rank = u i }
 
-length_numbers : (r : Row) → length (numbers_of r) ≡ 5
+pub length_numbers : (r : Row) → length (numbers_of r) ≡ 5
 unfolding numbers_of
 length_numbers r = refl
 
@@ -41,6 +42,16 @@ numbers_row (a ∷ b ∷ c ∷ d ∷ e ∷ f ∷ x) h = absurd (omega arith)
 pub length_rows : (t : List ℕ) → length (rows t) ≡ row_count t
 unfolding rows
 length_rows t = length-map (pieces 5 t) row_of ∙ length_pieces 5 t
+
+-- pieces as std cuts a slice
+chunks_cut : (w n : ℕ) (t : List ℕ) → first_chunks w n t ≡ cut w n t
+unfolding cut
+chunks_cut w zero t = refl
+chunks_cut w (suc n) t = rw (chunks_cut w n (drop w t))
+
+pub rows_chunks : (t : List ℕ) → map row_of (first_chunks 5 (row_count t) t) ≡ rows t
+unfolding rows pieces
+rows_chunks t = rw (chunks_cut 5 (row_count t) t)
 
 pub length_flat : (rs : List Row) → length (flat rs) ≡ 5 * length rs
 unfolding flat

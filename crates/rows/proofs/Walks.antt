@@ -1,12 +1,18 @@
 -- A walk over a table takes one row off the rows left, so a search, a sum or a count of those left goes on from the next row.
 -- Assumes nothing.
-use mathlib.Core.Path.{◌≡◌, ◌∙◌}
-use mathlib.Core.List.{List, map}
+use mathlib.Core.Path.{◌≡◌, refl, sym, ap, ◌∙◌}
+use mathlib.Core.List.{List, [], ◌∷◌, map}
 use mathlib.Core.Bool.{Bool, true, false}
-use Prim.Native.Nat.{ℕ, ◌+◌, ◌*◌, ◌≤◌, ◌<◌}
-use native.Mathlib.Nat.{sub-zero}
+use Prim.Native.Nat.{ℕ, suc, ◌+◌, ◌*◌, ◌-◌, ◌≤◌, ◌<◌}
+use native.Mathlib.Nat.{sub-zero, add-zero, add_assoc}
+use native.Mathlib.Numerals.{add-one}
 use native.Mathlib.Omega.{arith}
-use lib.ListN.{length, get_or, drop}
+use lib.ListN.{length, get_or, drop, length-drop}
+use Rattle.std.proofs.lemmas.List.{take_all, drop-map}
+use Rattle.std.specs.Prelude.{position, cond, filter, option_map}
+use Rattle.std.specs.List.{position_from, slice_range}
+use Rattle.std.proofs.lemmas.Iterator.Adapters.{position_from-zero}
+use Rattle.facts.specs.Pick.{pick}
 use Rattle.facts.specs.Search.{first}
 use Rattle.facts.specs.Sums.{sum_by, only_if, count_by}
 use Rattle.std.specs.Prelude.{Some, None}
@@ -15,8 +21,8 @@ use Rattle.facts.proofs.Searches.{first_hit, first_miss, first_end, first_at}
 use Rattle.facts.proofs.SumLaws.{sum_step, sum_end, sum_bound, only_bound}
 use Rattle.facts.proofs.CountLaws as counts
 use Rattle.rows.specs.declared.Row.{Row}
-use Rattle.rows.specs.Rows.{rows, row_count, put_row, zero_row, free, live}
-use Rattle.rows.specs.Find.{is_order, find_order, find_free}
+use Rattle.rows.specs.Rows.{row_of, rows, row_count, put_row, zero_row, free, live}
+use Rattle.rows.specs.Find.{is_order, find_order, find_free, count_live}
 use Rattle.rows.proofs.Tables.{length_rows, rows_put}
 use Rattle.rows.proofs.Judged.{live_ranges}
 
@@ -41,6 +47,51 @@ order_below id t i e = row_below (is_order id) t i e
 pub free_row_below : (t : List ℕ) (i : ℕ) → find_free (rows t) ≡ Some i → (i < row_count t) × (free (get_or (rows t) i zero_row) ≡ true)
 unfolding find_free
 free_row_below t i e = row_below free t i e
+
+-- ---- searches as std makes them, over the numbers of each row
+pick_cond : {A : Type 0} (b : Bool) (x y : A) → pick b x y ≡ cond b x y
+unfolding pick
+pick_cond true x y = refl
+pick_cond false x y = refl
+
+shifted : {A : Type 0} (t : A → Bool) (i k : ℕ) (xs : List A) → position_from t (i + k) xs ≡ option_map (λ n. i + n) (position_from t k xs)
+shifted t i k [] = refl
+shifted t i k (x ∷ xs) = go (t x) (rw (add_assoc i k 1) (shifted t i (k + 1) xs))
+  where
+    go : (b : Bool) → position_from t (i + k + 1) xs ≡ option_map (λ n. i + n) (position_from t (k + 1) xs) → cond b (Some (i + k)) (position_from t (i + k + 1) xs) ≡ option_map (λ n. i + n) (cond b (Some k) (position_from t (k + 1) xs))
+    go true h = refl
+    go false h = h
+
+module _ {A B : Type 0} (p : B → Bool) (f : A → B) where
+  from_position : (i : ℕ) (xs : List A) → first p i (map f xs) ≡ position_from (λ x. p (f x)) i xs
+  unfolding first
+  from_position i [] = refl
+  from_position i (x ∷ xs) = pick_cond (p (f x)) (Some i) (first p (suc i) (map f xs)) ∙ ap (cond (p (f x)) (Some i)) (rw add-one (from_position (suc i) xs))
+
+  pub first_position : (xs : List A) → first p 0 (map f xs) ≡ position (λ x. p (f x)) xs
+  first_position xs = from_position 0 xs ∙ sym (position_from-zero (λ x. p (f x)) xs)
+
+  pub later_position : (s : ℕ) (xs : List A) → first p s (map f xs) ≡ option_map (λ n. s + n) (position (λ x. p (f x)) xs)
+  later_position s xs =
+      let z : position_from (λ x. p (f x)) s xs ≡ position_from (λ x. p (f x)) (s + 0) xs = rw add-zero in
+      from_position s xs ∙ z ∙ shifted (λ x. p (f x)) s 0 xs ∙ ap (option_map (λ n. s + n)) (sym (position_from-zero (λ x. p (f x)) xs))
+
+counted : {A B : Type 0} (p : B → Bool) (f : A → B) (xs : List A) → length (filter (λ x. p (f x)) xs) ≡ sum_by (only_if p (λ x. 1)) (map f xs)
+unfolding sum_by only_if pick
+counted p f [] = refl
+counted p f (x ∷ xs) = go (p (f x)) (counted p f xs)
+  where
+    go : (b : Bool) → length (filter (λ x. p (f x)) xs) ≡ sum_by (only_if p (λ x. 1)) (map f xs) → length (cond b (x ∷ filter (λ x. p (f x)) xs) (filter (λ x. p (f x)) xs)) ≡ pick b 1 0 + sum_by (only_if p (λ x. 1)) (map f xs)
+    go true h = omega arith
+    go false h = omega arith
+
+pub live_filtered : (xs : List (List ℕ)) → length (filter (λ x. live (row_of x)) xs) ≡ count_live (map row_of xs)
+unfolding count_live count_by
+live_filtered xs = counted live row_of xs
+
+-- the rows from row s on, of their numbers from there to the end
+pub rows_left : (xs : List (List ℕ)) (s : ℕ) → map row_of (slice_range xs s (length xs)) ≡ drop s (map row_of xs)
+rows_left xs s = ap (λ (x : List (List ℕ)). map row_of x) (take_all (length xs - s) (drop s xs) (simp length-drop (omega arith))) ∙ sym (drop-map row_of s xs)
 
 -- ---- sums and counts: a walk at row i
 module _ (f : Row → ℕ) (t : List ℕ) (i : ℕ) where

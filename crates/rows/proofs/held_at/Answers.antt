@@ -1,13 +1,8 @@
--- The case of what was found decides, and the row is the one that lies there.
--- Assumes nothing.
-use mathlib.Core.Path.{refl}
+use Rattle.std.proofs.Common.{arith}
+use Rattle.std.proofs.lemmas.Grind.{common_steps}
 use Rattle.rows.specs.Find.{held_at}
 use Rattle.rows.proofs.held_at.Goals as goal
 
-pub returns-in-Some : goal.returns-in-Some
+pub returns : goal.returns
 unfolding held_at
-returns-in-Some c = rw (c.in-Some.is, ← c.row_at.ensures) refl
-
-pub returns-in-None : goal.returns-in-None
-unfolding held_at
-returns-in-None c = rw c.in-None.is refl
+returns c = grind (arith, common_steps, c.map.ensures.cases)

@@ -1,27 +1,13 @@
--- A live row has every number in range (live-ranges), so a number out of range refutes it, and all in range make it live.
--- Assumes nothing.
-use mathlib.Core.Path.{sym}
-use native.Mathlib.Omega.{arith}
-use Rattle.rows.proofs.Judged.{not_live, ranges_live}
+use Rattle.std.proofs.Common.{arith}
+use Rattle.std.proofs.lemmas.Grind.{common_steps}
+use Rattle.facts.specs.Pick.{both}
+use Rattle.rows.specs.Rows.{live}
 use Rattle.rows.proofs.is_live.Goals as goal
 
-pub returns-then-r-lt1 : goal.returns-then-r-lt1
-returns-then-r-lt1 c = not_live _ (λ w. omega arith)
+pub returns-then-r-ge1-3 : goal.returns-then-r-ge1-3
+unfolding live both
+returns-then-r-ge1-3 c = grind (arith, common_steps)
 
-pub returns-then-symbol_in-gt4294967295 : goal.returns-then-symbol_in-gt4294967295
-returns-then-symbol_in-gt4294967295 c = not_live _ (λ w. omega arith)
-
-pub returns-then-r-lt1-2 : goal.returns-then-r-lt1-2
-returns-then-r-lt1-2 c = not_live _ (λ w. omega arith)
-
-pub returns-then-r-gt-MOST_PRICE : goal.returns-then-r-gt-MOST_PRICE
-returns-then-r-gt-MOST_PRICE c = not_live _ (λ w. omega arith)
-
-pub returns-then-r-lt1-3 : goal.returns-then-r-lt1-3
-returns-then-r-lt1-3 c = not_live _ (λ w. omega arith)
-
-pub returns-then-r-gt4294967295 : goal.returns-then-r-gt4294967295
-returns-then-r-gt4294967295 c = not_live _ (λ w. omega arith)
-
-pub returns : goal.returns
-returns c = sym (ranges_live _ (record { ranked = omega arith; symbol = omega arith; priced = omega arith; price_top = omega arith; sized = omega arith; size_top = omega arith }))
+pub returns-else-r-ge1-3 : goal.returns-else-r-ge1-3
+unfolding live both
+returns-else-r-ge1-3 c = grind (arith, common_steps)

@@ -1,16 +1,13 @@
--- Another key decides by itself; with the same one the row has to be live.
--- Assumes nothing.
-use mathlib.Core.Path.{◌∙◌}
-use native.Mathlib.Omega.{arith}
-use Rattle.rows.specs.Rows.{live}
+use Rattle.std.proofs.Common.{arith}
+use Rattle.std.proofs.lemmas.Grind.{common_steps}
+use Rattle.facts.specs.Pick.{both}
 use Rattle.rows.specs.Find.{of_key}
-use Rattle.rows.proofs.Judged.{other_number, same_number}
 use Rattle.rows.proofs.of_key.Goals as goal
 
 pub returns-then-r-key : goal.returns-then-r-key
-unfolding of_key
-returns-then-r-key c = let a = c.args in other_number a.r.key a.key (live a.r) c.if-r-key.true
+unfolding of_key both
+returns-then-r-key c = grind (arith, common_steps)
 
-pub returns : goal.returns
-unfolding of_key
-returns c = let a = c.args in c.is_live.ensures ∙ same_number a.r.key a.key (live a.r) (omega arith)
+pub returns-else-r-key : goal.returns-else-r-key
+unfolding of_key both
+returns-else-r-key c = grind (arith, common_steps)

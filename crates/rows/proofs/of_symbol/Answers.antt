@@ -1,16 +1,13 @@
--- Another symbol decides by itself; with the same one the row has to be live.
--- Assumes nothing.
-use mathlib.Core.Path.{◌∙◌}
-use native.Mathlib.Omega.{arith}
-use Rattle.rows.specs.Rows.{symbol_of, live}
+use Rattle.std.proofs.Common.{arith}
+use Rattle.std.proofs.lemmas.Grind.{common_steps}
+use Rattle.facts.specs.Pick.{both}
 use Rattle.rows.specs.Find.{of_symbol}
-use Rattle.rows.proofs.Judged.{other_number, same_number}
 use Rattle.rows.proofs.of_symbol.Goals as goal
 
 pub returns-then-symbol_in-symbol : goal.returns-then-symbol_in-symbol
-unfolding of_symbol
-returns-then-symbol_in-symbol c = let a = c.args in other_number (symbol_of a.r) a.symbol (live a.r) (λ e. c.if-symbol_in-symbol.true (c.symbol_in.ensures ∙ e))
+unfolding of_symbol both
+returns-then-symbol_in-symbol c = grind (arith, common_steps)
 
-pub returns : goal.returns
-unfolding of_symbol
-returns c = let a = c.args in c.is_live.ensures ∙ same_number (symbol_of a.r) a.symbol (live a.r) (omega arith)
+pub returns-else-symbol_in-symbol : goal.returns-else-symbol_in-symbol
+unfolding of_symbol both
+returns-else-symbol_in-symbol c = grind (arith, common_steps)
