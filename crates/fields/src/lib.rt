@@ -134,8 +134,8 @@ pub struct Fault {
     pub at: usize,
 }
 
-// What a body says, or why it is refused. An enum holds no array, so the fields of a Symbol Update and of a System State stand
-// beside it: update_of and state_of.
+// What a body says, or why it is refused. The fields of a Symbol Update and of a System State, which have texts, stand beside it
+// (update_of and state_of), so that a Body stays as small as the numbers of an order.
 #[derive(Clone, Copy, Debug, PartialEq, Eq)]
 pub enum Body {
     SystemTime(u32),
