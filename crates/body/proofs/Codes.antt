@@ -59,6 +59,10 @@ module _ (ed : Edition) (b : List ℕ) where
   number_bound f (inl h) = (omega (arith, h.0), omega (arith, h.0))
   number_bound f (inr h) = (omega (arith, h.0), omega (arith, h.0))
 
+  -- document 01's number of a refusal is none for 0
+  pub number_some : (f : Fault) → Err f ≡ judge_body ed b → f.number ≡ 0 → ⊥
+  number_some f e z = absurd (omega (arith, z, (number_bound f (subst (λ (r : Result Kind Fault). JudgedAs ed r b) (sym e) (judge_sound ed b))).0))
+
   pub code_good : judged_code (judge_body ed b) ≡ 0 → Ok (kind_of (get_or b 0 0)) ≡ judge_body ed b
   code_good z = go (judgement ed b)
     where

@@ -1,6 +1,6 @@
 -- What the code tests of numbers and of 42 bytes is what the definitions ask.
 -- Assumes nothing.
-use Prim.Native.Nat.{ℕ, ◌%◌, ◌≤◌, ◌<◌}
+use Prim.Native.Nat.{ℕ, ◌≤◌, ◌<◌}
 use mathlib.Core.Path.{◌≡◌, refl, sym, ap, subst, ◌∙◌}
 use mathlib.Core.Bool.{Bool, true, false, true≢false, ◌&&◌}
 use mathlib.Core.List.{List, [], ◌∷◌, ◌++◌}
@@ -9,20 +9,24 @@ use native.Mathlib.Omega.{arith}
 use lib.Dec.{eqb, leb, ltb, leb-suc-suc}
 use lib.ListN.{length, get_or, take, replicate}
 use lib.Seq.{take-take, take_at}
-use borrow.Author.Tests.{eqb-true, ne_eqb, lt-ltb, le-leb}
+use borrow.Author.Tests.{eqb-true, eqb-false, ne_eqb, lt-ltb, le-leb}
 use Rattle.facts.specs.Limits.{entry_size}
 use Rattle.facts.specs.Pick.{pick, both}
 use Rattle.facts.proofs.Picks.{pick_ind}
 use Rattle.editions.specs.declared.Edition.{Edition}
 use Rattle.wire.specs.Le.{padded}
-use Rattle.wire.proofs.Laws.{get_or_padded}
+use Rattle.wire.proofs.Laws.{get_or_padded, length_padded}
 use Rattle.kinds.specs.Table.{table, lookup, length_of, kind_of, type_of, kind_length, refusal_of}
 use Rattle.kinds.specs.declared.Kind.{Kind}
 use Rattle.kinds.proofs.Laws.{lengths}
 use Rattle.layout.specs.Shape.{joined}
 use Rattle.layout.specs.Layout.{FieldsFit, body_for}
-use Rattle.body.specs.Read.{framed, judge_body, judged_number, judged_code}
-use Rattle.body.proofs.Codes.{code_number}
+use Rattle.fields.specs.Fields.{refusal}
+use Rattle.fields.specs.declared.Refusal.{Refusal}
+use Rattle.fields.specs.declared.Fault.{Fault}
+use Rattle.std.specs.Prelude.{Result, Ok, Err}
+use Rattle.body.specs.Read.{framed, judge_body, judged, judged_number}
+use Rattle.body.proofs.Codes.{told_good, told_bad, number_some}
 use Rattle.numbers.specs.Drafts.{security_from, fields_from, fitting, draft_fits, within, Words, draft_kind, body_from, draft_body, number_from, draft_number, refused_draft, good_draft, held_draft, draft_from, draft_of}
 use Rattle.numbers.specs.declared.Draft.{Draft}
 use Rattle.numbers.proofs.Drafts.{known, draft_framed, passed}
@@ -127,19 +131,20 @@ module _ (ed : Edition) (k j : Kind) (q : k ≡ j) (l x : List ℕ) where
 pub length_most : (t : ℕ) → length_of t ≤ entry_size
 length_most t = elim (lengths t) [ inl e ↦ omega arith | inr r ↦ r.most ]
 
-module _ (ed : Edition) (w : List ℕ) (n : ℕ) (by_table : n ≡ length_of (get_or w 0 0)) (c : ℕ) (by_judge : c ≡ judged_code (judge_body ed (take n w))) where
-  pub held_good : c ≡ 0 → record { why = 0; len = n; bytes = w } ≡ held_draft ed w
+module _ (ed : Edition) (w : List ℕ) (n : ℕ) (by_table : n ≡ length_of (get_or w 0 0)) where
+  pub held_good : (u : Unit {0}) → judged (judge_body ed (take n w)) ≡ Ok u → Ok (record { len = n; bytes = w }) ≡ held_draft ed w
   unfolding held_draft pick
-  held_good z =
-      let e = code_number ed (take n w) c by_judge in
-      let g : judged_number (judge_body ed (take n w)) ≡ 0 = omega (arith, e.0) in
+  held_good u e =
+      let k = told_good (judge_body ed (take n w)) u e in
+      let g : judged_number (judge_body ed (take n w)) ≡ 0 = ap judged_number (sym k.1) in
       rw (← by_table, g)
 
-  pub held_refused : (c ≡ 0 → ⊥) → {d : Draft} → d ≡ refused_draft (c % 256) → d ≡ held_draft ed w
+  pub held_refused : (f : Fault) → judged (judge_body ed (take n w)) ≡ Err f → Err (refusal f.number) ≡ held_draft ed w
   unfolding held_draft pick
-  held_refused z q =
-      let e = code_number ed (take n w) c by_judge in
-      rw (← by_table, ne_eqb (judged_number (judge_body ed (take n w))) 0 (λ y. z (e.1 y)), ← e.0) q
+  held_refused f e =
+      let r : Err f ≡ judge_body ed (take n w) = told_bad (judge_body ed (take n w)) f e in
+      let g : judged_number (judge_body ed (take n w)) ≡ f.number = ap judged_number (sym r) in
+      rw (← by_table, ne_eqb (judged_number (judge_body ed (take n w))) 0 (λ y. number_some ed (take n w) f r (sym g ∙ y)), g)
 
 -- a body in front of zeros
 front : (b : List ℕ) (n : ℕ) → length b ≡ n → n ≤ 42 → take n (padded b 0 42) ≡ b
@@ -177,20 +182,42 @@ module _ (ed : Edition) (k : Kind) (l x : List ℕ) where
 -- ---- what a caller has in hand
 module _ (ed : Edition) (l x : List ℕ) where
   -- why there is no body
-  pub draft_why : (draft_of ed l x).why ≡ draft_number ed l x
+  pub draft_refused : (r : Refusal) → Err r ≡ draft_of ed l x → (r.number ≡ draft_number ed l x) × (draft_number ed l x ≡ 0 → ⊥)
   unfolding draft_from
-  draft_why = pick_ind (λ (d : Draft). d.why ≡ draft_number ed l x) (eqb (draft_number ed l x) 0) (good_draft (draft_kind l) (draft_body ed l x)) (refused_draft (draft_number ed l x)) (λ e. sym (eqb-true (draft_number ed l x) 0 e)) (λ e. refl)
+  draft_refused r =
+      pick_ind (λ (d : Result Draft Refusal). Err r ≡ d → (r.number ≡ draft_number ed l x) × (draft_number ed l x ≡ 0 → ⊥))
+      (eqb (draft_number ed l x) 0)
+      (good_draft (draft_kind l) (draft_body ed l x))
+      (refused_draft (draft_number ed l x))
+      (λ _ q. let z : ◌≡◌ {A = ℕ} 0 1 = cc in absurd (omega arith))
+      (λ e q. let s : r ≡ refusal (draft_number ed l x) = cc in (ap (λ (y : Refusal). y.number) s, eqb-false (draft_number ed l x) 0 e))
 
-  -- a length that the bytes have
-  pub draft_short : (draft_of ed l x).len ≤ entry_size
-  unfolding draft_from kind_length
-  draft_short = pick_ind (λ (d : Draft). d.len ≤ entry_size) (eqb (draft_number ed l x) 0) (good_draft (draft_kind l) (draft_body ed l x)) (refused_draft (draft_number ed l x)) (λ e. length_most (type_of (draft_kind l))) (λ e. omega arith)
+  -- a draft's length is one that its bytes have, and the body stands in front of them
+  pub record Drafted (d : Draft) : Type 0 where
+    pub none_refuses : draft_number ed l x ≡ 0
+    pub whole : length d.bytes ≡ entry_size
+    pub short : d.len ≤ entry_size
+    pub front_is : take d.len d.bytes ≡ draft_body ed l x
 
-  -- and the body in front of them
-  pub draft_front : draft_number ed l x ≡ 0 → take (draft_of ed l x).len (draft_of ed l x).bytes ≡ draft_body ed l x
-  unfolding draft_from pick
-  draft_front z =
+  good_drafted : draft_number ed l x ≡ 0 → Drafted (record { len = kind_length (draft_kind l); bytes = padded (draft_body ed l x) 0 entry_size })
+  unfolding kind_length
+  good_drafted z =
       let p = passed ed (draft_kind l) l x z in
       let w = draft_framed ed (draft_kind l) l x p.is_known p.fits in
       let m = w.most in
-      rw z (front (draft_body ed l x) (kind_length (draft_kind l)) w.length_is (omega (arith, w.length_is)))
+      record {
+        none_refuses = z;
+        whole = length_padded (draft_body ed l x) 0 entry_size;
+        short = length_most (type_of (draft_kind l));
+        front_is = front (draft_body ed l x) (kind_length (draft_kind l)) w.length_is (omega (arith, w.length_is));
+      }
+
+  pub draft_good : (d : Draft) → Ok d ≡ draft_of ed l x → Drafted d
+  unfolding draft_from
+  draft_good d =
+      pick_ind (λ (y : Result Draft Refusal). Ok d ≡ y → Drafted d)
+      (eqb (draft_number ed l x) 0)
+      (good_draft (draft_kind l) (draft_body ed l x))
+      (refused_draft (draft_number ed l x))
+      (λ e q. let s : d ≡ record { len = kind_length (draft_kind l); bytes = padded (draft_body ed l x) 0 entry_size } = cc in subst Drafted (sym s) (good_drafted (eqb-true (draft_number ed l x) 0 e)))
+      (λ _ q. let z : ◌≡◌ {A = ℕ} 0 1 = cc in absurd (omega arith))

@@ -1,6 +1,6 @@
 -- A message written from eight numbers and 28 bytes (docs/WRITE.md, "A message as eight numbers and 28 bytes"): which fields they stand for, whether the numbers fit into the bytes of their fields, and the body. The numbers l and the
 -- bytes x may be any lists: one that is not there counts as 0.
-use Rattle.std.specs.Prelude.{ℕ, ◌^◌, ◌<◌, Bool, true, ◌&&◌, List, [], ◌∷◌, eqb, leb, ltb, get_or, take, replicate}
+use Rattle.std.specs.Prelude.{ℕ, ◌^◌, ◌<◌, Bool, true, ◌&&◌, List, [], ◌∷◌, eqb, leb, ltb, get_or, take, Result, Ok, Err}
 use Rattle.facts.specs.Limits.{entry_size}
 use Rattle.facts.specs.Pick.{pick, both}
 use Rattle.editions.specs.declared.Edition.{Edition}
@@ -22,6 +22,8 @@ use Rattle.fields.specs.declared.OrderExecution.{OrderExecution}
 use Rattle.fields.specs.declared.Trade.{Trade}
 use Rattle.fields.specs.declared.TradeCancel.{TradeCancel}
 use Rattle.body.specs.Read.{judge_body, judged_number}
+use Rattle.fields.specs.Fields.{refusal}
+use Rattle.fields.specs.declared.Refusal.{Refusal}
 use Rattle.numbers.specs.declared.Draft.{Draft}
 
 -- ---- the message that they are, in the places in which reading gives it (Numbers)
@@ -121,18 +123,18 @@ number_from ed k l x =
 abbrev pub draft_number : Edition → List ℕ → List ℕ → ℕ
 draft_number ed l x = number_from ed (draft_kind l) l x
 
--- ---- by value: the number, the body's length, and its bytes with zeros behind them; nothing but the number where it is refused
-abbrev pub refused_draft : ℕ → Draft
-refused_draft n = record { why = n; len = 0; bytes = replicate entry_size 0 }
+-- ---- by value: the body's length, and its bytes with zeros behind them; the number alone where it is refused
+abbrev pub refused_draft : ℕ → Result Draft Refusal
+refused_draft n = Err (refusal n)
 
 -- "Its length is that of its type in the one table of types and lengths"
-abbrev pub good_draft : Kind → List ℕ → Draft
-good_draft k b = record { why = 0; len = kind_length k; bytes = padded b 0 entry_size }
+abbrev pub good_draft : Kind → List ℕ → Result Draft Refusal
+good_draft k b = Ok (record { len = kind_length k; bytes = padded b 0 entry_size })
 
-unfoldable pub draft_from : Edition → Kind → List ℕ → List ℕ → Draft
+unfoldable pub draft_from : Edition → Kind → List ℕ → List ℕ → Result Draft Refusal
 draft_from ed k l x = pick (eqb (number_from ed k l x) 0) (good_draft k (body_from ed k l x)) (refused_draft (number_from ed k l x))
 
-abbrev pub draft_of : Edition → List ℕ → List ℕ → Draft
+abbrev pub draft_of : Edition → List ℕ → List ℕ → Result Draft Refusal
 draft_of ed l x = draft_from ed (draft_kind l) l x
 
 -- ---- inside: what private functions test and hold
@@ -159,8 +161,8 @@ Words l =
     × (get_or l 7 0 < 256 ^ 8)
 
 -- of bytes that hold a body in front, by the length of its type
-unfoldable pub held_draft : Edition → List ℕ → Draft
+unfoldable pub held_draft : Edition → List ℕ → Result Draft Refusal
 held_draft ed w =
     pick (eqb (judged_number (judge_body ed (take (length_of (get_or w 0 0)) w))) 0)
-    (record { why = 0; len = length_of (get_or w 0 0); bytes = w })
+    (Ok (record { len = length_of (get_or w 0 0); bytes = w }))
     (refused_draft (judged_number (judge_body ed (take (length_of (get_or w 0 0)) w))))

@@ -9,21 +9,20 @@ ghost use Rattle.kinds.specs.Table.{kind_of};
 ghost use Rattle.layout.specs.Layout.{FieldsFit};
 ghost use Rattle.layout.specs.Message.{written, Fit};
 ghost use Rattle.wire.specs.Le.{padded};
-ghost use Rattle.numbers.specs.Drafts.{time_from, security_from, symbol_from, update_from, state_from, status_from, clear_from, add_from, modify_from, delete_from, execution_from, trade_from, cancel_from, fields_from, draft_fits, within as is_within, Words, body_from, refused_draft, held_draft, draft_of};
+ghost use Rattle.numbers.specs.Drafts.{time_from, security_from, symbol_from, update_from, state_from, status_from, clear_from, add_from, modify_from, delete_from, execution_from, trade_from, cancel_from, fields_from, draft_fits, within as is_within, Words, body_from, held_draft, draft_of};
 ghost use Rattle.numbers.specs.Numbers.{type_number, update_fields, state_fields, status_fields, clear_fields, add_fields, modify_fields, delete_fields, execution_fields, trade_fields, cancel_fields, typed, reserved_byte, update_text, state_text, text_of};
 
 use editions::Edition;
 use fields::{
-    AddOrder, DeleteOrder, ModifyOrder, OrderExecution, Symbol, SymbolClear, SymbolUpdate,
+    AddOrder, DeleteOrder, ModifyOrder, OrderExecution, Refusal, Symbol, SymbolClear, SymbolUpdate,
     SystemState, Trade, TradeCancel, TradingStatus,
 };
 use kinds::Kind;
 use wire::Number;
 
-// A body from numbers and text: why there is none, or 0; its length; its bytes, with zeros behind them.
+// A body from numbers and text: its length, and its bytes with zeros behind them.
 #[derive(Clone, Copy)]
 pub struct Draft {
-    pub why: u8,
     pub len: usize,
     pub bytes: [u8; 42],
 }
@@ -511,27 +510,16 @@ fn body_from(e: Edition, k: Kind, n: &[u64; 8], t: &[u8; 28]) -> [u8; 42]
     }
 }
 
-fn refused(why: u8) -> Draft
-    ensures { result ≡ refused_draft why }
-{
-    Draft {
-        why,
-        len: 0,
-        bytes: [0u8; 42],
-    }
-}
-
 // Judges a body that stands in front of zeros, as long as its type has it in the table of kinds; a type that is no message's has length 0,
 // and is judged 3.
-fn judged(e: Edition, bytes: [u8; 42]) -> Draft
+fn judged(e: Edition, bytes: [u8; 42]) -> Result<Draft, Refusal>
     ensures { result ≡ held_draft e bytes }
 {
     let len = kinds::length_of(bytes[0]);
-    let c = body::judge(e, &bytes[..len]);
-    if c != 0 {
-        return refused((c % 256) as u8);
+    match body::judge(e, &bytes[..len]) {
+        Ok(()) => Ok(Draft { len, bytes }),
+        Err(f) => Err(Refusal { number: f.number }),
     }
-    Draft { why: 0, len, bytes }
 }
 
 // The kind of the message whose type a number is.
@@ -545,12 +533,12 @@ fn kind_in(v: u64) -> Kind
 }
 
 // The body that eight numbers and 28 bytes stand for, or why it cannot be written.
-pub fn draft_of(e: Edition, n: &[u64; 8], t: &[u8; 28]) -> Draft
+pub fn draft_of(e: Edition, n: &[u64; 8], t: &[u8; 28]) -> Result<Draft, Refusal>
     ensures { result ≡ draft_of e n.now t.now }
 {
     let k = kind_in(n[0]);
     if !fits(e, k, n, t) {
-        return refused(4);
+        return Err(Refusal { number: 4 });
     }
     judged(e, body_from(e, k, n, t))
 }

@@ -8,7 +8,7 @@ use Rattle.numbers.proofs.Held.{unfit, held}
 use Rattle.numbers.proofs.draft_of.Goals as goal
 
 pub returns-then-not-fits : goal.returns-then-not-fits
-returns-then-not-fits c = c.refused.ensures ∙ (unfit c.args.e c.kind_in-k.result c.args.n.now c.args.t.now (sym c.fits.ensures ∙ not-true _ c.if-not-fits.true-raw) ∙ ap (λ k. draft_from c.args.e k c.args.n.now c.args.t.now) c.kind_in-k.ensures)
+returns-then-not-fits c = unfit c.args.e c.kind_in-k.result c.args.n.now c.args.t.now (sym c.fits.ensures ∙ not-true _ c.if-not-fits.true-raw) ∙ ap (λ k. draft_from c.args.e k c.args.n.now c.args.t.now) c.kind_in-k.ensures
 
 pub body_from-requires : goal.body_from-requires
 body_from-requires c = draft_fit c.args.e c.kind_in-k.result c.args.n.now c.args.t.now (sym c.fits.ensures ∙ not-false _ c.if-not-fits.false-raw)
