@@ -150,14 +150,13 @@ side_few side id t g =
       short = all_map Short (level_line side id) (take 10 ls) (all_weaken (level_short side id) (take 10 ls) (all_take ShortLevel 10 ls (ladder_short (key_of side id) t g)));
     }
 
-spread_short : (s : ℕ) (rs : List Row) → Short (plain spread_key (spread_word (spread_of s rs)))
+spread_short : (s : ℕ) (rs : List Row) → Short (plain spread_key (spread_word (Ok (spread_of s rs))))
 unfolding spread_word spread_key none_word
-spread_short s rs = plain_short spread_key (spread_word (spread_of s rs)) (omega arith) (go (spread_of s rs) refl)
+spread_short s rs = plain_short spread_key (spread_word (Ok (spread_of s rs))) (omega arith) (go (spread_of s rs) refl)
   where
-    go : (a : Result (Option ℤ) Refusal) → spread_of s rs ≡ a → length (spread_word a) ≤ 20
-    go (Ok (Some z)) e = omega (arith, spread_le z (spread_sides s rs z e).size)
-    go (Ok None) e = omega arith
-    go (Err r) e = omega arith
+    go : (a : Option ℤ) → spread_of s rs ≡ a → length (spread_word (Ok a)) ≤ 20
+    go (Some z) e = omega (arith, spread_le z (spread_sides s rs z e).size)
+    go None e = omega arith
 
 -- ---- a symbol
 type_few : (y : Option ℕ) → Few 1 (type_lines y)

@@ -126,7 +126,7 @@ symbol_one y s = (
 
 book_one : (id : ℕ) (rs : List Row) → All OneFeed (book_lines id rs)
 unfolding book_lines spread_key visible both
-book_one id rs = (plain_one spread_key (spread_word (spread_of id rs)) refl (spread_visible (spread_of id rs)), all_append OneFeed (side_lines Side.Buy id rs) (side_lines Side.Sell id rs) (side_one Side.Buy id rs) (side_one Side.Sell id rs))
+book_one id rs = (plain_one spread_key (spread_word (Ok (spread_of id rs))) refl (spread_visible (Ok (spread_of id rs))), all_append OneFeed (side_lines Side.Buy id rs) (side_lines Side.Sell id rs) (side_one Side.Buy id rs) (side_one Side.Sell id rs))
 
 entry_one : (ed : Edition) (rs : List Row) (e : List ℕ) → All OneFeed (entry_lines ed rs e)
 unfolding entry_lines

@@ -91,7 +91,7 @@ symbol_lines y s =
 
 -- "spread=20000", then the levels, "bids first"
 unfoldable pub book_lines : ℕ → List Row → List Line
-book_lines id rs = plain spread_key (spread_word (spread_of id rs)) ∷ (side_lines Side.Buy id rs ++ side_lines Side.Sell id rs)
+book_lines id rs = plain spread_key (spread_word (Ok (spread_of id rs))) ∷ (side_lines Side.Buy id rs ++ side_lines Side.Sell id rs)
 
 -- a free or spoiled entry has no lines: "type 1 marks an entry in use"
 unfoldable pub entry_lines : Edition → List Row → List ℕ → List Line

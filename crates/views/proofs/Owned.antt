@@ -85,7 +85,7 @@ pub record Quoted (s : ℕ) (rs : List Row) (a : Result (Option ℤ) Refusal) : 
 
 module _ (s : ℕ) (rs : List Row) where
   -- with a live order on each side
-  pub both_quoted : any_by (of_key (key_of Side.Buy s)) rs ≡ true → any_by (of_key (key_of Side.Sell s)) rs ≡ true → Quoted s rs (spread_of s rs)
+  pub both_quoted : any_by (of_key (key_of Side.Buy s)) rs ≡ true → any_by (of_key (key_of Side.Sell s)) rs ≡ true → Quoted s rs (Ok (spread_of s rs))
   unfolding spread_of between
   both_quoted buys sells =
       let b = some_price (key_of Side.Buy s) rs buys in
@@ -103,10 +103,10 @@ module _ (s : ℕ) (rs : List Row) where
       }
 
   -- "with a side empty the answer is none"
-  pub no_buys_none : any_by (of_key (key_of Side.Buy s)) rs ≡ false → spread_of s rs ≡ Ok None
+  pub no_buys_none : any_by (of_key (key_of Side.Buy s)) rs ≡ false → spread_of s rs ≡ None
   no_buys_none e = no_bids_empty s rs (side_empty (key_of Side.Buy s) rs e)
 
-  pub no_sells_none : any_by (of_key (key_of Side.Sell s)) rs ≡ false → spread_of s rs ≡ Ok None
+  pub no_sells_none : any_by (of_key (key_of Side.Sell s)) rs ≡ false → spread_of s rs ≡ None
   no_sells_none e = no_offers_empty s rs (side_empty (key_of Side.Sell s) rs e)
 
 -- a view that is not refused, of a symbol with a live buy and a live sell row, answers best offer less best bid

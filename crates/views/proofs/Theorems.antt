@@ -156,21 +156,21 @@ module _ (ls : List Level) (o : List ℕ) where
 -- ---- the spread
 module _ (s : ℕ) (rs : List Row) where
   -- best offer less best bid, negative exactly if the bid is above the offer, zero exactly if they are equal
-  pub spread_sides : (z : ℤ) → spread_of s rs ≡ Ok (Some z) → Sides s rs z
+  pub spread_sides : (z : ℤ) → spread_of s rs ≡ Some z → Sides s rs z
   unfolding spread_of
   spread_sides z e =
       sides s rs z (prices (key_of Side.Buy s) rs) refl (prices_low (key_of Side.Buy s) rs) (prices (key_of Side.Sell s) rs) refl (prices_low (key_of Side.Sell s) rs) e
 
-  pub no_bids_empty : prices (key_of Side.Buy s) rs ≡ [] → spread_of s rs ≡ Ok None
+  pub no_bids_empty : prices (key_of Side.Buy s) rs ≡ [] → spread_of s rs ≡ None
   unfolding spread_of between
   no_bids_empty p = rw p
 
-  pub no_offers_empty : prices (key_of Side.Sell s) rs ≡ [] → spread_of s rs ≡ Ok None
+  pub no_offers_empty : prices (key_of Side.Sell s) rs ≡ [] → spread_of s rs ≡ None
   unfolding spread_of
   no_offers_empty q = rw q (between_none (prices (key_of Side.Buy s) rs))
 
 -- ---- numbers of the answers
-pub spread_of_number : (s : ℕ) (rs : List Row) → spread_number (spread_of s rs) ≡ 0
+pub spread_of_number : (s : ℕ) (rs : List Row) → spread_number (Ok (spread_of s rs)) ≡ 0
 unfolding spread_of
 spread_of_number s rs = spread_told (prices (key_of Side.Buy s) rs) (prices (key_of Side.Sell s) rs)
 

@@ -21,6 +21,10 @@ good_tables orders symbols = both (good_rows (length orders)) (good_entries (len
 unfoldable pub view_fault : ℕ → List ℕ → List ℕ → ℕ
 view_fault s orders symbols = pick (good_tables orders symbols) (pick (known_symbol s (entries symbols)) 0 30) 6
 
+-- so a symbol can be shown, or a view of it is refused
+unfoldable pub viewable : ℕ → List ℕ → List ℕ → Result Unit Refusal
+viewable s orders symbols = pick (eqb (view_fault s orders symbols) 0) (Ok tt) (Err (refusal (view_fault s orders symbols)))
+
 -- an answer, and the lent run behind it
 pub record LadderOut : Type 0 where
   pub answer : Result ℕ Refusal
@@ -38,7 +42,7 @@ ladder_view side s orders symbols out =
 
 -- "best offer less best bid in millionths, signed .. with a side empty the answer is none"
 unfoldable pub spread_view : ℕ → List ℕ → List ℕ → Result (Option ℤ) Refusal
-spread_view s orders symbols = pick (eqb (view_fault s orders symbols) 0) (spread_of s (rows orders)) (Err (refusal (view_fault s orders symbols)))
+spread_view s orders symbols = pick (eqb (view_fault s orders symbols) 0) (Ok (spread_of s (rows orders))) (Err (refusal (view_fault s orders symbols)))
 
 -- "counts .. take every live row", and every used entry
 unfoldable pub counts_view : List ℕ → List ℕ → Result Sizes Refusal

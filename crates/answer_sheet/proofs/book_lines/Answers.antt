@@ -6,7 +6,7 @@ use mathlib.Core.List.{◌++◌}
 use Rattle.rows.specs.Rows.{rows}
 use Rattle.views.specs.Spread.{spread_of}
 use Rattle.views.specs.declared.Side.{Side}
-use Rattle.std.specs.Prelude.{Option, Result}
+use Rattle.std.specs.Prelude.{Option, Result, Ok}
 use Rattle.fields.specs.declared.Refusal.{Refusal}
 use Rattle.std.specs.Prelude.{ℤ}
 use Rattle.answer_sheet.specs.Keys.{spread_key, bid_key, ask_key, side_key}
@@ -32,6 +32,6 @@ returns c =
     let a = c.args in
     let rs = rows a.orders.now in
     let e = c.spread.ensures ∙ sym (spread_shown a.id a.orders.now a.symbols.now c.requires) in
-    lines_first (plain spread_key (spread_word (spread_of a.id rs))) (side_lines Side.Buy a.id rs ++ side_lines Side.Sell a.id rs)
+    lines_first (plain spread_key (spread_word (Ok (spread_of a.id rs)))) (side_lines Side.Buy a.id rs ++ side_lines Side.Sell a.id rs)
     (wrote_as (ap (λ (x : Result (Option ℤ) Refusal). line_of spread_key (spread_word x)) e) c.spread_line-o.ensures)
     (lines_then (side_lines Side.Buy a.id rs) (side_lines Side.Sell a.id rs) c.side_lines-p.ensures c.side_lines.ensures)

@@ -1,34 +1,26 @@
--- The nearer of the best so far and the nearest among the rows left is the nearest of all; each turn takes one row off.
+-- The least of the places that the rows have is the nearest.
 -- Assumes nothing.
-use mathlib.Core.Path.{◌≡◌, sym, ap, ◌∙◌}
+use mathlib.Core.Path.{◌≡◌, sym, ◌∙◌}
+use Prim.Native.Nat.{ℕ}
+use lib.ListN.{length, get_or}
 use native.Mathlib.Omega.{arith}
-use lib.ListN.{get_or}
+use borrow.Author.Rules.{rules}
+use Rattle.std.proofs.lemmas.Iterator.{YieldsList-from_range}
+use Rattle.std.proofs.lemmas.Iterator.Adapters.{option_map_id}
+use Rattle.std.proofs.lemmas.Iterator.Consumers.{YieldsList-from_filter_map, min_from_yields_List}
 use Rattle.rows.specs.Rows.{rows, zero_row}
-use Rattle.views.specs.Nearest.{near}
-use Rattle.views.proofs.Laws.{near_top, scan_start, scan_row, scan_end}
+use Rattle.rows.proofs.Tables.{length_rows}
+use Rattle.views.specs.Nearest.{place_from}
+use Rattle.views.proofs.Laws.{scanned}
 use Rattle.views.proofs.nearest.Goals as goal
-
-pub loop-i-init : goal.loop-i-init
-loop-i-init c =
-    let a = c.args in
-    (omega arith, omega arith, omega arith, scan_start a.key a.low (rows a.t.now))
-
-pub overflow_add-i : goal.overflow_add-i
-overflow_add-i c = omega arith
-
-pub loop-i-smaller : goal.loop-i-smaller
-loop-i-smaller c = omega arith
-
-pub loop-i-preserved : goal.loop-i-preserved
-loop-i-preserved c =
-    let a = c.args in
-    let l = c.loop-i in
-    let e : c.nearer-best.result ≡ near a.key a.low l.best (get_or (rows a.t.now) l.i zero_row) = c.nearer-best.ensures ∙ ap (near a.key a.low l.best) c.row_at.ensures in
-    let n = near_top a.key a.low l.best (get_or (rows a.t.now) l.i zero_row) in
-    (omega arith, omega arith, omega (arith, l.invariant.2), l.invariant.3 ∙ (scan_row a.key a.low l.best a.t.now l.i (omega arith) ∙ rw e))
 
 pub returns : goal.returns
 returns c =
     let a = c.args in
-    let l = c.loop-i in
-    sym (l.invariant.3 ∙ scan_end a.key a.low l.best a.t.now l.i l.invariant.2 (omega arith))
+    let rs = rows a.t.now in
+    let n : c.row_count.result ≡ length rs = c.row_count.ensures ∙ sym (length_rows a.t.now) in
+    sym (option_map_id c.min.result)
+    ∙ (min_from_yields_List _ _ c.min.ensures.ran
+    (YieldsList-from_filter_map _ (λ (i : ℕ). place_from a.key a.low (get_or rs i zero_row)) (YieldsList-from_range 0 c.row_count.result (length rs) c.filter_map.ensures.source (omega arith)) c.filter_map.ensures.closure
+    (λ x r q k. search rules))
+    ∙ scanned a.key a.low rs)
