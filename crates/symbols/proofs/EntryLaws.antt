@@ -3,14 +3,15 @@
 use mathlib.Core.Path.{◌≡◌, refl, sym, ◌∙◌}
 use mathlib.Core.List.{List, [], ◌++◌}
 use mathlib.Core.Bool.{Bool, true, false}
-use Prim.Native.Nat.{ℕ, ◌+◌, ◌-◌, ◌*◌, ◌/◌, ◌≤◌, ◌<◌}
+use Prim.Native.Nat.{ℕ, zero, suc, ◌+◌, ◌-◌, ◌*◌, ◌/◌, ◌≤◌, ◌<◌}
 use native.Mathlib.Omega.{arith}
 use lib.ListN.{length, get_or, set, take, drop, replicate, length-replicate, get_or-replicate, get_or-eq_default}
 use lib.Dec.{ltb}
 use borrow.Author.Tests.{eq-eqb, ne_eqb, eqb-true, ltb-true, ltb-false}
 use Rattle.facts.specs.Limits.{entry_size, most_entries}
 use Rattle.facts.specs.Pick.{pick, either}
-use Rattle.facts.specs.Pieces.{join}
+use Rattle.std.specs.Simd.{first_chunks}
+use Rattle.facts.specs.Pieces.{cut, pieces, join}
 use Rattle.facts.proofs.Picks.{refuted}
 use Rattle.facts.proofs.PieceLaws.{Wide, length_pieces, get_or_pieces, piece_fits, length_piece, length_put, put_out, pieces_put, wide_pieces, pieces_replicate, join_rest}
 use Rattle.facts.proofs.TableLaws.{put_join_rest, part_put, Fits, good_fits, fits_good}
@@ -51,6 +52,16 @@ entries_not_good n h = refuted (good_entries n) (λ e. h (good_entries_lem n e))
 pub length_entries : (t : List ℕ) → length (entries t) ≡ length t / entry_size
 unfolding entries
 length_entries t = length_pieces entry_size t
+
+-- as std cuts a slice
+chunks_cut : (w n : ℕ) (t : List ℕ) → first_chunks w n t ≡ cut w n t
+unfolding cut
+chunks_cut w zero t = refl
+chunks_cut w (suc n) t = rw (chunks_cut w n (drop w t))
+
+pub entries_chunks : (t : List ℕ) → first_chunks entry_size (length t / entry_size) t ≡ entries t
+unfolding entries pieces
+entries_chunks t = chunks_cut entry_size (length t / entry_size) t
 
 pub entry_read : (t : List ℕ) (i : ℕ) → i < length (entries t) → get_or (entries t) i [] ≡ take entry_size (drop (entry_size * i) t)
 unfolding entries

@@ -1,5 +1,5 @@
 // The symbol table: entries of 42 bytes, each a Symbol Update body. Each function answers for any table, any place and any body;
-// only `entry_count`, `entry_in` and `put_entry` know where an entry lies.
+// only `whole_entries` and `put_entry` know where an entry lies.
 #![tactic(auto)]
 
 ghost use Rattle.std.specs.Prelude.{◌≡◌, ◌<◌, length, get_or, []};
@@ -21,35 +21,29 @@ const FREE: u8 = 0;
 pub fn good_entries(n: usize) -> bool
     ensures { result ≡ good_entries n }
 {
-    n % facts::ENTRY_SIZE == 0
-        && 1 <= n / facts::ENTRY_SIZE
-        && n / facts::ENTRY_SIZE <= facts::MOST_ENTRIES
+    n % facts::ENTRY_SIZE == 0 && (1..=facts::MOST_ENTRIES).contains(&(n / facts::ENTRY_SIZE))
+}
+
+// The bytes of each entry; bytes behind the last whole entry are none.
+fn whole_entries(t: &[u8]) -> &[[u8; facts::ENTRY_SIZE]]
+    ensures { result.now ≡ entries t.now }
+{
+    t.as_chunks().0
 }
 
 pub fn entry_count(t: &[u8]) -> usize
     ensures { result ≡ length (entries t.now) }
 {
-    t.len() / facts::ENTRY_SIZE
-}
-
-// An entry that is there.
-fn entry_in(t: &[u8], i: usize) -> &[u8]
-    requires { i < length (entries t.now) }
-    ensures { result.now ≡ get_or (entries t.now) i [] }
-{
-    let b = facts::ENTRY_SIZE * i;
-    let e = b + facts::ENTRY_SIZE;
-    &t[b..e]
+    whole_entries(t).len()
 }
 
 // The bytes of entry i; none where there is no such entry.
 pub fn entry_bytes(t: &[u8], i: usize) -> &[u8]
     ensures { result.now ≡ get_or (entries t.now) i [] }
 {
-    if i < entry_count(t) {
-        entry_in(t, i)
-    } else {
-        &t[..0]
+    match whole_entries(t).get(i) {
+        Some(e) => e,
+        None => &[],
     }
 }
 
@@ -92,29 +86,13 @@ pub fn is_symbol_at(t: &[u8], i: usize, id: u32) -> bool
 pub fn find_symbol(t: &[u8], id: u32) -> Option<usize>
     ensures { result ≡ find_symbol id (entries t.now) }
 {
-    let end = entry_count(t);
-    let mut i = 0;
-    while i < end {
-        if is_symbol(entry_in(t, i), id) {
-            return Some(i);
-        }
-        i += 1;
-    }
-    None
+    whole_entries(t).iter().position(|e| is_symbol(e, id))
 }
 
 fn find_free_entry(t: &[u8]) -> Option<usize>
     ensures { result ≡ find_free_entry (entries t.now) }
 {
-    let end = entry_count(t);
-    let mut i = 0;
-    while i < end {
-        if is_free(entry_in(t, i)) {
-            return Some(i);
-        }
-        i += 1;
-    }
-    None
+    whole_entries(t).iter().position(|e| is_free(e))
 }
 
 pub fn known(t: &[u8], id: u32) -> bool
@@ -132,12 +110,10 @@ pub fn find_place(t: &[u8], id: u32) -> Option<usize>
 fn put_entry(t: &mut [u8], i: usize, body: &[u8])
     ensures { t.new ≡ put_entry t.old i body.now }
 {
-    if entry_count(t) <= i {
-        return;
+    if i < entry_count(t) {
+        let b = facts::ENTRY_SIZE * i;
+        wire::copy_at(body, 0, &mut t[b..b + facts::ENTRY_SIZE]);
     }
-    let b = facts::ENTRY_SIZE * i;
-    let e = b + facts::ENTRY_SIZE;
-    wire::copy_at(body, 0, &mut t[b..e]);
 }
 
 // The one function that changes the symbol table.
@@ -152,14 +128,5 @@ pub fn commit(t: &mut [u8], w: Option<usize>, body: &[u8])
 pub fn count_used(t: &[u8]) -> usize
     ensures { result ≡ count_used (entries t.now) }
 {
-    let end = entry_count(t);
-    let mut count: usize = 0;
-    let mut i = 0;
-    while i < end {
-        if is_used(entry_in(t, i)) {
-            count += 1;
-        }
-        i += 1;
-    }
-    count
+    whole_entries(t).iter().filter(|e| is_used(*e)).count()
 }
