@@ -27,21 +27,11 @@ pub fn loses_place(flags: u8) -> bool
 pub fn remake(old: Row, price: u64, size: u64, moved: bool, number: u64) -> Row
     ensures { result ≡ remade price size moved number old }
 {
-    if moved {
-        return Row {
-            order: old.order,
-            key: old.key,
-            price,
-            size,
-            rank: number,
-        };
-    }
     Row {
-        order: old.order,
-        key: old.key,
         price,
         size,
-        rank: old.rank,
+        rank: if moved { number } else { old.rank },
+        ..old
     }
 }
 
@@ -49,15 +39,11 @@ pub fn remake(old: Row, price: u64, size: u64, moved: bool, number: u64) -> Row
 pub fn reduce(r: Row, n: u64) -> Row
     ensures { result ≡ reduced n r }
 {
-    if r.size <= n {
-        return rows::zero_row();
-    }
-    Row {
-        order: r.order,
-        key: r.key,
-        price: r.price,
-        size: r.size - n,
-        rank: r.rank,
+    let size = r.size.saturating_sub(n);
+    if size == 0 {
+        rows::zero_row()
+    } else {
+        Row { size, ..r }
     }
 }
 
@@ -72,11 +58,8 @@ fn wipe(t: &mut [u64], i: usize, symbol: u64)
 fn clear(t: &mut [u64], symbol: u64)
     ensures { t.new ≡ cleared symbol t.old }
 {
-    let n = rows::row_count(t);
-    let mut i = 0;
-    while i < n {
+    for i in 0..rows::row_count(t) {
         wipe(t, i, symbol);
-        i += 1;
     }
 }
 
@@ -87,6 +70,6 @@ pub fn commit(t: &mut [u64], w: RowWork)
     match w {
         RowWork::Keep => {}
         RowWork::Put(i, r) => rows::put_row(t, i, r),
-        RowWork::Clear(symbol) => clear(t, symbol as u64),
+        RowWork::Clear(symbol) => clear(t, u64::from(symbol)),
     }
 }

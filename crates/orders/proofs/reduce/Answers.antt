@@ -1,12 +1,15 @@
 -- Nothing left is the zero row; else the same row with what is left.
 -- Assumes nothing.
-use mathlib.Core.Path.{sym, ◌∙◌}
-use native.Mathlib.Omega.{arith}
-use Rattle.orders.proofs.Cases.{reduced_none, reduced_some}
+use Rattle.std.proofs.Common.{arith}
+use Rattle.std.proofs.lemmas.Grind.{common_steps}
+use Rattle.facts.specs.Pick.{pick}
+use Rattle.orders.specs.Work.{reduced}
 use Rattle.orders.proofs.reduce.Goals as goal
 
-pub returns-then-r-n : goal.returns-then-r-n
-returns-then-r-n c = c.zero_row.ensures ∙ sym (reduced_none _ _ (omega arith))
+pub returns-then-size-eq0 : goal.returns-then-size-eq0
+unfolding reduced pick
+returns-then-size-eq0 c = grind (arith, common_steps)
 
-pub returns : goal.returns
-returns c = sym (reduced_some _ _ (λ e. omega arith))
+pub returns-else-size-eq0 : goal.returns-else-size-eq0
+unfolding reduced pick
+returns-else-size-eq0 c = grind (arith, common_steps)

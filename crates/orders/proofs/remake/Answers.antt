@@ -8,6 +8,6 @@ pub returns-then-moved : goal.returns-then-moved
 unfolding remade pick
 returns-then-moved c = rw c.if-moved.true
 
-pub returns : goal.returns
+pub returns-else-moved : goal.returns-else-moved
 unfolding remade pick
-returns c = rw c.if-moved.false
+returns-else-moved c = rw c.if-moved.false
