@@ -47,8 +47,7 @@ use Rattle.writer.proofs.Laws.{Allowed, allowed, put_stored, good_here, so_far_e
 -- two answers of different kinds are not one
 abbrev OtherAnswer : (w : Result ℕ Why) (l : ℕ) → Type 0
 OtherAnswer (Ok n) l = n ≡ l
-OtherAnswer (Err (Why.Alone r)) l = ⊥
-OtherAnswer (Err (Why.Placed f)) l = ⊥
+OtherAnswer (Err r) l = ⊥
 
 same_answer : (w : Result ℕ Why) (l : ℕ) → w ≡ Ok l → OtherAnswer w l
 same_answer w l e = subst (λ (x : Result ℕ Why). OtherAnswer x l) (sym e) refl
@@ -67,8 +66,7 @@ unfolding behind where_read put
 stored_is r k m at s l w e = elim (pick_cases e) [ inl h ↦ by_read r refl (leb-true at (length m) h.0) h.1 | inr h ↦ absurd (same_answer (Err (Why.Alone (refusal 32))) l (ap (λ (x : Writing). x.answer) h.1)) ]
   where
     by_read : (q : Result ℕ Why) → r ≡ q → at ≤ length m → where_read q m (put k m at s) ≡ writing (Ok l) w → Stored r k m at s l w
-    by_read (Err (Why.Alone x)) q i f = absurd (same_answer (Err (Why.Alone x)) l (ap (λ (x : Writing). x.answer) f))
-    by_read (Err (Why.Placed x)) q i f = absurd (same_answer (Err (Why.Placed x)) l (ap (λ (x : Writing). x.answer) f))
+    by_read (Err x) q i f = absurd (same_answer (Err x) l (ap (λ (y : Writing). y.answer) f))
     by_read (Ok n) q i f =
         elim (pick_cases f) [
           | inl h ↦ record { records_so_far = n; read_good = q; none = eqb-true k 0 h.0; within = i; length_is = sym (same_answer (Ok (at + length s)) l (ap (λ (x : Writing). x.answer) h.1)); memory_is = sym (ap (λ (x : Writing). x.memory) h.1) }
@@ -188,8 +186,7 @@ refusal_keeps r k m at s = pick_ind Kept (leb at (length m)) (where_read r m (pu
 
     by_read : (q : Result ℕ Why) → Kept (where_read q m (put k m at s))
     by_read (Ok n) h = by_put h
-    by_read (Err (Why.Alone x)) h = refl
-    by_read (Err (Why.Placed f)) h = refl
+    by_read (Err x) h = refl
 
 -- ---- where an offset is told, it is the reader's, of the packet so far or of the packet
 bad_read : (r : Result ℕ Why) (k : ℕ) (m : List ℕ) (at : ℕ) (s : List ℕ) (f : Fault) → (behind r k m at s).answer ≡ Err (Why.Placed f) → r ≡ Err (Why.Placed f)
@@ -199,10 +196,10 @@ bad_read r k m at s f e = pick_ind Told (leb at (length m)) (where_read r m (put
     Told : Writing → Type 0
     Told w = w.answer ≡ Err (Why.Placed f) → r ≡ Err (Why.Placed f)
 
-    not_bad : {x : Refusal} → Err (Why.Alone x) ≡ Err (Why.Placed f) → ⊥
+    not_bad : {x : Refusal} → ◌≡◌ {A = Result ℕ Why} (Err (Why.Alone x)) (Err (Why.Placed f)) → ⊥
     not_bad h = let z : ◌≡◌ {A = ℕ} 0 1 = cc in omega arith
 
-    no_length : {n : ℕ} → Ok n ≡ Err (Why.Placed f) → ⊥
+    no_length : {n : ℕ} → ◌≡◌ {A = Result ℕ Why} (Ok n) (Err (Why.Placed f)) → ⊥
     no_length h = let z : ◌≡◌ {A = ℕ} 0 1 = cc in omega arith
 
     by_put : (put k m at s).answer ≡ Err (Why.Placed f) → ⊥
@@ -210,8 +207,7 @@ bad_read r k m at s f e = pick_ind Told (leb at (length m)) (where_read r m (put
 
     by_read : (q : Result ℕ Why) → (where_read q m (put k m at s)).answer ≡ Err (Why.Placed f) → q ≡ Err (Why.Placed f)
     by_read (Ok n) h = absurd (by_put h)
-    by_read (Err (Why.Alone x)) h = absurd (not_bad h)
-    by_read (Err (Why.Placed g)) h = let same : g ≡ f = cc in ap (λ q. Err (Why.Placed q)) same
+    by_read (Err x) h = h
 
 pub append_small : (ed : Edition) (why : ℕ) (m : List ℕ) (at n : ℕ) (b : List ℕ) (f : Fault) → (appended_as ed why m at n b).answer ≡ Err (Why.Placed f) → f.at ≤ packet_most
 unfolding appended_as so_far

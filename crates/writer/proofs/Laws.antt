@@ -9,23 +9,23 @@ use native.Mathlib.Omega.{arith}
 use lib.ListN.{length, length-append}
 use lib.Seq.{sets}
 use lib.Dec.{eqb, leb}
-use borrow.Author.Tests.{eq-eqb, ne_eqb, eqb-true, le-leb, lt-leb, leb-true}
+use borrow.Author.Tests.{eq-eqb, ne_eqb, eqb-true, eqb-false, le-leb, lt-leb, leb-true}
 use Rattle.facts.specs.Limits.{packet_most}
 use Rattle.facts.specs.Pick.{pick}
-use Rattle.facts.proofs.Picks.{pick_cases}
+use Rattle.facts.proofs.Picks.{pick_ind, pick_cases}
 use Rattle.facts.proofs.Stores.{sets_append}
 use Rattle.editions.specs.declared.Edition.{Edition}
 use Rattle.wire.specs.Le.{to_le}
 use Rattle.wire.proofs.Laws.{length_to_le, fits_test}
 use Rattle.fields.specs.declared.Refusal.{Refusal}
-use Rattle.fields.specs.declared.Fault.{Fault}
+use Rattle.fields.specs.Fields.{refusal}
 use Rattle.packet.specs.Record.{number_ok}
 use Rattle.packet.specs.Packet.{read_packet}
 use Rattle.std.specs.Prelude.{Result, Ok, Err}
 use Rattle.packet.specs.declared.Why.{Why}
 use Rattle.trips.specs.Records.{record_bytes, length_first}
 use Rattle.trips.proofs.Records.{length_record}
-use Rattle.writer.specs.Append.{writing, refused_by, put, where_read, behind, room_number, so_far, own_number}
+use Rattle.writer.specs.Append.{writing, refused_by, put, where_read, behind, room_number, so_far, own_number, unless}
 
 -- ---- runs stored one behind the other
 stored_two : (t a b : List ℕ) (at n : ℕ) → length a ≡ n → sets (sets t at a) (at + n) b ≡ sets t at (a ++ b)
@@ -70,6 +70,27 @@ module _ (why n room new : ℕ) where
     pub none_refuses : leb new packet_most ≡ true → leb new room ≡ true → 0 ≡ own_number why n room new
     unfolding own_number room_number pick
     none_refuses l r = rw (o, eq-eqb why 0 w, l, r) refl
+
+-- ---- refused by a number, and by none
+pub unless_ok : (k : ℕ) (u : Unit {0}) → unless k ≡ Ok u → k ≡ 0
+unless_ok k u = pick_ind (λ (x : Result (Unit {0}) Refusal). x ≡ Ok u → k ≡ 0) (eqb k 0) (Ok tt) (Err (refusal k)) (λ e _. eqb-true k 0 e) (λ _ q. let z : ◌≡◌ {A = ℕ} 0 1 = cc in absurd (omega arith))
+
+pub unless_err : (k : ℕ) (r : Refusal) → unless k ≡ Err r → (k ≡ 0 → ⊥) × (r ≡ refusal k)
+unless_err k r =
+    pick_ind (λ (x : Result (Unit {0}) Refusal). x ≡ Err r → (k ≡ 0 → ⊥) × (r ≡ refusal k))
+    (eqb k 0)
+    (Ok tt)
+    (Err (refusal k))
+    (λ _ q. let z : ◌≡◌ {A = ℕ} 0 1 = cc in absurd (omega arith))
+    (λ e q. let s : r ≡ refusal k = cc in (eqb-false k 0 e, s))
+
+pub is_refused : (k own : ℕ) → k ≡ own → (k ≡ 0 → ⊥) → Err (refusal k) ≡ unless own
+unfolding pick
+is_refused k own e d = rw (← e, ne_eqb k 0 d) refl
+
+pub is_allowed : (own : ℕ) → 0 ≡ own → Ok tt ≡ unless own
+unfolding pick
+is_allowed own e = rw (← e) refl
 
 -- what is known of a record that nothing refuses
 pub record Allowed (why n room new : ℕ) : Type 0 where
@@ -118,13 +139,9 @@ within r k m at s l = rw (le-leb at (length m) l) refl
 
 -- by what the reader said
 module _ (r : Result ℕ Why) (k : ℕ) (m : List ℕ) (at : ℕ) (s : List ℕ) where
-  pub refused_here : (x : Refusal) → at ≤ length m → r ≡ Err (Why.Alone x) → writing (Err (Why.Alone x)) m ≡ behind r k m at s
+  pub refused_here : (x : Why) → at ≤ length m → r ≡ Err x → writing (Err x) m ≡ behind r k m at s
   unfolding where_read
   refused_here x l e = ap (λ (y : Result ℕ Why). where_read y m (put k m at s)) (sym e) ∙ within r k m at s l
-
-  pub bad_here : (x : Fault) → at ≤ length m → r ≡ Err (Why.Placed x) → writing (Err (Why.Placed x)) m ≡ behind r k m at s
-  unfolding where_read
-  bad_here x l e = ap (λ (y : Result ℕ Why). where_read y m (put k m at s)) (sym e) ∙ within r k m at s l
 
   pub good_here : (n : ℕ) → at ≤ length m → r ≡ Ok n → put k m at s ≡ behind r k m at s
   unfolding where_read

@@ -25,8 +25,7 @@ next_to more w = go w.answer
   where
     go : Result ℕ Why → Writing
     go (Ok l) = more w.memory l
-    go (Err (Why.Alone r)) = w
-    go (Err (Why.Placed f)) = w
+    go (Err r) = w
 
 unfoldable pub appended_all : Edition → List Rec → List ℕ → ℕ → Writing
 appended_all ed [] m at = writing (Ok at) m

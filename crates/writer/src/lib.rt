@@ -5,10 +5,10 @@
 ghost use Rattle.std.specs.Prelude.{◌≡◌, ◌+◌, ◌≤◌, length, take, leb};
 ghost use Rattle.std.proofs.lemmas.List.Edits.{sets};
 ghost use Rattle.trips.specs.Records.{record_bytes, length_first};
-ghost use Rattle.writer.specs.Append.{writing, put, so_far, room_number, own_number, appended_as, appended, numbers_appended, packet_appended};
+ghost use Rattle.writer.specs.Append.{writing, put, so_far, room_number, message_number, Numbered, own_number, unless, appended_as, appended, numbers_appended, packet_appended};
 
 use editions::Edition;
-use fields::{Fault, Refusal};
+use fields::Refusal;
 use packet::Why;
 
 // Whether a head and n bytes fit behind those that are used. No sum of them need fit.
@@ -25,23 +25,28 @@ fn room_for(room: usize, head: usize, used: usize, n: usize) -> bool
     used <= left - n
 }
 
-// What refuses a record with a body of n bytes: its number, its message (why), the packet's size, the memory's.
-fn own_number(why: u8, number: u64, room: usize, used: usize, n: usize) -> u8
-    ensures { result ≡ own_number why number room (used + (10 + n)) }
+// Whether nothing refuses a record with a body of n bytes: its number, its message, the packet's size, the memory's.
+fn allowed(
+    number: u64,
+    message: Result<(), Refusal>,
+    room: usize,
+    used: usize,
+    n: usize,
+) -> Result<(), Refusal>
+    requires { Numbered message }
+    ensures { result ≡ unless (own_number (message_number message) number room (used + (10 + n))) }
 {
     if !packet::number_ok(number) {
-        return 5;
+        return Err(Refusal { number: 5 });
     }
-    if why != 0 {
-        return why;
-    }
+    message?;
     if !room_for(facts::PACKET_MOST, 10, used, n) {
-        return 1;
+        return Err(Refusal { number: 1 });
     }
     if !room_for(room, 10, used, n) {
-        return 32;
+        return Err(Refusal { number: 32 });
     }
-    0
+    Ok(())
 }
 
 // The packet so far, as reading judges it; an empty one is good.
@@ -66,37 +71,46 @@ fn put_record(memory: &mut [u8], at: usize, number: u64, body: &[u8])
 }
 
 // The record behind a good packet so far, where nothing refuses it.
-fn put_own(memory: &mut [u8], used: usize, number: u64, why: u8, body: &[u8]) -> Result<usize, Why>
-    ensures { writing result memory.new ≡ put (own_number why number (length memory.old) (used + length (record_bytes number body.now))) memory.old used (record_bytes number body.now) }
+fn put_own(
+    memory: &mut [u8],
+    used: usize,
+    number: u64,
+    message: Result<(), Refusal>,
+    body: &[u8],
+) -> Result<usize, Why>
+    requires { Numbered message }
+    ensures { writing result memory.new ≡ put (own_number (message_number message) number (length memory.old) (used + length (record_bytes number body.now))) memory.old used (record_bytes number body.now) }
 {
-    let k = own_number(why, number, memory.len(), used, body.len());
-    if k != 0 {
-        return Err(Why::Alone(Refusal { number: k }));
-    }
+    allowed(number, message, memory.len(), used, body.len())?;
     put_record(memory, used, number, body);
     Ok(used + (10 + body.len()))
 }
 
-// A record, whose message is refused by why or is the body, behind a packet so far.
-fn append_as(e: Edition, memory: &mut [u8], used: usize, number: u64, why: u8, body: &[u8]) -> Result<usize, Why>
-    ensures { writing result memory.new ≡ appended_as e why memory.old used number body.now }
+// A record, whose message is refused or is the body, behind a packet so far.
+fn append_as(
+    e: Edition,
+    memory: &mut [u8],
+    used: usize,
+    number: u64,
+    message: Result<(), Refusal>,
+    body: &[u8],
+) -> Result<usize, Why>
+    requires { Numbered message }
+    ensures { writing result memory.new ≡ appended_as e (message_number message) memory.old used number body.now }
 {
     if memory.len() < used {
         return Err(Why::Alone(Refusal { number: 32 }));
     }
-    match so_far(e, memory, used) {
-        Err(Why::Alone(r)) => Err(Why::Alone(r)),
-        Err(Why::Placed(f)) => Err(Why::Placed(f)),
-        Ok(_) => put_own(memory, used, number, why, body),
-    }
+    so_far(e, memory, used)?;
+    put_own(memory, used, number, message, body)
 }
 
 // A record behind a packet so far: refused by 32, then as reading refuses the packet so far, then by 5, 3 or 4, 1 and 32.
 pub fn append(e: Edition, memory: &mut [u8], used: usize, number: u64, body: &[u8]) -> Result<usize, Why>
     ensures { writing result memory.new ≡ appended e memory.old used number body.now }
 {
-    let c = body::judge(e, body);
-    append_as(e, memory, used, number, (c % 256) as u8, body)
+    let message = body::judge(e, body).map_err(|f| Refusal { number: f.number });
+    append_as(e, memory, used, number, message, body)
 }
 
 // The same from eight numbers and 28 bytes of text: refused by 3 where the first is no message's type, and by 4 also for a number that its
@@ -111,10 +125,10 @@ pub fn append_numbers(
 ) -> Result<usize, Why>
     ensures { writing result memory.new ≡ numbers_appended e memory.old used number n.now t.now }
 {
-    let d = numbers::draft_of(e, n, t);
-    let len = d.len;
-    let bytes = d.bytes;
-    append_as(e, memory, used, number, d.why, &bytes[..len])
+    match numbers::draft_of(e, n, t) {
+        Ok(d) => append_as(e, memory, used, number, Ok(()), &d.bytes[..d.len]),
+        Err(r) => append_as(e, memory, used, number, Err(r), &[]),
+    }
 }
 
 // The packet behind its length, where it fits.
@@ -137,9 +151,6 @@ pub fn append_packet(e: Edition, memory: &mut [u8], used: usize, p: &[u8]) -> Re
     if memory.len() < used {
         return Err(Why::Alone(Refusal { number: 32 }));
     }
-    match packet::read_packet(e, p) {
-        Err(Why::Alone(r)) => Err(Why::Alone(r)),
-        Err(Why::Placed(f)) => Err(Why::Placed(f)),
-        Ok(_) => put_packet(memory, used, p),
-    }
+    packet::read_packet(e, p)?;
+    put_packet(memory, used, p)
 }
