@@ -5,14 +5,11 @@ use mathlib.Core.List.{List}
 use mathlib.Core.Bool.{Bool, true, false}
 use Prim.Native.Nat.{ℕ, ◌+◌, ◌≤◌}
 use native.Mathlib.Omega.{arith}
-use lib.ListN.{length, take, length-replicate}
+use lib.ListN.{length, take}
 use lib.Dec.{eqb, leb}
 use borrow.Author.Tests.{eqb-true, eqb-false, ne_eqb}
-use Rattle.facts.specs.Limits.{entry_size}
 use Rattle.facts.specs.Pick.{pick}
-use Rattle.facts.proofs.Picks.{pick_ind}
 use Rattle.editions.specs.declared.Edition.{Edition}
-use Rattle.wire.proofs.Laws.{length_padded}
 use Rattle.numbers.specs.Drafts.{draft_kind, draft_number, draft_body, draft_of}
 use Rattle.fields.specs.Fields.{refusal}
 use Rattle.fields.specs.declared.Refusal.{Refusal}

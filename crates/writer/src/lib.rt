@@ -70,22 +70,6 @@ fn put_record(memory: &mut [u8], at: usize, number: u64, body: &[u8])
     wire::put_at(memory, at + 10, body);
 }
 
-// The record behind a good packet so far, where nothing refuses it.
-fn put_own(
-    memory: &mut [u8],
-    used: usize,
-    number: u64,
-    message: Result<(), Refusal>,
-    body: &[u8],
-) -> Result<usize, Why>
-    requires { Numbered message }
-    ensures { writing result memory.new ≡ put (own_number (message_number message) number (length memory.old) (used + length (record_bytes number body.now))) memory.old used (record_bytes number body.now) }
-{
-    allowed(number, message, memory.len(), used, body.len())?;
-    put_record(memory, used, number, body);
-    Ok(used + (10 + body.len()))
-}
-
 // A record, whose message is refused or is the body, behind a packet so far.
 fn append_as(
     e: Edition,
@@ -102,11 +86,19 @@ fn append_as(
         return Err(Why::Alone(Refusal { number: 32 }));
     }
     so_far(e, memory, used)?;
-    put_own(memory, used, number, message, body)
+    allowed(number, message, memory.len(), used, body.len())?;
+    put_record(memory, used, number, body);
+    Ok(used + (10 + body.len()))
 }
 
 // A record behind a packet so far: refused by 32, then as reading refuses the packet so far, then by 5, 3 or 4, 1 and 32.
-pub fn append(e: Edition, memory: &mut [u8], used: usize, number: u64, body: &[u8]) -> Result<usize, Why>
+pub fn append(
+    e: Edition,
+    memory: &mut [u8],
+    used: usize,
+    number: u64,
+    body: &[u8],
+) -> Result<usize, Why>
     ensures { writing result memory.new ≡ appended e memory.old used number body.now }
 {
     let message = body::judge(e, body).map_err(|f| Refusal { number: f.number });

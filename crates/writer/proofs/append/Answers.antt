@@ -1,6 +1,6 @@
 -- The message is refused by what its judge says (judged_so).
 -- Assumes nothing.
-use mathlib.Core.Path.{sym, ap, ◌∙◌}
+use mathlib.Core.Path.{ap, ◌∙◌}
 use Prim.Native.Nat.{ℕ}
 use Rattle.std.proofs.Common.{rules}
 use Rattle.writer.specs.Append.{appended, appended_as}

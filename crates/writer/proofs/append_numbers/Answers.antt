@@ -2,7 +2,6 @@
 -- Assumes nothing.
 use mathlib.Core.Path.{refl, sym, ap, ◌∙◌}
 use Prim.Native.Nat.{ℕ}
-use native.Mathlib.Omega.{arith}
 use Rattle.facts.specs.Pick.{pick}
 use Rattle.numbers.proofs.Held.{draft_good}
 use Rattle.writer.specs.Append.{appended_as}
