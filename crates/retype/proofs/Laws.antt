@@ -7,9 +7,9 @@ use mathlib.Core.List.{List, [], ◌∷◌}
 use mathlib.Core.Logic.{◌≢◌, ◌⊎◌, inl, inr}
 use native.Mathlib.Omega.{arith}
 use lib.ListN.{length, get_or, set, length-set}
-use lib.Seq.{set_out, get_or-set_same, get_or-set_other, set-get_or}
+use lib.Seq.{get_or-set_same, get_or-set_other, set-get_or}
 use lib.Dec.{eqb}
-use borrow.Author.Tests.{ne_eqb, eqb-true, eq-eqb}
+use borrow.Author.Tests.{eqb-true, eq-eqb}
 use Rattle.facts.specs.Pick.{pick, both}
 use Rattle.facts.specs.Search.{first, is_found}
 use Rattle.facts.specs.Same.{same_bytes}
@@ -29,21 +29,7 @@ use Rattle.body.specs.Editions.{IsUpdate}
 use Rattle.body.proofs.Laws.{good_framed, Framed, framed_is, Judgement, good, bad, judgement, JudgedAs, judge_sound}
 use Rattle.body.proofs.Editions.{no_update_alike, lettered_alike, reserved_unjudged, older_alike}
 use Rattle.retype.specs.Types.{exceptions, names, type_of, type_at, type_for, bad_type, types_ok}
-use Rattle.retype.specs.Retyped.{Asked, is_update, byte_in, new_byte, retyped, retyping, retypes}
-
--- ---- as the code does it
-module _ (a : Asked) (b : List ℕ) (t : ℕ) (e : t ≡ get_or b 0 0) where
-  pub no_update : t ≢ 1 → retyping false b ≡ retypes a b
-  unfolding retyped is_update pick
-  no_update n = simp (← e, ne_eqb t 1 n)
-
-  pub an_update : (x : ℕ) → t ≡ 1 → x ≡ new_byte a b → retyping true (set b 20 x) ≡ retypes a b
-  unfolding retyped is_update pick
-  an_update x o n = simp (← e, o, n)
-
-  pub too_short : t ≡ 1 → length b ≤ 20 → retyping true b ≡ retypes a b
-  unfolding retyped is_update pick
-  too_short o l = simp (← e, o, set_out b 20 (new_byte a b) l)
+use Rattle.retype.specs.Retyped.{Asked, is_update, byte_in, new_byte, retyped}
 
 -- ---- bytes that are the same but for byte 20
 abbrev pub ButFor20 : List ℕ → List ℕ → Type 0
@@ -81,16 +67,16 @@ module _ (b c : List ℕ) (same : ButFor20 b c) where
 
   pub update_same : is_update c ≡ is_update b
   unfolding is_update
-  update_same = ap (λ (t : ℕ). eqb t 1) (same 0 (λ e. omega arith))
+  update_same = rw (same 0 (λ e. omega arith)) refl
 
 -- ---- what is retyped
 pub retyped_length : (a : Asked) (b : List ℕ) → length (retyped a b) ≡ length b
 unfolding retyped
-retyped_length a b = pick_ind (λ (c : List ℕ). length c ≡ length b) (is_update b) (set b 20 (new_byte a b)) b (λ _. length-set b 20 (new_byte a b)) (λ _. refl)
+retyped_length a b = pick_ind (λ (c : List ℕ). length c ≡ length b) (is_update b) _ b (λ _. length-set b _ (new_byte a b)) (λ _. refl)
 
 pub retyped_same : (a : Asked) (b : List ℕ) → ButFor20 b (retyped a b)
 unfolding retyped
-retyped_same a b k n = pick_ind (λ (c : List ℕ). get_or c k 0 ≡ get_or b k 0) (is_update b) (set b 20 (new_byte a b)) b (λ _. get_or-set_other b 20 k (new_byte a b) 0 n) (λ _. refl)
+retyped_same a b k n = pick_ind (λ (c : List ℕ). get_or c k 0 ≡ get_or b k 0) (is_update b) _ b (λ _. get_or-set_other b 20 k (new_byte a b) 0 n) (λ _. refl)
 
 pub retyped_yes : (a : Asked) (b : List ℕ) → is_update b ≡ true → retyped a b ≡ set b 20 (new_byte a b)
 unfolding retyped pick
