@@ -30,6 +30,7 @@ use editions::Edition;
 use fields::Fault;
 use receiver::{Account, State};
 use recording::Stream;
+use retype::Asked;
 use views::Side;
 use packet::Why;
 
@@ -382,9 +383,12 @@ pub fn rimeheath_convert(
 ) -> u32
     ensures { convert_call result p.new updates.new ≡ convert_answer (converted (edition_of from) (asked (edition_of to) kind others.now) p.old) updates.old }
 {
-    let f = Edition::from(from);
-    let t = Edition::from(to);
-    match conversion::convert(f, t, kind, others, p) {
+    let asked = Asked {
+        to: Edition::from(to),
+        all: kind,
+        others,
+    };
+    match conversion::convert(Edition::from(from), &asked, p) {
         Err(Why::Alone(r)) => r.number as u32,
         Err(Why::Placed(f)) => with_offset(f),
         Ok(n) => {
@@ -405,9 +409,12 @@ pub fn rimeheath_convert_piece(
 ) -> u8
     ensures { convert_call result b.new counts.new ≡ piece_answer (turned_to (edition_of from) (asked (edition_of to) kind others.now) b.old) counts.old }
 {
-    let f = Edition::from(from);
-    let t = Edition::from(to);
-    match conversion::convert_piece(f, t, kind, others, b) {
+    let asked = Asked {
+        to: Edition::from(to),
+        all: kind,
+        others,
+    };
+    match conversion::convert_piece(Edition::from(from), &asked, b) {
         Err(r) => r.number,
         Ok((n, c)) => {
             *counts = [n as u64, c.updates as u64, c.unread as u64, c.barred as u64];

@@ -36,6 +36,7 @@ use Rattle.packet.specs.declared.Head.{Head}
 use Rattle.packet.proofs.Laws.{GoodRec, Held, record_held, whole_record, body_length, body_past, first_bad}
 use Rattle.packet.proofs.Good.{Step, step, framing_size}
 use Rattle.packet.proofs.Editions.{older_packet, newer_packet}
+use Rattle.packet.specs.declared.Why.{Why}
 use Rattle.retype.specs.Retyped.{Asked}
 use Rattle.conversion.specs.Piece.{barred}
 use Rattle.conversion.specs.Kept.{Barring}

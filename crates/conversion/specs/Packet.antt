@@ -38,12 +38,8 @@ abbrev pub conversion : Result ℕ Why → List ℕ → Conversion
 conversion c p = record { answer = c; packet = p }
 
 -- "A packet is refused as the reader of the edition `from` refuses it, by number and offset .., and keeps every byte" (docs/CONVERT.md)
-abbrev pub refused_by : Why → Result ℕ Why
-refused_by (Why.Alone r) = Err (Why.Alone r)
-refused_by (Why.Placed f) = Err (Why.Placed f)
-
 unfoldable pub converted_by : Asked → Framing → List ℕ → Conversion
-converted_by a (bad w) p = conversion (refused_by w) p
+converted_by a (bad w) p = conversion (Err w) p
 converted_by a (records cs) p = conversion (Ok (updates_in cs)) (rewritten a p)
 
 -- what is asked for is judged before the packet: 6 for exceptions that are not whole, 4 for a type that is none

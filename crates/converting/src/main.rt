@@ -301,7 +301,12 @@ fn other_than(e: Edition) -> Edition {
 fn work(rt: &(impl Input + Print + Eprint), o: Order, others: &[u8], piece: &mut [u8]) {
     let n = o.others;
     let to = o.to;
-    if !retype::types_ok(to, o.all, text::front(others, n)) {
+    let asked = retype::Asked {
+        to,
+        all: o.all,
+        others: text::front(others, n),
+    };
+    if !asked.types_ok() {
         return wrong_words(rt);
     }
     let start = Flow {
@@ -381,10 +386,12 @@ fn convert(
     if piece.len() < have {
         return Outcome::Refused;
     }
-    let from = o.from;
-    let to = o.to;
-    let r = conversion::convert_piece(from, to, o.all, others, &mut piece[..have]);
-    match r {
+    let asked = retype::Asked {
+        to: o.to,
+        all: o.all,
+        others,
+    };
+    match conversion::convert_piece(o.from, &asked, &mut piece[..have]) {
         Err(_) => Outcome::Refused,
         Ok((done, t)) => hand_on(rt, piece, done, have, counted(c, t)),
     }
