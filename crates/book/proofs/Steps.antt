@@ -1,14 +1,14 @@
 -- What every message does alike: a plan that stops changes nothing, one that goes on leaves each table by its own work; and which of them
 -- a message may change, by the case of its body.
 -- Assumes nothing.
-use mathlib.Core.Path.{◌≡◌, refl, sym, ap, subst, ◌∙◌}
+use mathlib.Core.Path.{◌≡◌, refl, sym, ap, ◌∙◌}
 use mathlib.Core.Bool.{true, false}
 use mathlib.Core.List.{List}
 use mathlib.Core.Logic.{◌⊎◌, inl, inr, ⊎_elim}
 use Prim.Native.Nat.{ℕ, ◌≤◌}
 use native.Mathlib.Omega.{arith}
 use lib.ListN.{length}
-use Rattle.std.specs.Prelude.{Option, Some, None}
+use Rattle.std.specs.Prelude.{Option, Some, None, Ok, Err}
 use Rattle.facts.proofs.Picks.{upheld}
 use Rattle.editions.specs.declared.Edition.{Edition}
 use Rattle.fields.specs.Fields.{body_number}
@@ -34,13 +34,12 @@ use Rattle.orders.specs.Work.{committed}
 use Rattle.orders.proofs.Commits.{committed_length}
 use Rattle.book.specs.declared.Clock.{Clock}
 use Rattle.book.specs.declared.Works.{Works}
-use Rattle.book.specs.declared.Plan.{Plan}
-use Rattle.book.specs.declared.Plan.TheVariants.{Stop, Go}
-use Rattle.book.specs.Plan.{clock, works, on_rows, idle, of_known, target, upon, row_for, room_for, add_plan, modify_at, modify_plan, delete_at, delete_plan, execute_at, execution_plan, clear_plan, update_plan, Finds, plan_by}
+use Rattle.book.specs.declared.Rule.TheVariants.{UnknownSymbol, NoBody}
+use Rattle.book.specs.Plan.{Plan, clock, on_rows, idle, of_known, target, upon, row_for, room_for, add_plan, modify_at, modify_plan, delete_at, delete_plan, execute_at, execution_plan, clear_plan, update_plan, Finds, plan_by}
 use Rattle.book.specs.Parts.{the_second, the_symbols, the_orders, no_part, part_of}
 use Rattle.book.specs.Book.{Book, book, effect, scans, planned, carried, applied}
-use Rattle.book.proofs.Laws.{planned_by, carried_by}
-use Rattle.book.proofs.Plans.{Ruled, stops, goes, OnOrders, stops_orders, goes_orders, ruled, known_orders, room_orders, named_orders, execute_orders}
+use Rattle.book.proofs.Laws.{rule_from, rule_some, planned_by, carried_by}
+use Rattle.book.proofs.Plans.{OnOrders, stops_orders, goes_orders, known_orders, room_orders, named_orders, execute_orders}
 
 -- ---- any plan
 -- the numbers of the book rules
@@ -50,29 +49,29 @@ Numbered n = (n ≡ 0) ⊎ ((20 ≤ n) × (n ≤ 27))
 module _ (b : List ℕ) (k : Book) where
   pub carried_broken : (p : Plan) → ((carried p b k).rule ≡ 0 → ⊥) → (carried p b k).after ≡ k
   unfolding carried
-  carried_broken (Stop n) h = refl
-  carried_broken (Go w) h = absurd (h refl)
+  carried_broken (Err n) h = refl
+  carried_broken (Ok w) h = absurd (h refl)
 
   pub carried_orders : (p : Plan) → length (carried p b k).after.orders ≡ length k.orders
   unfolding carried
-  carried_orders (Stop n) = refl
-  carried_orders (Go w) = committed_length w.orders k.orders
+  carried_orders (Err n) = refl
+  carried_orders (Ok w) = committed_length w.orders k.orders
 
   pub carried_symbols : (p : Plan) → length (carried p b k).after.symbols ≡ length k.symbols
   unfolding carried
-  carried_symbols (Stop n) = refl
-  carried_symbols (Go w) = entered_length w.symbols b k.symbols
+  carried_symbols (Err n) = refl
+  carried_symbols (Ok w) = entered_length w.symbols b k.symbols
 
-  pub carried_numbers : {p : Plan} → Ruled p → Numbered (carried p b k).rule
+  pub carried_numbers : (p : Plan) → Numbered (carried p b k).rule
   unfolding carried
-  carried_numbers (stops n l h) = inr (l, h)
-  carried_numbers (goes w) = inl refl
+  carried_numbers (Err r) = inr (rule_from r)
+  carried_numbers (Ok w) = inl refl
 
-  carried_went : (p : Plan) → Ruled p → (carried p b k).rule ≡ 0
-      → (w : Works) × (p ≡ Go w) × ((carried p b k).after ≡ book (committed w.orders k.orders) (entered w.symbols b k.symbols) w.clock)
+  carried_went : (p : Plan) → (carried p b k).rule ≡ 0
+      → (w : Works) × (p ≡ Ok w) × ((carried p b k).after ≡ book (committed w.orders k.orders) (entered w.symbols b k.symbols) w.clock)
   unfolding carried
-  carried_went (Stop n) (stops m l h) z = absurd (omega arith)
-  carried_went (Go w) r z = (w, refl, refl)
+  carried_went (Err r) z = absurd (rule_some r z)
+  carried_went (Ok w) z = (w, refl, refl)
 
 -- ---- messages that name a symbol, which alone change the order table, and the four that change none
 pub data Names : Body → ℕ → Type 0 where
@@ -163,7 +162,7 @@ module _ (n : ℕ) (b : List ℕ) (c : Clock) (f : Finds) where
       known_orders c (f.entry m.symbol) (λ e. upon (target (f.order m.order) m.symbol) (execute_at c m))
       (λ e. named_orders c (f.order m.order) m.symbol (execute_at c m) (execute_orders c m))
 
-  names_unknown : {m : Body} {s : ℕ} → Names m s → f.entry s ≡ None → plan_by m n b c f ≡ Stop 20
+  names_unknown : {m : Body} {s : ℕ} → Names m s → f.entry s ≡ None → plan_by m n b c f ≡ Err UnknownSymbol
   unfolding plan_by add_plan modify_plan delete_plan execution_plan clear_plan of_known
   names_unknown (clear m) e = rw e
   names_unknown (add m) e = rw e
@@ -178,20 +177,7 @@ module _ (n : ℕ) (b : List ℕ) (c : Clock) (f : Finds) where
   other_idle (trade m) = refl
   other_idle (cancel m) = refl
 
-  update_ruled : (place : Option ℕ) → Ruled (update_plan c place)
-  unfolding update_plan
-  update_ruled (Some i) = goes (works c RowWork.Keep (Some i))
-  update_ruled None = stops 26 (omega arith) (omega arith)
-
-  pub group_ruled : {m : Body} → Group m → Ruled (plan_by m n b c f)
-  unfolding plan_by
-  group_ruled (time s) = goes (works (clock s) RowWork.Keep None)
-  group_ruled update = update_ruled (f.room (id_of b))
-  group_ruled (names h) = ruled (names_orders h)
-  group_ruled (other h) = subst Ruled (sym (other_idle h)) (goes (works c RowWork.Keep None))
-  group_ruled (refused r) = stops 27 (omega arith) (omega arith)
-
-  pub group_bad : {m : Body} → Group m → (body_number m ≡ 0 → ⊥) → plan_by m n b c f ≡ Stop 27
+  pub group_bad : {m : Body} → Group m → (body_number m ≡ 0 → ⊥) → plan_by m n b c f ≡ Err NoBody
   unfolding plan_by
   group_bad (time s) h = absurd (h refl)
   group_bad update h = absurd (h refl)
@@ -201,24 +187,24 @@ module _ (n : ℕ) (b : List ℕ) (c : Clock) (f : Finds) where
 
 -- ---- the work of a plan on each part of the book: what is left to itself stays
 abbrev rows_of : Plan → RowWork
-rows_of (Stop n) = RowWork.Keep
-rows_of (Go w) = w.orders
+rows_of (Err n) = RowWork.Keep
+rows_of (Ok w) = w.orders
 
 abbrev entries_of : Plan → Option ℕ
-entries_of (Stop n) = None
-entries_of (Go w) = w.symbols
+entries_of (Err n) = None
+entries_of (Ok w) = w.symbols
 
 abbrev clock_of : Clock → Plan → Clock
-clock_of c (Stop n) = c
-clock_of c (Go w) = w.clock
+clock_of c (Err n) = c
+clock_of c (Ok w) = w.clock
 
 carried_all : (p : Plan) (b : List ℕ) (k : Book) → (carried p b k).after ≡ book (committed (rows_of p) k.orders) (entered (entries_of p) b k.symbols) (clock_of k.clock p)
 unfolding carried committed entered
-carried_all (Stop n) b k = refl
-carried_all (Go w) b k = refl
+carried_all (Err n) b k = refl
+carried_all (Ok w) b k = refl
 
 orders_entries : {c : Clock} {p : Plan} → OnOrders c p → (entries_of p ≡ None) × (clock_of c p ≡ c)
-orders_entries (stops_orders n l h) = (refl, refl)
+orders_entries (stops_orders r) = (refl, refl)
 orders_entries (goes_orders w) = (refl, refl)
 
 module _ (n : ℕ) (b : List ℕ) (c : Clock) (f : Finds) where
@@ -253,10 +239,6 @@ module _ (n : ℕ) (b : List ℕ) (c : Clock) (f : Finds) where
 
 -- ---- any message
 module _ (ed : Edition) (n : ℕ) (b : List ℕ) (k : Book) where
-  plan_ruled : Ruled (planned ed n b k)
-  unfolding planned
-  plan_ruled = group_ruled n b k.clock (scans k) (group_of (read_body ed b))
-
   -- "the first broken one counts": and changes nothing
   pub broken_keeps : ((applied ed n b k).rule ≡ 0 → ⊥) → (applied ed n b k).after ≡ k
   unfolding applied
@@ -264,9 +246,9 @@ module _ (ed : Edition) (n : ℕ) (b : List ℕ) (k : Book) where
 
   -- a message that breaks none: each table by its work
   pub went : (applied ed n b k).rule ≡ 0
-      → (w : Works) × (planned ed n b k ≡ Go w) × ((applied ed n b k).after ≡ book (committed w.orders k.orders) (entered w.symbols b k.symbols) w.clock)
+      → (w : Works) × (planned ed n b k ≡ Ok w) × ((applied ed n b k).after ≡ book (committed w.orders k.orders) (entered w.symbols b k.symbols) w.clock)
   unfolding applied
-  went z = carried_went b k (planned ed n b k) plan_ruled z
+  went z = carried_went b k (planned ed n b k) z
 
   pub lengths_kept : (length (applied ed n b k).after.orders ≡ length k.orders) × (length (applied ed n b k).after.symbols ≡ length k.symbols)
   unfolding applied
@@ -275,12 +257,12 @@ module _ (ed : Edition) (n : ℕ) (b : List ℕ) (k : Book) where
   -- 0, or one of 20 to 27
   pub rules : Numbered (applied ed n b k).rule
   unfolding applied
-  rules = carried_numbers b k plan_ruled
+  rules = carried_numbers b k (planned ed n b k)
 
   -- "no good body stops with 27"
   pub bad_body : good_body ed b ≡ false → (applied ed n b k).rule ≡ 27
   unfolding carried
-  bad_body h = ap (λ o. o.rule) (sym (carried_by ed (Stop 27) n b k (sym (planned_by ed (read_body ed b) n b k refl) ∙ group_bad n b k.clock (scans k) (group_of (read_body ed b)) (bad_number ed b h))))
+  bad_body h = ap (λ o. o.rule) (sym (carried_by ed (Err NoBody) n b k (sym (planned_by ed (read_body ed b) n b k refl) ∙ group_bad n b k.clock (scans k) (group_of (read_body ed b)) (bad_number ed b h))))
 
   pub rule_good : (applied ed n b k).rule ≡ 0 → good_body ed b ≡ true
   rule_good e = upheld (good_body ed b) (λ g. omega (arith, bad_body g))
@@ -333,7 +315,7 @@ module _ (ed : Edition) (n : ℕ) (b : List ℕ) (k : Book) where
   pub unknown_symbol : (s : ℕ) → Names (read_body ed b) s → known_symbol s (entries k.symbols) ≡ false → applied ed n b k ≡ effect 20 k
   unfolding carried
   unknown_symbol s h u =
-      sym (carried_by ed (Stop 20) n b k (sym (planned_by ed (read_body ed b) n b k refl) ∙ names_unknown n b k.clock (scans k) h (unknown_nowhere s (entries k.symbols) u)))
+      sym (carried_by ed (Err UnknownSymbol) n b k (sym (planned_by ed (read_body ed b) n b k refl) ∙ names_unknown n b k.clock (scans k) h (unknown_nowhere s (entries k.symbols) u)))
 
   -- so the symbol of one that applied was known
   pub applied_known : (s : ℕ) → Names (read_body ed b) s → (applied ed n b k).rule ≡ 0 → known_symbol s (entries k.symbols) ≡ true

@@ -10,7 +10,7 @@ use native.Mathlib.Omega.{arith}
 use native.Mathlib.Decide.{ℕ_discrete}
 use lib.ListN.{set}
 use borrow.Author.Tests.{eq-eqb, ne_eqb}
-use Rattle.std.specs.Prelude.{Some, None}
+use Rattle.std.specs.Prelude.{Some, None, Ok}
 use Rattle.editions.specs.declared.Edition.{Edition}
 use Rattle.wire.specs.Le.{Bytes}
 use Rattle.wire.proofs.Laws.{field_below}
@@ -42,9 +42,7 @@ use Rattle.orders.proofs.Unique.{add_unique, modify_unique, delete_unique, execu
 use Rattle.orders.proofs.Shares.{remade_live}
 use Rattle.orders.proofs.Again.{all_executed, part_executed, gone_free, gone_nowhere, room_again}
 use Rattle.book.specs.declared.Works.{Works}
-use Rattle.book.specs.declared.Plan.{Plan}
-use Rattle.book.specs.declared.Plan.TheVariants.{Go}
-use Rattle.book.specs.Plan.{works, on_rows, of_known, target, upon, row_for, room_for, add_plan, modify_at, modify_plan, delete_at, delete_plan, execute_at, execution_plan, clear_plan, plan_by}
+use Rattle.book.specs.Plan.{Plan, works, on_rows, of_known, target, upon, row_for, room_for, add_plan, modify_at, modify_plan, delete_at, delete_plan, execute_at, execution_plan, clear_plan, plan_by}
 use Rattle.book.specs.Book.{Book, order_in, scans, planned, carried, applied}
 use Rattle.book.proofs.Laws.{planned_by, carried_by}
 use Rattle.book.proofs.Plans.{goes_known, Owned, goes_owned, held_live, held_nowhere, goes_room, goes_execute, goes_update}
@@ -53,7 +51,7 @@ use Rattle.book.proofs.Steps.{went, broken_keeps, Names, orders_named, symbols_u
 -- ---- a message that applied, by the case of its body: its plan, and the tables after it
 record Done (ed : Edition) (m : Body) (n : ℕ) (b : List ℕ) (k : Book) : Type 0 where
   does : Works
-  plan_is : plan_by m n b k.clock (scans k) ≡ Go does
+  plan_is : plan_by m n b k.clock (scans k) ≡ Ok does
   orders_are : (applied ed n b k).after.orders ≡ committed does.orders k.orders
   symbols_are : (applied ed n b k).after.symbols ≡ entered does.symbols b k.symbols
 
@@ -62,7 +60,7 @@ done ed m n b k e z =
     let w = went ed n b k z in
     record { does = w.0; plan_is = planned_by ed m n b k e ∙ w.1; orders_are = ap (λ x. x.orders) w.2; symbols_are = ap (λ x. x.symbols) w.2 }
 
-same_go : {v w : Works} → Go v ≡ Go w → v ≡ w
+same_go : {v w : Works} → ◌≡◌ {A = Plan} (Ok v) (Ok w) → v ≡ w
 same_go e = cc
 
 -- a row put by a message that names an order
@@ -79,7 +77,7 @@ named_by order symbol g t u w i r f q s p e =
     (put_named order symbol g t i f (ap symbol_of (sym q) ∙ s))
 
 -- a message that names an order: what its plan puts, and what that plan tried of the order
-named_done : (ed : Edition) (m : Body) (order symbol : ℕ) (f : ℕ → Row → Plan) (g : Row → Row) (P : Row → Type 0) → ((i : ℕ) (r : Row) (w : Works) → f i r ≡ Go w → P r × (RowWork.Put i (g r) ≡ w.orders))
+named_done : (ed : Edition) (m : Body) (order symbol : ℕ) (f : ℕ → Row → Plan) (g : Row → Row) (P : Row → Type 0) → ((i : ℕ) (r : Row) (w : Works) → f i r ≡ Ok w → P r × (RowWork.Put i (g r) ≡ w.orders))
     → (n : ℕ) (b : List ℕ) (k : Book) → read_body ed b ≡ m → (applied ed n b k).rule ≡ 0
     → plan_by m n b k.clock (scans k) ≡ of_known (find_symbol symbol (entries k.symbols)) (λ e. upon (target (order_in order k.orders) symbol) f)
     → (d : Named order symbol g k.orders (applied ed n b k).after.orders) × P (row k.orders d.place)
@@ -88,7 +86,7 @@ named_done ed m order symbol f g P puts n b k e z plan =
     let d = done ed m n b k e z in
     let known = goes_known (find_symbol symbol (entries k.symbols)) (λ e. upon (target (order_in order t) symbol) f) d.does (sym plan ∙ d.plan_is) in
     let x = goes_owned (order_in order t) symbol f d.does known.2 in
-    let q = owner order symbol k (Go d.does) f x in
+    let q = owner order symbol k (Ok d.does) f x in
     let y = puts x.place x.held d.does x.goes in
     let v = named_by order symbol g t (applied ed n b k).after.orders d.does.orders x.place x.held q.0 q.1 x.its_symbol y.1 d.orders_are in
     let i : v.place ≡ x.place = cc (v.lowest_live, q.0) in

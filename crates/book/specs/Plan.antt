@@ -1,6 +1,6 @@
 -- The book rules, message by message: from what the searches found to what is to be done (document 01: "Each rule is tried in the order given, and
 -- the first broken one counts"). A rule's number is the paper's. Nothing here looks into a table, so whoever searches, the plan is the same.
-use Rattle.std.specs.Prelude.{ℕ, List, eqb, ltb, Option, Some, None}
+use Rattle.std.specs.Prelude.{ℕ, List, eqb, ltb, Option, Some, None, Result, Ok, Err}
 use Rattle.facts.specs.Pick.{pick}
 use Rattle.fields.specs.declared.Body.{Body}
 use Rattle.fields.specs.declared.AddOrder.{AddOrder}
@@ -16,10 +16,28 @@ use Rattle.orders.specs.declared.RowWork.{RowWork}
 use Rattle.orders.specs.Work.{moves, remade, reduced}
 use Rattle.book.specs.declared.Clock.{Clock}
 use Rattle.book.specs.declared.Works.{Works}
-use Rattle.book.specs.declared.Plan.{Plan}
-use Rattle.book.specs.declared.Plan.TheVariants.{Stop, Go}
-use Rattle.book.specs.declared.Target.{Target}
-use Rattle.book.specs.declared.Target.TheVariants.{Order, Rule}
+use Rattle.book.specs.declared.Rule.{Rule}
+use Rattle.book.specs.declared.Rule.TheVariants.{UnknownSymbol, AlreadyLive, NotLive, OtherSymbol, AboveSize, NoRow, NoEntry, NoBody}
+
+-- ---- the rules
+-- their numbers in document 01
+abbrev pub number_of : Rule → ℕ
+number_of UnknownSymbol = 20
+number_of AlreadyLive = 21
+number_of NotLive = 22
+number_of OtherSymbol = 23
+number_of AboveSize = 24
+number_of NoRow = 25
+number_of NoEntry = 26
+number_of NoBody = 27
+
+-- what a message does, or the first rule that it breaks
+abbrev pub Plan : Type 0
+Plan = Result Works Rule
+
+-- the order that a message names and its row, or the rule that it breaks
+abbrev pub Target : Type 0
+Target = Result (ℕ × Row) Rule
 
 -- ---- what is to be done
 -- what a book has by value: the current second
@@ -32,7 +50,7 @@ works c o s = record { clock = c; orders = o; symbols = s }
 
 -- work on the order table alone
 abbrev pub on_rows : Clock → RowWork → Plan
-on_rows c w = Go (works c w None)
+on_rows c w = Ok (works c w None)
 
 -- work on no table
 abbrev pub idle : Clock → Plan
@@ -42,17 +60,17 @@ idle c = on_rows c RowWork.Keep
 -- "unknown symbol 20", tried first; of a known one the place of its entry is handed on
 unfoldable pub of_known : Option ℕ → (ℕ → Plan) → Plan
 of_known (Some e) f = f e
-of_known None f = Stop 20
+of_known None f = Err UnknownSymbol
 
 -- "order not live 22; live under another symbol 23"
 unfoldable pub target : Option (ℕ × Row) → ℕ → Target
-target None symbol = Rule 22
-target (Some (i, r)) symbol = pick (eqb (symbol_of r) symbol) (Order i r) (Rule 23)
+target None symbol = Err NotLive
+target (Some (i, r)) symbol = pick (eqb (symbol_of r) symbol) (Ok (i, r)) (Err OtherSymbol)
 
 -- and what is done with the order that is left
 unfoldable pub upon : Target → (ℕ → Row → Plan) → Plan
-upon (Rule n) f = Stop n
-upon (Order i r) f = f i r
+upon (Err n) f = Err n
+upon (Ok (i, r)) f = f i r
 
 -- "order ID, symbol ID times 2 plus side (buy 0, sell 1), price, size, rank", "rank = sequence number"
 unfoldable pub row_for : AddOrder → ℕ → Row
@@ -61,13 +79,13 @@ row_for m n = record { order = m.order; key = key_for m.symbol (side_of m.side);
 -- ---- the messages
 -- "Symbol Update replaces that symbol's entry, or takes the lowest free one. None free: 26."
 unfoldable pub update_plan : Clock → Option ℕ → Plan
-update_plan c (Some i) = Go (works c RowWork.Keep (Some i))
-update_plan c None = Stop 26
+update_plan c (Some i) = Ok (works c RowWork.Keep (Some i))
+update_plan c None = Err NoEntry
 
 -- "Add: unknown symbol 20; order ID already live 21; no free row 25. Else the lowest free row is used, rank = sequence number."
 unfoldable pub room_for : Clock → Row → Option (ℕ × Row) → Option ℕ → Plan
-room_for c new (Some (i, r)) free = Stop 21
-room_for c new None None = Stop 25
+room_for c new (Some (i, r)) free = Err AlreadyLive
+room_for c new None None = Err NoRow
 room_for c new None (Some j) = on_rows c (RowWork.Put j new)
 
 unfoldable pub add_plan : Clock → AddOrder → ℕ → Option ℕ → Option (ℕ × Row) → Option ℕ → Plan
@@ -90,7 +108,7 @@ delete_plan c m entry order = of_known entry (λ e. upon (target order m.symbol)
 
 -- "Order Execution: 20, 22, 23; executed size above the order's 24. The size falls; at zero the order leaves, because no Delete follows a trade (4.6)."
 abbrev pub execute_at : Clock → OrderExecution → ℕ → Row → Plan
-execute_at c m i r = pick (ltb r.size m.size) (Stop 24) (on_rows c (RowWork.Put i (reduced m.size r)))
+execute_at c m i r = pick (ltb r.size m.size) (Err AboveSize) (on_rows c (RowWork.Put i (reduced m.size r)))
 
 unfoldable pub execution_plan : Clock → OrderExecution → Option ℕ → Option (ℕ × Row) → Plan
 execution_plan c m entry order = of_known entry (λ e. upon (target order m.symbol) (execute_at c m))
@@ -123,4 +141,4 @@ plan_by (Body.TradingStatus m) n b c f = idle c
 plan_by (Body.Trade m) n b c f = idle c
 plan_by (Body.TradeCancel m) n b c f = idle c
 -- "no good body stops with 27"
-plan_by (Body.Bad r) n b c f = Stop 27
+plan_by (Body.Bad r) n b c f = Err NoBody

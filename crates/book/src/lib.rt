@@ -1,17 +1,19 @@
 // One message applied to a book, or the rule that it breaks, with nothing changed. A message is planned first: each kind has one function from
-// what the searches found to a plan by value. Then the plan is committed, by one call a table. Every function answers for tables of any length
+// what the searches found to a plan by value. Then the plan is carried out, by one call a table. Every function answers for tables of any length
 // and content, and for any index; sizes are judged by those who lend them (6).
-#![tactic(auto)]
+#![tactic(auto, unfolding(facts::specs::Pick::pick, crate::specs::Plan::of_known, crate::specs::Plan::target, crate::specs::Plan::upon, crate::specs::Plan::row_for, crate::specs::Plan::room_for, crate::specs::Plan::add_plan, crate::specs::Plan::modify_plan, crate::specs::Plan::delete_plan, crate::specs::Plan::execution_plan, crate::specs::Plan::clear_plan, crate::specs::Plan::update_plan, crate::specs::Plan::plan_by, fields::specs::Fields::decoded, body::specs::Read::read_body, body::specs::Read::message, crate::specs::Book::carried, crate::specs::Ledger::devised, crate::specs::Ledger::index_after, crate::specs::Ledger::posted))]
 
-ghost use Rattle.std.specs.Prelude.{ℕ, ◌≡◌, true, false, List};
+ghost use Rattle.std.specs.Prelude.{◌≡◌, None};
 ghost use Rattle.fields.specs.Fields.{decoded};
 ghost use Rattle.rows.specs.Rows.{rows};
-ghost use Rattle.symbols.specs.Entries.{entries, id_of};
+ghost use Rattle.symbols.specs.Entries.{entries};
 ghost use Rattle.symbols.specs.Find.{place_for};
-ghost use Rattle.engines.specs.Engines.{free_by, entry_by};
-ghost use Rattle.book.specs.Plan.{row_for, on_rows, idle, of_known, target, room_for, add_plan, modify_plan, delete_plan, execution_plan, clear_plan, update_plan, plan_by};
+ghost use Rattle.symbols.specs.Work.{entered};
+ghost use Rattle.orders.specs.Work.{committed};
+ghost use Rattle.engines.specs.Engines.{free_by, entry_by, noted, hinted_to};
+ghost use Rattle.book.specs.Plan.{number_of, works, row_for, target, add_plan, modify_plan, delete_plan, execution_plan, clear_plan, update_plan, plan_by};
 ghost use Rattle.book.specs.Book.{book};
-ghost use Rattle.book.specs.Ledger.{order_for, looks, ledger, posting, names_order, devised, tried};
+ghost use Rattle.book.specs.Ledger.{order_for, looks, ledger, posts, told, devised, posted};
 
 use editions::Edition;
 use fields::{AddOrder, DeleteOrder, ModifyOrder, OrderExecution, SymbolClear};
@@ -20,109 +22,118 @@ use orders::RowWork;
 use rows::Row;
 use wire::Number;
 
+// The book rules, by document 01's numbers.
+#[derive(Clone, Copy, Debug, PartialEq, Eq)]
+pub enum Rule {
+    UnknownSymbol = 20,
+    AlreadyLive = 21,
+    NotLive = 22,
+    OtherSymbol = 23,
+    AboveSize = 24,
+    NoRow = 25,
+    NoEntry = 26,
+    NoBody = 27,
+}
+
+impl From<Rule> for u8 {
+    ghost from_gives = { λ r n. n ≡ number_of r };
+
+    fn from(r: Rule) -> u8 {
+        r as u8
+    }
+}
+
 // What a book has by value: the current second.
-#[derive(Clone, Copy)]
+#[derive(Clone, Copy, Debug, PartialEq, Eq)]
 pub struct Clock {
     pub second: u32,
 }
 
 // What a message does: the clock after it, and the work on each table.
-#[derive(Clone, Copy)]
+#[derive(Clone, Copy, Debug, PartialEq, Eq)]
 pub struct Works {
     pub clock: Clock,
     pub orders: RowWork,
     pub symbols: Option<usize>,
 }
 
-// The rule that a message breaks, or what it does.
+// The three lent tables, as whoever plans looks at them.
 #[derive(Clone, Copy)]
-pub enum Plan {
-    Stop(u8),
-    Go(Works),
+pub struct Tables<'a> {
+    pub orders: &'a [u64],
+    pub symbols: &'a [u8],
+    pub index: &'a [u64],
 }
 
-// The row that a message names, or the rule that it breaks.
-#[derive(Clone, Copy)]
-pub enum Target {
-    Order(usize, Row),
-    Rule(u8),
-}
+impl Tables<'_> {
+    // The order that stands under an ID.
+    fn order(self, id: u64) -> Option<(usize, Row)>
+        ensures { result ≡ order_for self.entry.index.now id self.entry.orders.now }
+    {
+        rows::held_at(
+            self.orders,
+            engines::find_order(self.orders, self.index, id),
+        )
+    }
 
-// What became of a message: the rule that it breaks, 0 where it applied, and the clock after it.
-#[derive(Clone, Copy)]
-pub struct Applied {
-    pub rule: u8,
-    pub clock: Clock,
+    // The row that an Add takes.
+    fn free_row(self) -> Option<usize>
+        ensures { result ≡ free_by self.entry.index.now (rows self.entry.orders.now) }
+    {
+        engines::find_free(self.orders, self.index)
+    }
+
+    // The entry of a symbol.
+    fn entry(self, id: u32) -> Option<usize>
+        ensures { result ≡ entry_by self.entry.index.now id (entries self.entry.symbols.now) }
+    {
+        engines::find_entry(self.symbols, self.index, id)
+    }
+
+    // The entry that a Symbol Update takes.
+    fn room(self, id: u32) -> Option<usize>
+        ensures { result ≡ place_for id (entries self.entry.symbols.now) }
+    {
+        symbols::find_place(self.symbols, id)
+    }
 }
 
 // The row of a new order; its rank is the message's sequence number.
 pub fn row_for(m: AddOrder, number: u64) -> Row
     ensures { result ≡ row_for m number }
 {
-    let key = rows::key_for(m.symbol, rows::side_of(m.side));
     Row {
         order: m.order,
-        key,
+        key: rows::key_for(m.symbol, rows::side_of(m.side)),
         price: m.price,
-        size: m.size as u64,
+        size: u64::from(m.size),
         rank: number,
     }
 }
 
 // Work on the order table alone.
-fn on_rows(clock: Clock, w: RowWork) -> Plan
-    ensures { result ≡ on_rows clock w }
+fn on_rows(clock: Clock, w: RowWork) -> Works
+    ensures { result ≡ works clock w None }
 {
-    Plan::Go(Works {
+    Works {
         clock,
         orders: w,
         symbols: None,
-    })
-}
-
-// Work on no table.
-fn at_rest(clock: Clock) -> Plan
-    ensures { result ≡ idle clock }
-{
-    on_rows(clock, RowWork::Keep)
-}
-
-// 20, before whatever else a message breaks or does.
-fn of_known(entry: Option<usize>, p: Plan) -> Plan
-    ensures { result ≡ of_known entry (λ e. p) }
-{
-    match entry {
-        Some(_) => p,
-        None => Plan::Stop(20),
     }
 }
 
 // 22, 23.
-fn target_of(order: Option<(usize, Row)>, symbol: u32) -> Target
+fn target_of(order: Option<(usize, Row)>, symbol: u32) -> Result<(usize, Row), Rule>
     ensures { result ≡ target order symbol }
 {
-    let Some((i, r)) = order else {
-        return Target::Rule(22);
-    };
-    if rows::symbol_in(r.key) != symbol as u64 {
-        return Target::Rule(23);
+    let (i, r) = order.ok_or(Rule::NotLive)?;
+    if rows::symbol_in(r.key) != u64::from(symbol) {
+        return Err(Rule::OtherSymbol);
     }
-    Target::Order(i, r)
+    Ok((i, r))
 }
 
-// 21, 25.
-fn room_for(clock: Clock, new: Row, order: Option<(usize, Row)>, free: Option<usize>) -> Plan
-    ensures { result ≡ room_for clock new order free }
-{
-    let None = order else {
-        return Plan::Stop(21);
-    };
-    let Some(j) = free else {
-        return Plan::Stop(25);
-    };
-    on_rows(clock, RowWork::Put(j, new))
-}
-
+// 20, 21, 25.
 pub fn add_plan(
     clock: Clock,
     m: AddOrder,
@@ -130,158 +141,173 @@ pub fn add_plan(
     entry: Option<usize>,
     order: Option<(usize, Row)>,
     free: Option<usize>,
-) -> Plan
+) -> Result<Works, Rule>
     ensures { result ≡ add_plan clock m number entry order free }
 {
-    of_known(entry, room_for(clock, row_for(m, number), order, free))
+    entry.ok_or(Rule::UnknownSymbol)?;
+    if order.is_some() {
+        return Err(Rule::AlreadyLive);
+    }
+    let j = free.ok_or(Rule::NoRow)?;
+    Ok(on_rows(clock, RowWork::Put(j, row_for(m, number))))
 }
 
-pub fn modify_plan(clock: Clock, m: ModifyOrder, number: u64, entry: Option<usize>, order: Option<(usize, Row)>) -> Plan
+// 20, 22, 23.
+pub fn modify_plan(
+    clock: Clock,
+    m: ModifyOrder,
+    number: u64,
+    entry: Option<usize>,
+    order: Option<(usize, Row)>,
+) -> Result<Works, Rule>
     ensures { result ≡ modify_plan clock m number entry order }
 {
-    match target_of(order, m.symbol) {
-        Target::Rule(n) => of_known(entry, Plan::Stop(n)),
-        Target::Order(i, r) => {
-            let moved = orders::loses_place(m.flags);
-            let new = orders::remake(r, m.price, m.size as u64, moved, number);
-            of_known(entry, on_rows(clock, RowWork::Put(i, new)))
-        }
-    }
+    entry.ok_or(Rule::UnknownSymbol)?;
+    let (i, r) = target_of(order, m.symbol)?;
+    let moved = orders::loses_place(m.flags);
+    let new = orders::remake(r, m.price, u64::from(m.size), moved, number);
+    Ok(on_rows(clock, RowWork::Put(i, new)))
 }
 
-pub fn delete_plan(clock: Clock, m: DeleteOrder, entry: Option<usize>, order: Option<(usize, Row)>) -> Plan
+// 20, 22, 23.
+pub fn delete_plan(
+    clock: Clock,
+    m: DeleteOrder,
+    entry: Option<usize>,
+    order: Option<(usize, Row)>,
+) -> Result<Works, Rule>
     ensures { result ≡ delete_plan clock m entry order }
 {
-    match target_of(order, m.symbol) {
-        Target::Rule(n) => of_known(entry, Plan::Stop(n)),
-        Target::Order(i, _) => of_known(entry, on_rows(clock, RowWork::Put(i, rows::zero_row()))),
-    }
+    entry.ok_or(Rule::UnknownSymbol)?;
+    let (i, _) = target_of(order, m.symbol)?;
+    Ok(on_rows(clock, RowWork::Put(i, rows::zero_row())))
 }
 
-pub fn execution_plan(clock: Clock, m: OrderExecution, entry: Option<usize>, order: Option<(usize, Row)>) -> Plan
+// 20, 22, 23, 24.
+pub fn execution_plan(
+    clock: Clock,
+    m: OrderExecution,
+    entry: Option<usize>,
+    order: Option<(usize, Row)>,
+) -> Result<Works, Rule>
     ensures { result ≡ execution_plan clock m entry order }
 {
-    match target_of(order, m.symbol) {
-        Target::Rule(n) => of_known(entry, Plan::Stop(n)),
-        Target::Order(i, r) => {
-            if r.size < m.size as u64 {
-                return of_known(entry, Plan::Stop(24));
-            }
-            let new = orders::reduce(r, m.size as u64);
-            of_known(entry, on_rows(clock, RowWork::Put(i, new)))
-        }
+    entry.ok_or(Rule::UnknownSymbol)?;
+    let (i, r) = target_of(order, m.symbol)?;
+    if r.size < u64::from(m.size) {
+        return Err(Rule::AboveSize);
     }
+    Ok(on_rows(clock, RowWork::Put(i, orders::reduce(r, u64::from(m.size)))))
 }
 
-pub fn clear_plan(clock: Clock, m: SymbolClear, entry: Option<usize>) -> Plan
+// 20.
+pub fn clear_plan(clock: Clock, m: SymbolClear, entry: Option<usize>) -> Result<Works, Rule>
     ensures { result ≡ clear_plan clock m entry }
 {
-    of_known(entry, on_rows(clock, RowWork::Clear(m.symbol)))
+    entry.ok_or(Rule::UnknownSymbol)?;
+    Ok(on_rows(clock, RowWork::Clear(m.symbol)))
 }
 
 // 26.
-pub fn update_plan(clock: Clock, place: Option<usize>) -> Plan
+pub fn update_plan(clock: Clock, place: Option<usize>) -> Result<Works, Rule>
     ensures { result ≡ update_plan clock place }
 {
-    match place {
-        Some(i) => Plan::Go(Works {
-            clock,
-            orders: RowWork::Keep,
-            symbols: Some(i),
-        }),
-        None => Plan::Stop(26),
-    }
-}
-
-// The order that stands under an ID.
-fn order_in(orders: &[u64], index: &[u64], id: u64) -> Option<(usize, Row)>
-    ensures { result ≡ order_for index.now id orders.now }
-{
-    rows::held_at(orders, engines::find_order(orders, index, id))
-}
-
-fn on_update(symbols: &[u8], clock: Clock, body: &[u8]) -> Plan
-    ensures { result ≡ update_plan clock (place_for (id_of body.now) (entries symbols.now)) }
-{
-    update_plan(clock, symbols::find_place(symbols, u32::at(body, 5)))
-}
-
-fn names_order(k: Kind) -> bool
-    ensures { result ≡ names_order k }
-{
-    match k {
-        Kind::Add => true,
-        Kind::Modify => true,
-        Kind::Delete => true,
-        Kind::Execution => true,
-        _ => false,
-    }
-}
-
-// A message that names an order: symbol and order stand at one place in all four, and are searched for in one.
-fn plan_named(
-    k: Kind,
-    orders: &[u64],
-    symbols: &[u8],
-    index: &[u64],
-    clock: Clock,
-    number: u64,
-    body: &[u8],
-) -> Plan
-    requires { names_order k ≡ true }
-    ensures { result ≡ plan_by (decoded k body.now) number body.now clock (looks (ledger (book orders.now symbols.now clock) index.now)) }
-{
-    let entry = engines::find_entry(symbols, index, u32::at(body, 5));
-    let order = order_in(orders, index, u64::at(body, 9));
-    match k {
-        Kind::Add => {
-            let free = engines::find_free(orders, index);
-            add_plan(clock, fields::add_of(body), number, entry, order, free)
-        }
-        Kind::Modify => modify_plan(clock, fields::modify_of(body), number, entry, order),
-        Kind::Delete => delete_plan(clock, fields::delete_of(body), entry, order),
-        _ => execution_plan(clock, fields::execution_of(body), entry, order),
-    }
-}
-
-// A message that names none: no rule of it looks at an order.
-fn plan_other(k: Kind, symbols: &[u8], index: &[u64], clock: Clock, body: &[u8]) -> Plan
-    requires { names_order k ≡ false }
-    ensures { (orders : List ℕ) (number : ℕ) → result ≡ plan_by (decoded k body.now) number body.now clock (looks (ledger (book orders symbols.now clock) index.now)) }
-{
-    match k {
-        Kind::SystemTime => at_rest(Clock {
-            second: u32::at(body, 1),
-        }),
-        Kind::SymbolUpdate => on_update(symbols, clock, body),
-        Kind::SymbolClear => {
-            let entry = engines::find_entry(symbols, index, u32::at(body, 5));
-            clear_plan(clock, fields::clear_of(body), entry)
-        }
-        Kind::Unknown => Plan::Stop(27),
-        _ => at_rest(clock),
-    }
+    let i = place.ok_or(Rule::NoEntry)?;
+    Ok(Works {
+        clock,
+        orders: RowWork::Keep,
+        symbols: Some(i),
+    })
 }
 
 // The plan of a message of a kind, by its number and its body; nothing is changed.
 pub fn plan_kind(
     k: Kind,
-    orders: &[u64],
-    symbols: &[u8],
-    index: &[u64],
+    tables: Tables,
     clock: Clock,
     number: u64,
     body: &[u8],
-) -> Plan
-    ensures { result ≡ plan_by (decoded k body.now) number body.now clock (looks (ledger (book orders.now symbols.now clock) index.now)) }
+) -> Result<Works, Rule>
+    ensures { result ≡ plan_by (decoded k body.now) number body.now clock (looks (ledger (book tables.entry.orders.now tables.entry.symbols.now clock) tables.entry.index.now)) }
 {
-    if names_order(k) {
-        return plan_named(k, orders, symbols, index, clock, number, body);
+    match k {
+        Kind::SystemTime => Ok(on_rows(
+            Clock {
+                second: u32::at(body, 1),
+            },
+            RowWork::Keep,
+        )),
+        Kind::SymbolUpdate => update_plan(clock, tables.room(u32::at(body, 5))),
+        Kind::SymbolClear => {
+            let m = fields::clear_of(body);
+            clear_plan(clock, m, tables.entry(m.symbol))
+        }
+        Kind::Add => {
+            let m = fields::add_of(body);
+            add_plan(
+                clock,
+                m,
+                number,
+                tables.entry(m.symbol),
+                tables.order(m.order),
+                tables.free_row(),
+            )
+        }
+        Kind::Modify => {
+            let m = fields::modify_of(body);
+            modify_plan(
+                clock,
+                m,
+                number,
+                tables.entry(m.symbol),
+                tables.order(m.order),
+            )
+        }
+        Kind::Delete => {
+            let m = fields::delete_of(body);
+            delete_plan(clock, m, tables.entry(m.symbol), tables.order(m.order))
+        }
+        Kind::Execution => {
+            let m = fields::execution_of(body);
+            execution_plan(clock, m, tables.entry(m.symbol), tables.order(m.order))
+        }
+        Kind::SystemState | Kind::TradingStatus | Kind::Trade | Kind::TradeCancel => Ok(on_rows(
+            clock,
+            RowWork::Keep,
+        )),
+        Kind::Unknown => Err(Rule::NoBody),
     }
-    plan_other(k, symbols, index, clock, body)
 }
 
-// A message of a kind is planned, and the plan carried out where that is wanted; else its rule alone is told, and nothing is changed.
+// The plan of a message by its number and its body, which is read by the edition.
+pub fn plan(
+    e: Edition,
+    tables: Tables,
+    clock: Clock,
+    number: u64,
+    body: &[u8],
+) -> Result<Works, Rule>
+    ensures { result ≡ devised e number body.now (ledger (book tables.entry.orders.now tables.entry.symbols.now clock) tables.entry.index.now) }
+{
+    let Ok(k) = body::judge_body(e, body) else {
+        return Err(Rule::NoBody);
+    };
+    plan_kind(k, tables, clock, number, body)
+}
+
+// Each table is left by its own work, and the index by both.
+fn carry_out(w: Works, orders: &mut [u64], symbols: &mut [u8], index: &mut [u64], body: &[u8])
+    ensures orders { orders.new ≡ committed w.orders orders.old }
+    ensures symbols { symbols.new ≡ entered w.symbols body.now symbols.old }
+    ensures index { index.new ≡ hinted_to w.symbols body.now (noted w.orders (rows orders.old) index.old) }
+{
+    engines::note(orders, index, w.orders);
+    engines::note_entry(index, w.symbols, body);
+    orders::commit(orders, w.orders);
+    symbols::commit(symbols, w.symbols, body);
+}
+
+// A message of a kind, planned and carried out: the clock after it, or the rule that it breaks, and then nothing is changed.
 pub fn try_kind(
     k: Kind,
     orders: &mut [u64],
@@ -290,32 +316,25 @@ pub fn try_kind(
     clock: Clock,
     number: u64,
     body: &[u8],
-    wanted: bool,
-) -> Applied
-    ensures { posting result.rule (ledger (book orders.new symbols.new result.clock) index.new) ≡ tried wanted (plan_by (decoded k body.now) number body.now clock (looks (ledger (book orders.old symbols.old clock) index.old))) body.now (ledger (book orders.old symbols.old clock) index.old) }
+) -> Result<Clock, Rule>
+    ensures { told result (ledger (book orders.new symbols.new clock) index.new) ≡ posts (plan_by (decoded k body.now) number body.now clock (looks (ledger (book orders.old symbols.old clock) index.old))) body.now (ledger (book orders.old symbols.old clock) index.old) }
 {
-    match plan_kind(k, orders, symbols, index, clock, number, body) {
-        Plan::Stop(n) => Applied { rule: n, clock },
-        Plan::Go(w) => {
-            if !wanted {
-                return Applied { rule: 0, clock };
-            }
-            let after = w.clock;
-            let on_orders = w.orders;
-            let on_symbols = w.symbols;
-            engines::note(orders, index, on_orders);
-            engines::note_entry(index, on_symbols, body);
-            orders::commit(orders, on_orders);
-            symbols::commit(symbols, on_symbols, body);
-            Applied {
-                rule: 0,
-                clock: after,
-            }
-        }
-    }
+    let w = plan_kind(
+        k,
+        Tables {
+            orders,
+            symbols,
+            index,
+        },
+        clock,
+        number,
+        body,
+    )?;
+    carry_out(w, orders, symbols, index, body);
+    Ok(w.clock)
 }
 
-// A message by its number and its body, which is read by the edition: applied where that is wanted, else the rule that it would break.
+// A message by its number and its body, which is read by the edition, planned and carried out.
 pub fn attempt(
     e: Edition,
     orders: &mut [u64],
@@ -324,12 +343,20 @@ pub fn attempt(
     clock: Clock,
     number: u64,
     body: &[u8],
-    wanted: bool,
-) -> Applied
-    ensures { posting result.rule (ledger (book orders.new symbols.new result.clock) index.new) ≡ tried wanted (devised e number body.now (ledger (book orders.old symbols.old clock) index.old)) body.now (ledger (book orders.old symbols.old clock) index.old) }
+) -> Result<Clock, Rule>
+    ensures { told result (ledger (book orders.new symbols.new clock) index.new) ≡ posted e number body.now (ledger (book orders.old symbols.old clock) index.old) }
 {
-    match body::judge_body(e, body) {
-        Err(_) => Applied { rule: 27, clock },
-        Ok(k) => try_kind(k, orders, symbols, index, clock, number, body, wanted),
-    }
+    let w = plan(
+        e,
+        Tables {
+            orders,
+            symbols,
+            index,
+        },
+        clock,
+        number,
+        body,
+    )?;
+    carry_out(w, orders, symbols, index, body);
+    Ok(w.clock)
 }
