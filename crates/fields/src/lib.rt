@@ -300,6 +300,7 @@ pub fn state_of(b: &[u8]) -> SystemState
 }
 
 // The fields of a body of a kind, whether in range or not.
+#[tactic(auto, unfolding(crate::specs::Fields::decoded))]
 pub fn decode(k: Kind, b: &[u8]) -> Body
     ensures { result ≡ decoded k b.now }
 {

@@ -76,7 +76,7 @@ impl Number for u64 {
     }
 }
 
-// The bytes from at on, into the whole of out, with zeros for those past the end.
+// The bytes from at on, into the whole of out, with zeros for those past the end. Where all are there, as nearly always, they are one copy.
 pub fn copy_at(b: &[u8], at: usize, out: &mut [u8])
     ensures { out.new ≡ padded b.now at (length out.old) }
 {
@@ -94,15 +94,11 @@ pub fn copy_at(b: &[u8], at: usize, out: &mut [u8])
     out[..k].copy_from_slice(&b[at..]);
 }
 
-// The N bytes from at on, with zeros for those past the end; those that are all there, as nearly always, in one copy of a size that is known.
+// The N bytes from at on, with zeros for those past the end.
 pub fn bytes_at<const N: usize>(b: &[u8], at: usize) -> [u8; N]
     ensures { result ≡ padded b.now at N }
 {
     let mut out = [0u8; N];
-    if at <= b.len() && N <= b.len() - at {
-        out.copy_from_slice(&b[at..at + N]);
-        return out;
-    }
     copy_at(b, at, &mut out);
     out
 }
