@@ -1,7 +1,7 @@
 -- The index of the order table (request 9: "finds orders through an index in further lent memory"; docs/INDEX.md says it in words): 32,768 slots, how many of
 -- them were used, and the free rows of each block of 64 rows. Behind them stand the hints of symbols (last section).
 -- Every definition is over any memory and any rows. A number that the memory lacks counts as 0 and is never stored.
-use Rattle.std.specs.Prelude.{ℕ, zero, suc, ◌+◌, ◌-◌, ◌*◌, ◌/◌, ◌%◌, List, [], ◌∷◌, Bool, get_or, set, drop, ltb, leb, eqb, Option, Some, None}
+use Rattle.std.specs.Prelude.{ℕ, zero, suc, ◌+◌, ◌-◌, ◌*◌, ◌/◌, ◌%◌, ◌≡◌, ◌⊎◌, List, [], ◌∷◌, Bool, true, false, get_or, set, drop, ltb, leb, eqb, Option, Some, None}
 use Rattle.facts.specs.Pick.{pick, both}
 use Rattle.facts.specs.Search.{first}
 use Rattle.rows.specs.declared.Row.{Row}
@@ -53,6 +53,12 @@ probe (suc n) ix rs id p =
 
 unfoldable pub looked : List ℕ → List Row → ℕ → Option ℕ
 looked ix rs id = probe slots ix rs id (hash id)
+
+-- a walk that a test decides, from slot p on over n of them: it ends at the first that passes
+unfoldable pub WalkEnds : (ℕ → Bool → Type 0) → ℕ → List ℕ → ℕ → Option ℕ → Type 0
+WalkEnds says zero ix p found = found ≡ None
+WalkEnds says (suc n) ix p found =
+    (says (get_or ix p 0) true × (found ≡ Some p)) ⊎ (says (get_or ix p 0) false × WalkEnds says n ix (next p) found)
 
 -- the first empty slot from p on
 unfoldable pub vacant : ℕ → List ℕ → ℕ → Option ℕ

@@ -3,9 +3,10 @@
 // Each function answers for any memory and any table. A slot is filled once and stays until the next rebuild: what it names is tested at each search.
 #![tactic(auto)]
 
-ghost use Rattle.std.specs.Prelude.{ℕ, ◌+◌, ◌-◌, ◌≤◌, ◌<◌, ◌≡◌, true, get_or, set};
+ghost use Rattle.std.specs.Prelude.{◌-◌, ◌≤◌, ◌≡◌, ◌==◌, get_or, set};
+ghost use Rattle.std.specs.List.{list_all};
 ghost use Rattle.rows.specs.Rows.{rows};
-ghost use Rattle.index.specs.Index.{slots, blocks, tag_of, hash, packed, fits, looked, vacant, placed, taken, freed, block_from, lowest_free, entered, each_row, front, zeroed, built, roomy, came, hint_at, hint_of};
+ghost use Rattle.index.specs.Index.{slots, blocks, tag_of, hash, packed, fits, looked, WalkEnds, vacant, placed, taken, freed, block_from, lowest_free, entered, each_row, front, zeroed, built, roomy, came, hint_at, hint_of};
 
 use rows::Row;
 
@@ -33,7 +34,7 @@ const FULL: u64 = 24_576;
 fn word(ix: &[u64], p: usize) -> u64
     ensures { result ≡ get_or ix.now p 0 }
 {
-    if p < ix.len() { ix[p] } else { 0 }
+    ix.get(p).copied().unwrap_or(0)
 }
 
 fn put_word(ix: &mut [u64], p: usize, v: u64)
@@ -62,52 +63,49 @@ fn tag_of(id: u64) -> u64
 fn pack(id: u64, i: usize) -> u64
     ensures { result ≡ packed id i }
 {
-    (id % 140737488355328 + 1) * 65536 + (i % 65536) as u64
+    tag_of(id) * 65536 + (i % 65536) as u64
 }
 
 // The slot's row is the live one of this ID; another tag is seen without a look at the table.
 fn is_row(t: &[u64], s: u64, id: u64) -> bool
     ensures { result ≡ fits id (rows t.now) s }
 {
-    if s / 65536 != tag_of(id) {
-        return false;
-    }
-    rows::is_order(rows::row_at(t, (s % 65536) as usize), id)
+    s / 65536 == tag_of(id) && rows::is_order(rows::row_at(t, (s % 65536) as usize), id)
 }
 
+// The first slot of an order ID that a test passes: from its own on, the first after the last.
+fn first_slot<F: Fn(u64) -> bool>(ix: &[u64], id: u64, passes: F) -> Option<usize>
+    requires { F.IsAlwaysCallable passes }
+    ensures { WalkEnds (F.post passes) slots ix.now (hash id) result }
+{
+    let start = start_of(id);
+    for n in 0..SLOTS {
+        let p = (start + n) % SLOTS;
+        if passes(word(ix, p)) {
+            return Some(p);
+        }
+    }
+    None
+}
+
+// An empty slot ends the search.
 pub fn find(t: &[u64], ix: &[u64], id: u64) -> Option<usize>
     ensures { result ≡ looked ix.now (rows t.now) id }
 {
-    let mut p = start_of(id);
-    let mut n: usize = 0;
-    while n < SLOTS {
-        let s = word(ix, p);
-        if s == 0 {
-            return None;
-        }
-        if is_row(t, s, id) {
-            return Some((s % 65536) as usize);
-        }
-        p = (p + 1) % 32768;
-        n += 1;
+    let p = first_slot(ix, id, |s| s == 0 || is_row(t, s, id))?;
+    let s = word(ix, p);
+    if s == 0 {
+        None
+    } else {
+        Some((s % 65536) as usize)
     }
-    None
 }
 
 // The first empty slot for an order ID.
 fn find_vacant(ix: &[u64], id: u64) -> Option<usize>
     ensures { result ≡ vacant slots ix.now (hash id) }
 {
-    let mut p = start_of(id);
-    let mut n: usize = 0;
-    while n < SLOTS {
-        if word(ix, p) == 0 {
-            return Some(p);
-        }
-        p = (p + 1) % 32768;
-        n += 1;
-    }
-    None
+    first_slot(ix, id, |s| s == 0)
 }
 
 // Row i goes into the first empty slot for its order ID.
@@ -147,50 +145,36 @@ pub fn gone(ix: &mut [u64], i: usize)
     }
 }
 
-// Eight numbers that are there and all 0: asked at once, without a branch for each.
-fn none_in(ix: &[u64], p: usize) -> bool
-    ensures { result ≡ true → (k : ℕ) → k < 8 → get_or ix.now (p + k) 0 ≡ 0 }
+// Eight numbers that are all 0: asked at once, without a branch for each.
+fn none_in(eight: &[u64; 8]) -> bool
+    ensures { result ≡ list_all (λ n. n == 0) eight.now }
 {
-    if ix.len() < 8 {
-        return false;
-    }
-    if ix.len() - 8 < p {
-        return false;
-    }
-    (ix[p] == 0)
-        & (ix[p + 1] == 0)
-        & (ix[p + 2] == 0)
-        & (ix[p + 3] == 0)
-        & (ix[p + 4] == 0)
-        & (ix[p + 5] == 0)
-        & (ix[p + 6] == 0)
-        & (ix[p + 7] == 0)
+    eight.iter().fold(0, |all, n| all | *n) == 0
 }
 
 // The blocks in front that have no free row, by eights as long as eight are left of the 250: most of a full table have none.
 fn skipped(ix: &[u64]) -> usize
     ensures { (result ≤ 250) × (block_from blocks ix.now 0 ≡ block_from (blocks - result) ix.now result) }
 {
-    let mut b: usize = 0;
-    while b <= 242 {
-        if !none_in(ix, COUNTS + b) {
-            return b;
-        }
-        b += 8;
-    }
-    b
+    let Some(counts) = ix.get(COUNTS..HINTS) else {
+        return 0;
+    };
+    8 * counts
+        .as_chunks()
+        .0
+        .iter()
+        .take_while(|eight| none_in(*eight))
+        .count()
 }
 
 // The first block with a free row.
 fn first_block(ix: &[u64]) -> Option<usize>
     ensures { result ≡ block_from blocks ix.now 0 }
 {
-    let mut b = skipped(ix);
-    while b < BLOCKS {
+    for b in skipped(ix)..BLOCKS {
         if word(ix, COUNTS + b) != 0 {
             return Some(b);
         }
-        b += 1;
     }
     None
 }
@@ -198,9 +182,7 @@ fn first_block(ix: &[u64]) -> Option<usize>
 pub fn lowest_free(t: &[u64], ix: &[u64]) -> Option<usize>
     ensures { result ≡ lowest_free ix.now (rows t.now) }
 {
-    let Some(b) = first_block(ix) else {
-        return None;
-    };
+    let b = first_block(ix)?;
     rows::free_from(t, 64 * b)
 }
 
@@ -210,9 +192,7 @@ fn enter(ix: &mut [u64], r: Row, i: usize)
 {
     if rows::is_live(r) {
         place(ix, r.order, i);
-        return;
-    }
-    if rows::is_free(r) {
+    } else if rows::is_free(r) {
         gone(ix, i);
     }
 }
@@ -221,11 +201,8 @@ fn enter(ix: &mut [u64], r: Row, i: usize)
 fn enter_rows(t: &[u64], ix: &mut [u64])
     ensures { ix.new ≡ each_row entered 0 (rows t.now) ix.old }
 {
-    let n = rows::row_count(t);
-    let mut i = 0;
-    while i < n {
+    for i in 0..rows::row_count(t) {
         enter(ix, rows::row_at(t, i), i);
-        i += 1;
     }
 }
 
@@ -233,13 +210,8 @@ fn enter_rows(t: &[u64], ix: &mut [u64])
 fn empty(ix: &mut [u64])
     ensures { ix.new ≡ zeroed front ix.old }
 {
-    let all = ix.len();
-    let end = if HINTS <= all { HINTS } else { all };
-    let mut i = 0;
-    while i < end {
-        ix[i] = 0;
-        i += 1;
-    }
+    let end = ix.len().min(HINTS);
+    ix[..end].fill(0);
 }
 
 // The index of a table, from nothing; hints stay.

@@ -1,14 +1,15 @@
 -- Another tag decides by itself; with the same one the row has to be the live one of the ID.
 -- Assumes nothing.
-use mathlib.Core.Path.{sym, ap, ◌∙◌}
-use native.Mathlib.Omega.{arith}
-use Rattle.rows.specs.Rows.{rows}
-use Rattle.rows.specs.Find.{is_order}
-use Rattle.index.proofs.Cases.{fits_other, fits_same}
+use Rattle.std.proofs.Common.{arith}
+use Rattle.std.proofs.lemmas.Grind.{common_steps}
+use Rattle.facts.specs.Pick.{both}
+use Rattle.index.specs.Index.{fits}
 use Rattle.index.proofs.is_row.Goals as goal
 
 pub returns-then-s-tag_of : goal.returns-then-s-tag_of
-returns-then-s-tag_of c = fits_other c.args.id (rows c.args.t.now) c.args.s (λ e. c.if-s-tag_of.true (e ∙ sym c.tag_of.ensures))
+unfolding fits both
+returns-then-s-tag_of c = grind (arith, common_steps)
 
-pub returns : goal.returns
-returns c = c.is_order.ensures ∙ ap (is_order c.args.id) c.row_at.ensures ∙ fits_same c.args.id (rows c.args.t.now) c.args.s (omega (arith, c.tag_of.ensures))
+pub returns-else-s-tag_of : goal.returns-else-s-tag_of
+unfolding fits both
+returns-else-s-tag_of c = grind (arith, common_steps)
