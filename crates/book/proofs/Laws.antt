@@ -59,10 +59,6 @@ posted_by ed p n b l e = ap (λ (x : Plan). posts x b l) (sym e)
 
 -- ---- a message by what judging its body found
 module _ (ed : Edition) (n : ℕ) (b : List ℕ) (l : Ledger) where
-  pub devised_bad : (f : Fault) → judge_body ed b ≡ Err f → devised ed n b l ≡ Err NoBody
-  unfolding devised read_body message plan_by
-  devised_bad f e = ap (λ (x : Result Kind Fault). plan_by (message x b) n b l.plain.clock (looks l)) e
-
   pub devised_kind : (k : Kind) → judge_body ed b ≡ Ok k → devised ed n b l ≡ plan_by (decoded k b) n b l.plain.clock (looks l)
   unfolding devised read_body message
   devised_kind k e = ap (λ (x : Result Kind Fault). plan_by (message x b) n b l.plain.clock (looks l)) e

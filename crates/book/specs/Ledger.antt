@@ -11,6 +11,7 @@ use Rattle.symbols.specs.Find.{place_for}
 use Rattle.engines.specs.Engines.{order_by, free_by, entry_by, noted, hinted_to}
 use Rattle.book.specs.declared.Clock.{Clock}
 use Rattle.book.specs.declared.Rule.{Rule}
+use Rattle.book.specs.declared.Tables.{Tables}
 use Rattle.book.specs.Plan.{number_of, Plan, Finds, plan_by}
 use Rattle.book.specs.Book.{Book, book, carried}
 
@@ -20,6 +21,10 @@ pub record Ledger : Type 0 where
 
 abbrev pub ledger : Book → List ℕ → Ledger
 ledger k ix = record { plain = k; index = ix }
+
+-- the ledger that lent tables are, with a clock
+abbrev pub seen : Tables → Clock → Ledger
+seen t c = ledger (book t.orders.now t.symbols.now c) t.index.now
 
 -- the rule that a message breaks, 0 for none, and the ledger after it
 pub record Posting : Type 0 where

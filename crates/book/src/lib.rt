@@ -13,7 +13,7 @@ ghost use Rattle.orders.specs.Work.{committed};
 ghost use Rattle.engines.specs.Engines.{free_by, entry_by, noted, hinted_to};
 ghost use Rattle.book.specs.Plan.{number_of, works, row_for, target, add_plan, modify_plan, delete_plan, execution_plan, clear_plan, update_plan, plan_by};
 ghost use Rattle.book.specs.Book.{book};
-ghost use Rattle.book.specs.Ledger.{order_for, looks, ledger, posts, told, devised, posted};
+ghost use Rattle.book.specs.Ledger.{order_for, looks, ledger, seen, posts, told, devised, posted};
 
 use editions::Edition;
 use fields::{AddOrder, DeleteOrder, ModifyOrder, OrderExecution, SymbolClear};
@@ -228,7 +228,7 @@ pub fn plan_kind(
     number: u64,
     body: &[u8],
 ) -> Result<Works, Rule>
-    ensures { result ≡ plan_by (decoded k body.now) number body.now clock (looks (ledger (book tables.entry.orders.now tables.entry.symbols.now clock) tables.entry.index.now)) }
+    ensures { result ≡ plan_by (decoded k body.now) number body.now clock (looks (seen tables.entry clock)) }
 {
     match k {
         Kind::SystemTime => Ok(on_rows(
@@ -287,7 +287,7 @@ pub fn plan(
     number: u64,
     body: &[u8],
 ) -> Result<Works, Rule>
-    ensures { result ≡ devised e number body.now (ledger (book tables.entry.orders.now tables.entry.symbols.now clock) tables.entry.index.now) }
+    ensures { result ≡ devised e number body.now (seen tables.entry clock) }
 {
     let Ok(k) = body::judge_body(e, body) else {
         return Err(Rule::NoBody);

@@ -101,13 +101,10 @@ fn level_at(t: &[u64], key: u64, price: u64) -> Level
 fn put_level(out: &mut [u64], j: usize, l: Level)
     ensures { out.new ≡ put_level out.old j l }
 {
-    if out.len() / 3 <= j {
-        return;
+    if j < out.len() / 3 {
+        let b = 3 * j;
+        out[b..b + 3].copy_from_slice(&[l.price, l.shares, l.orders]);
     }
-    let b = 3 * j;
-    out[b] = l.price;
-    out[b + 1] = l.shares;
-    out[b + 2] = l.orders;
 }
 
 // The ladder of a key, for a caller that knows its symbol. Levels times rows steps, and no memory but the run.
