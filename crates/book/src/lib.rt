@@ -1,7 +1,7 @@
 // One message applied to a book, or the rule that it breaks, with nothing changed. A message is planned first: each kind has one function from
 // what the searches found to a plan by value. Then the plan is carried out, by one call a table. Every function answers for tables of any length
 // and content, and for any index; sizes are judged by those who lend them (6).
-#![tactic(auto, unfolding(facts::specs::Pick::pick, crate::specs::Plan::of_known, crate::specs::Plan::target, crate::specs::Plan::upon, crate::specs::Plan::row_for, crate::specs::Plan::room_for, crate::specs::Plan::add_plan, crate::specs::Plan::modify_plan, crate::specs::Plan::delete_plan, crate::specs::Plan::execution_plan, crate::specs::Plan::clear_plan, crate::specs::Plan::update_plan, crate::specs::Plan::plan_by, fields::specs::Fields::decoded, body::specs::Read::read_body, body::specs::Read::message, crate::specs::Book::carried, crate::specs::Ledger::devised, crate::specs::Ledger::index_after, crate::specs::Ledger::posted))]
+#![tactic(auto)]
 
 ghost use Rattle.std.specs.Prelude.{◌≡◌, None};
 ghost use Rattle.fields.specs.Fields.{decoded};
@@ -99,6 +99,7 @@ impl Tables<'_> {
 }
 
 // The row of a new order; its rank is the message's sequence number.
+#[tactic(auto, unfolding(crate::specs::Plan::row_for))]
 pub fn row_for(m: AddOrder, number: u64) -> Row
     ensures { result ≡ row_for m number }
 {
@@ -123,6 +124,7 @@ fn on_rows(clock: Clock, w: RowWork) -> Works
 }
 
 // 22, 23.
+#[tactic(auto, unfolding(crate::specs::Plan::target, facts::specs::Pick::pick))]
 fn target_of(order: Option<(usize, Row)>, symbol: u32) -> Result<(usize, Row), Rule>
     ensures { result ≡ target order symbol }
 {
@@ -134,6 +136,7 @@ fn target_of(order: Option<(usize, Row)>, symbol: u32) -> Result<(usize, Row), R
 }
 
 // 20, 21, 25.
+#[tactic(auto, unfolding(crate::specs::Plan::add_plan, crate::specs::Plan::of_known, crate::specs::Plan::room_for))]
 pub fn add_plan(
     clock: Clock,
     m: AddOrder,
@@ -153,6 +156,7 @@ pub fn add_plan(
 }
 
 // 20, 22, 23.
+#[tactic(auto, unfolding(crate::specs::Plan::modify_plan, crate::specs::Plan::of_known, crate::specs::Plan::upon))]
 pub fn modify_plan(
     clock: Clock,
     m: ModifyOrder,
@@ -170,6 +174,7 @@ pub fn modify_plan(
 }
 
 // 20, 22, 23.
+#[tactic(auto, unfolding(crate::specs::Plan::delete_plan, crate::specs::Plan::of_known, crate::specs::Plan::upon))]
 pub fn delete_plan(
     clock: Clock,
     m: DeleteOrder,
@@ -184,6 +189,7 @@ pub fn delete_plan(
 }
 
 // 20, 22, 23, 24.
+#[tactic(auto, unfolding(crate::specs::Plan::execution_plan, crate::specs::Plan::of_known, crate::specs::Plan::upon, facts::specs::Pick::pick))]
 pub fn execution_plan(
     clock: Clock,
     m: OrderExecution,
@@ -201,6 +207,7 @@ pub fn execution_plan(
 }
 
 // 20.
+#[tactic(auto, unfolding(crate::specs::Plan::clear_plan, crate::specs::Plan::of_known))]
 pub fn clear_plan(clock: Clock, m: SymbolClear, entry: Option<usize>) -> Result<Works, Rule>
     ensures { result ≡ clear_plan clock m entry }
 {
@@ -209,6 +216,7 @@ pub fn clear_plan(clock: Clock, m: SymbolClear, entry: Option<usize>) -> Result<
 }
 
 // 26.
+#[tactic(auto, unfolding(crate::specs::Plan::update_plan))]
 pub fn update_plan(clock: Clock, place: Option<usize>) -> Result<Works, Rule>
     ensures { result ≡ update_plan clock place }
 {
@@ -221,6 +229,7 @@ pub fn update_plan(clock: Clock, place: Option<usize>) -> Result<Works, Rule>
 }
 
 // The plan of a message of a kind, by its number and its body; nothing is changed.
+#[tactic(auto, unfolding(crate::specs::Plan::plan_by, fields::specs::Fields::decoded))]
 pub fn plan_kind(
     k: Kind,
     tables: Tables,
@@ -280,6 +289,7 @@ pub fn plan_kind(
 }
 
 // The plan of a message by its number and its body, which is read by the edition.
+#[tactic(auto, unfolding(crate::specs::Ledger::devised, crate::specs::Plan::plan_by, body::specs::Read::read_body, body::specs::Read::message))]
 pub fn plan(
     e: Edition,
     tables: Tables,
@@ -308,6 +318,7 @@ fn carry_out(w: Works, orders: &mut [u64], symbols: &mut [u8], index: &mut [u64]
 }
 
 // A message of a kind, planned and carried out: the clock after it, or the rule that it breaks, and then nothing is changed.
+#[tactic(auto, unfolding(crate::specs::Book::carried, crate::specs::Ledger::index_after))]
 pub fn try_kind(
     k: Kind,
     orders: &mut [u64],
@@ -335,6 +346,7 @@ pub fn try_kind(
 }
 
 // A message by its number and its body, which is read by the edition, planned and carried out.
+#[tactic(auto, unfolding(crate::specs::Ledger::posted, crate::specs::Book::carried, crate::specs::Ledger::index_after))]
 pub fn attempt(
     e: Edition,
     orders: &mut [u64],

@@ -1,5 +1,5 @@
 // Views of the book: the price ladder, the signed spread and the counts. Each answers for any tables, any symbol and any run.
-#![tactic(auto, unfolding(facts::specs::Pick::pick, facts::specs::Pick::both, crate::specs::Ladder::key_of, crate::specs::Ladder::far, crate::specs::Ladder::at_price, crate::specs::Nearest::place_from, crate::specs::Views::good_tables, crate::specs::Views::view_fault, crate::specs::Views::viewable, crate::specs::Views::counts_view))]
+#![tactic(auto)]
 
 ghost use Rattle.std.specs.Prelude.{◌≡◌, true, ◌≤◌, length, pos, ◌-ℤ◌};
 ghost use Rattle.facts.specs.Limits.{most_price};
@@ -33,6 +33,7 @@ pub struct Sizes {
     pub symbols: usize,
 }
 
+#[tactic(auto, unfolding(crate::specs::Ladder::key_of))]
 pub fn key_of(symbol: u32, side: Side) -> u64
     ensures { result ≡ key_of side symbol }
 {
@@ -40,6 +41,7 @@ pub fn key_of(symbol: u32, side: Side) -> u64
 }
 
 // How far a price lies from the best that there can be, and the price that lies so far.
+#[tactic(auto, unfolding(crate::specs::Ladder::far, facts::specs::Pick::pick))]
 fn far_of(key: u64, price: u64) -> u64
     requires { price ≤ most_price }
     ensures { result ≡ far key price }
@@ -52,6 +54,7 @@ fn far_of(key: u64, price: u64) -> u64
 }
 
 // Where a row lies, if it is the key's and lies not below low.
+#[tactic(auto, unfolding(crate::specs::Nearest::place_from, facts::specs::Pick::pick))]
 fn place_from(r: Row, key: u64, low: u64) -> Option<u64>
     ensures { result ≡ place_from key low r }
 {
@@ -71,6 +74,7 @@ fn nearest(t: &[u64], key: u64, low: u64) -> Option<u64>
         .min()
 }
 
+#[tactic(auto, unfolding(crate::specs::Ladder::at_price, facts::specs::Pick::both))]
 fn at_price(r: Row, key: u64, price: u64) -> bool
     ensures { result ≡ at_price key price r }
 {
@@ -141,6 +145,7 @@ fn spread_of(orders: &[u64], symbol: u32) -> Option<i64>
     Some(minus(offer, facts::MOST_PRICE - bid))
 }
 
+#[tactic(auto, unfolding(crate::specs::Views::good_tables, facts::specs::Pick::both))]
 fn good_tables(orders: &[u64], symbols: &[u8]) -> bool
     ensures { result ≡ good_tables orders.now symbols.now }
 {
@@ -148,6 +153,7 @@ fn good_tables(orders: &[u64], symbols: &[u8]) -> bool
 }
 
 // The refusal of a view of a symbol, where there is one.
+#[tactic(auto, unfolding(crate::specs::Views::viewable, crate::specs::Views::view_fault, facts::specs::Pick::pick))]
 pub fn viewable(orders: &[u64], symbols: &[u8], symbol: u32) -> Result<(), Refusal>
     ensures { result ≡ viewable symbol orders.now symbols.now }
 {
@@ -183,6 +189,7 @@ pub fn spread(orders: &[u64], symbols: &[u8], symbol: u32) -> Result<Option<i64>
 }
 
 // How many orders are live and how many entries in use.
+#[tactic(auto, unfolding(crate::specs::Views::counts_view, facts::specs::Pick::pick))]
 pub fn counts(orders: &[u64], symbols: &[u8]) -> Result<Sizes, Refusal>
     ensures { result ≡ counts_view orders.now symbols.now }
 {
