@@ -68,10 +68,6 @@ module _ (ix : List ℕ) (id : ℕ) (es : List (List ℕ)) where
 
 -- ---- a row put
 module _ (i : ℕ) (r : Row) (rs : List Row) (ix : List ℕ) where
-  pub put_nothing : free (get_or rs i zero_row) ≡ true → free r ≡ true → put_noted i r rs ix ≡ ix
-  unfolding put_noted pick
-  put_nothing f g = rw (f, g)
-
   pub put_comes : free (get_or rs i zero_row) ≡ true → free r ≡ false → put_noted i r rs ix ≡ came ix rs r.order i
   unfolding put_noted pick
   put_comes f g = rw (f, g)

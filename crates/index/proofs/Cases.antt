@@ -61,10 +61,6 @@ block_none n h = omega (arith, blocks_is)
 
 -- ---- a slot's row
 module _ (id : ℕ) (rs : List Row) (s : ℕ) where
-  pub fits_other : (s / 65536 ≡ tag_of id → ⊥) → false ≡ fits id rs s
-  unfolding fits both
-  fits_other n = rw (ne_eqb (s / 65536) (tag_of id) n)
-
   pub fits_same : s / 65536 ≡ tag_of id → is_order id (get_or rs (s % 65536) zero_row) ≡ fits id rs s
   unfolding fits both
   fits_same e = rw (eq-eqb (s / 65536) (tag_of id) e)

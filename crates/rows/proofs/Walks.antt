@@ -17,7 +17,7 @@ use Rattle.facts.specs.Search.{first}
 use Rattle.facts.specs.Sums.{sum_by, only_if, count_by}
 use Rattle.std.specs.Prelude.{Some, None}
 use Rattle.facts.proofs.Lists.{map_to, map_more, map_all}
-use Rattle.facts.proofs.Searches.{first_hit, first_miss, first_end, first_at}
+use Rattle.facts.proofs.Searches.{first_end, first_at}
 use Rattle.facts.proofs.SumLaws.{sum_step, sum_end, sum_bound, only_bound}
 use Rattle.facts.proofs.CountLaws as counts
 use Rattle.rows.specs.declared.Row.{Row}
@@ -28,12 +28,6 @@ use Rattle.rows.proofs.Judged.{live_ranges}
 
 -- ---- searches: a walk at row i, and where a found row lies
 module _ (p : Row → Bool) (t : List ℕ) (i : ℕ) where
-  pub row_hit : i < row_count t → p (get_or (rows t) i zero_row) ≡ true → first p i (drop i (rows t)) ≡ Some i
-  row_hit h e = first_hit p (rows t) i zero_row (rw length_rows h) e
-
-  pub row_miss : i < row_count t → p (get_or (rows t) i zero_row) ≡ false → first p i (drop i (rows t)) ≡ first p (i + 1) (drop (i + 1) (rows t))
-  row_miss h e = first_miss p (rows t) i zero_row (rw length_rows h) e
-
   pub row_end : row_count t ≤ i → first p i (drop i (rows t)) ≡ None
   row_end h = first_end p (rows t) i (rw length_rows h)
 

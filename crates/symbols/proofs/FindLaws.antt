@@ -165,10 +165,6 @@ pub place_own : (id : ℕ) (es : List (List ℕ)) (i : ℕ) → find_symbol id e
 unfolding place_for
 place_own id es i e = rw e
 
-pub place_fresh : (id : ℕ) (es : List (List ℕ)) → find_symbol id es ≡ None → place_for id es ≡ find_free_entry es
-unfolding place_for
-place_fresh id es e = rw e
-
 -- the place lies in the table
 pub place_below : (id : ℕ) (es : List (List ℕ)) (i : ℕ) → place_for id es ≡ Some i → i < length es
 place_below id es i h = go (place_is id es i h)

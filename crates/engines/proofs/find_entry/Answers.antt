@@ -1,11 +1,15 @@
-use mathlib.Core.Path.{sym, ◌∙◌}
-use native.Mathlib.Omega.{arith}
-use Rattle.symbols.specs.Entries.{entries}
-use Rattle.engines.proofs.Cases.{entry_walk, entry_hint}
+-- No index, and the entries are searched; else the hint is followed.
+-- Assumes nothing.
+use Rattle.std.proofs.Common.{arith}
+use Rattle.std.proofs.lemmas.Grind.{common_steps}
+use Rattle.facts.specs.Pick.{pick}
+use Rattle.engines.specs.Engines.{entry_by}
 use Rattle.engines.proofs.find_entry.Goals as goal
 
-pub returns-then-ix-eq0 : goal.returns-then-ix-eq0
-returns-then-ix-eq0 c = c.find_symbol.ensures ∙ sym (entry_walk c.args.ix.now c.args.id (entries c.args.symbols.now) (omega arith))
+pub returns-then-is_empty : goal.returns-then-is_empty
+unfolding entry_by pick
+returns-then-is_empty c = grind (arith, common_steps)
 
-pub returns : goal.returns
-returns c = c.follow_hint.ensures ∙ sym (entry_hint c.args.ix.now c.args.id (entries c.args.symbols.now) (λ e. omega arith))
+pub returns-else-is_empty : goal.returns-else-is_empty
+unfolding entry_by pick
+returns-else-is_empty c = grind (arith, common_steps)

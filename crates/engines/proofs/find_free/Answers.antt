@@ -1,11 +1,15 @@
-use mathlib.Core.Path.{sym, ◌∙◌}
-use native.Mathlib.Omega.{arith}
-use Rattle.rows.specs.Rows.{rows}
-use Rattle.engines.proofs.Cases.{free_walk, free_index}
+-- No index, and the rows are searched; else the index.
+-- Assumes nothing.
+use Rattle.std.proofs.Common.{arith}
+use Rattle.std.proofs.lemmas.Grind.{common_steps}
+use Rattle.facts.specs.Pick.{pick}
+use Rattle.engines.specs.Engines.{free_by}
 use Rattle.engines.proofs.find_free.Goals as goal
 
-pub returns-then-ix-eq0 : goal.returns-then-ix-eq0
-returns-then-ix-eq0 c = c.find_free.ensures ∙ sym (free_walk c.args.ix.now (rows c.args.t.now) (omega arith))
+pub returns-then-is_empty : goal.returns-then-is_empty
+unfolding free_by pick
+returns-then-is_empty c = grind (arith, common_steps)
 
-pub returns : goal.returns
-returns c = c.lowest_free.ensures ∙ sym (free_index c.args.ix.now (rows c.args.t.now) (λ e. omega arith))
+pub returns-else-is_empty : goal.returns-else-is_empty
+unfolding free_by pick
+returns-else-is_empty c = grind (arith, common_steps)

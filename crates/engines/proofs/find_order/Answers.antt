@@ -1,11 +1,15 @@
-use mathlib.Core.Path.{sym, ◌∙◌}
-use native.Mathlib.Omega.{arith}
-use Rattle.rows.specs.Rows.{rows}
-use Rattle.engines.proofs.Cases.{order_walk, order_index}
+-- No index, and the rows are searched; else the index.
+-- Assumes nothing.
+use Rattle.std.proofs.Common.{arith}
+use Rattle.std.proofs.lemmas.Grind.{common_steps}
+use Rattle.facts.specs.Pick.{pick}
+use Rattle.engines.specs.Engines.{order_by}
 use Rattle.engines.proofs.find_order.Goals as goal
 
-pub returns-then-ix-eq0 : goal.returns-then-ix-eq0
-returns-then-ix-eq0 c = c.find_order.ensures ∙ sym (order_walk c.args.ix.now (rows c.args.t.now) c.args.id (omega arith))
+pub returns-then-is_empty : goal.returns-then-is_empty
+unfolding order_by pick
+returns-then-is_empty c = grind (arith, common_steps)
 
-pub returns : goal.returns
-returns c = c.find.ensures ∙ sym (order_index c.args.ix.now (rows c.args.t.now) c.args.id (λ e. omega arith))
+pub returns-else-is_empty : goal.returns-else-is_empty
+unfolding order_by pick
+returns-else-is_empty c = grind (arith, common_steps)

@@ -1,34 +1,23 @@
-use mathlib.Core.Path.{◌≡◌, sym, ap, ◌∙◌}
-use mathlib.Core.Bool.{true, false}
-use lib.ListN.{get_or}
-use Rattle.rows.specs.Rows.{rows, zero_row, free}
-use Rattle.engines.proofs.Cases.{put_nothing, put_comes, put_goes, put_stays}
+-- Whether the row was free and is free decides, as the definition has it.
+-- Assumes nothing.
+use Rattle.std.proofs.Common.{arith}
+use Rattle.std.proofs.lemmas.Grind.{common_steps}
+use Rattle.facts.specs.Pick.{pick}
+use Rattle.engines.specs.Engines.{put_noted}
 use Rattle.engines.proofs.note_put.Goals as goal
 
-pub returns-then-leaves : goal.returns-then-leaves
-returns-then-leaves c =
-    let a = c.args in
-    let e : free (get_or (rows a.t.now) a.i zero_row) ≡ true = ap free (sym c.row_at.ensures) ∙ sym c.is_free.ensures ∙ c.if-is_free.true in
-    let f : free a.r ≡ true = sym c.is_free-leaves.ensures ∙ c.if-leaves.true in
-    sym (put_nothing a.i a.r (rows a.t.now) a.ix.now e f)
+pub returns-then-is_free-2 : goal.returns-then-is_free-2
+unfolding put_noted pick
+returns-then-is_free-2 c = grind (arith, common_steps)
 
-pub returns-then-is_free : goal.returns-then-is_free
-returns-then-is_free c =
-    let a = c.args in
-    let e : free (get_or (rows a.t.now) a.i zero_row) ≡ true = ap free (sym c.row_at.ensures) ∙ sym c.is_free.ensures ∙ c.if-is_free.true in
-    let f : free a.r ≡ false = sym c.is_free-leaves.ensures ∙ c.if-leaves.false in
-    c.come.ensures ∙ sym (put_comes a.i a.r (rows a.t.now) a.ix.now e f)
+pub returns-in-true-false : goal.returns-in-true-false
+unfolding put_noted pick
+returns-in-true-false c = grind (arith, common_steps)
 
-pub returns-then-leaves-2 : goal.returns-then-leaves-2
-returns-then-leaves-2 c =
-    let a = c.args in
-    let e : free (get_or (rows a.t.now) a.i zero_row) ≡ false = ap free (sym c.row_at.ensures) ∙ sym c.is_free.ensures ∙ c.if-is_free.false in
-    let f : free a.r ≡ true = sym c.is_free-leaves.ensures ∙ c.if-leaves-2.true in
-    c.gone.ensures ∙ sym (put_goes a.i a.r (rows a.t.now) a.ix.now e f)
+pub returns-in-false-true : goal.returns-in-false-true
+unfolding put_noted pick
+returns-in-false-true c = grind (arith, common_steps)
 
-pub returns-else-leaves-2 : goal.returns-else-leaves-2
-returns-else-leaves-2 c =
-    let a = c.args in
-    let e : free (get_or (rows a.t.now) a.i zero_row) ≡ false = ap free (sym c.row_at.ensures) ∙ sym c.is_free.ensures ∙ c.if-is_free.false in
-    let f : free a.r ≡ false = sym c.is_free-leaves.ensures ∙ c.if-leaves-2.false in
-    sym (put_stays a.i a.r (rows a.t.now) a.ix.now e f)
+pub returns-else-this : goal.returns-else-this
+unfolding put_noted pick
+returns-else-this c = grind (arith, common_steps)
