@@ -17,8 +17,7 @@ use Rattle.wire.proofs.Laws.{field_below, length_padded}
 use Rattle.editions.specs.declared.Edition.{Edition}
 use Rattle.fields.specs.Fields.{symbol_of}
 use Rattle.body.specs.Shown.{security_in}
-use Rattle.std.specs.Prelude.{Option, Some, None, Result, Ok, Err}
-use Rattle.fields.specs.declared.Refusal.{Refusal}
+use Rattle.std.specs.Prelude.{Option, Some, None}
 use Rattle.std.specs.Prelude.{ℤ}
 use Rattle.rows.specs.Rows.{rows, good_rows, live}
 use Rattle.rows.specs.Find.{count_live}
@@ -150,11 +149,11 @@ side_few side id t g =
       short = all_map Short (level_line side id) (take 10 ls) (all_weaken (level_short side id) (take 10 ls) (all_take ShortLevel 10 ls (ladder_short (key_of side id) t g)));
     }
 
-spread_short : (s : ℕ) (rs : List Row) → Short (plain spread_key (spread_word (Ok (spread_of s rs))))
+spread_short : (s : ℕ) (rs : List Row) → Short (plain spread_key (spread_word (spread_of s rs)))
 unfolding spread_word spread_key none_word
-spread_short s rs = plain_short spread_key (spread_word (Ok (spread_of s rs))) (omega arith) (go (spread_of s rs) refl)
+spread_short s rs = plain_short spread_key (spread_word (spread_of s rs)) (omega arith) (go (spread_of s rs) refl)
   where
-    go : (a : Option ℤ) → spread_of s rs ≡ a → length (spread_word (Ok a)) ≤ 20
+    go : (a : Option ℤ) → spread_of s rs ≡ a → length (spread_word a) ≤ 20
     go (Some z) e = omega (arith, spread_le z (spread_sides s rs z e).size)
     go None e = omega arith
 

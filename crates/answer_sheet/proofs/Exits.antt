@@ -45,19 +45,16 @@ module _ (orders symbols : List ℕ) where
   pub sizes_lines : (second : ℕ) (z : Sizes) → AreSizes z orders symbols → text_of (table_lines second z.symbols z.orders) ≡ text_of (table_lines second (count_used (entries symbols)) (count_live (rows orders)))
   sizes_lines second z e = ap (λ (x : Sizes). text_of (table_lines second x.symbols x.orders)) (sizes_is z e).1
 
-  pub sizes_bad : (r : Refusal) → Err r ≡ counts_view orders symbols → good_tables orders symbols ≡ false
-  unfolding counts_view pick
-  sizes_bad r e = go (good_tables orders symbols) e
-    where
-      go : (g : Bool) → Err r ≡ pick g (Ok table_sizes) (Err (refusal 6)) → g ≡ false
-      go true e = let x : ◌≡◌ {A = ℕ} 0 1 = cc in absurd (omega arith)
-      go false e = refl
-
 -- ---- the three exits
 module _ (word : Recording) (bad : ℕ) (s : State) (orders symbols b : List ℕ) where
-  pub sizes_refused : good_tables orders symbols ≡ false → sheet_and (Err (refusal 6)) b ≡ sheet_view word bad s orders symbols b
-  unfolding sheet_view sheet_ok both pick
-  sizes_refused g = rw g
+  pub sizes_refused : (r : Refusal) → Err r ≡ counts_view orders symbols → sheet_and (Err r) b ≡ sheet_view word bad s orders symbols b
+  unfolding sheet_view sheet_ok counts_view both pick
+  sizes_refused r e = go (good_tables orders symbols) e
+    where
+      go : (g : Bool) → Err r ≡ pick g (Ok (table_sizes orders symbols)) (Err (refusal 6))
+          → sheet_and (Err r) b ≡ pick (both g (next_ok s.next)) (stored (sheet_of word bad s orders symbols) b) (sheet_and (Err (refusal 6)) b)
+      go true e = let x : ◌≡◌ {A = ℕ} 0 1 = cc in absurd (omega arith)
+      go false e = let k : r ≡ refusal 6 = cc in ap (λ (x : Refusal). sheet_and (Err x) b) k
 
   pub next_refused : good_tables orders symbols ≡ true → next_ok s.next ≡ false → sheet_and (Err (refusal 6)) b ≡ sheet_view word bad s orders symbols b
   unfolding sheet_view sheet_ok both pick

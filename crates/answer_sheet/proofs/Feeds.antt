@@ -15,8 +15,7 @@ use Rattle.facts.proofs.Picks.{pick_ind, both_true}
 use Rattle.editions.specs.declared.Edition.{Edition}
 use Rattle.fields.specs.Fields.{symbol_of}
 use Rattle.body.specs.Shown.{security_in}
-use Rattle.std.specs.Prelude.{Option, Some, None, Result, Ok, Err}
-use Rattle.fields.specs.declared.Refusal.{Refusal}
+use Rattle.std.specs.Prelude.{Option, Some, None}
 use Rattle.fields.specs.declared.Symbol.{Symbol}
 use Rattle.rows.specs.Rows.{rows}
 use Rattle.rows.specs.Find.{count_live}
@@ -69,11 +68,10 @@ unfolding signed_of
 signed_visible (pos n) = digits_visible n
 signed_visible (negsuc k) = visible_cons 45 (decimal_of (suc k)) (omega arith) (digits_visible (suc k))
 
-spread_visible : (a : Result (Option ℤ) Refusal) → visible (spread_word a) ≡ true
+spread_visible : (a : Option ℤ) → visible (spread_word a) ≡ true
 unfolding spread_word none_word visible both
-spread_visible (Ok (Some z)) = signed_visible z
-spread_visible (Ok None) = refl
-spread_visible (Err r) = refl
+spread_visible (Some z) = signed_visible z
+spread_visible None = refl
 
 word_visible : (word : Recording) → visible (recording_word word) ≡ true
 unfolding recording_word whole_word cut_word visible both
@@ -126,7 +124,7 @@ symbol_one y s = (
 
 book_one : (id : ℕ) (rs : List Row) → All OneFeed (book_lines id rs)
 unfolding book_lines spread_key visible both
-book_one id rs = (plain_one spread_key (spread_word (Ok (spread_of id rs))) refl (spread_visible (Ok (spread_of id rs))), all_append OneFeed (side_lines Side.Buy id rs) (side_lines Side.Sell id rs) (side_one Side.Buy id rs) (side_one Side.Sell id rs))
+book_one id rs = (plain_one spread_key (spread_word (spread_of id rs)) refl (spread_visible (spread_of id rs)), all_append OneFeed (side_lines Side.Buy id rs) (side_lines Side.Sell id rs) (side_one Side.Buy id rs) (side_one Side.Sell id rs))
 
 entry_one : (ed : Edition) (rs : List Row) (e : List ℕ) → All OneFeed (entry_lines ed rs e)
 unfolding entry_lines

@@ -71,11 +71,10 @@ unfoldable pub side_lines : Side → ℕ → List Row → List Line
 side_lines side id rs = map (level_line side id) (take levels_shown (ladder (key_of side id) rs))
 
 -- ---- a symbol
--- "with a side empty the answer is none": "spread=none"; a spread is refused only for an unknown symbol or tables of a bad size, so never on a sheet
-unfoldable pub spread_word : Result (Option ℤ) Refusal → List ℕ
-spread_word (Ok (Some z)) = signed_of z
-spread_word (Ok None) = none_word
-spread_word (Err r) = []
+-- "with a side empty the answer is none": "spread=none"
+unfoldable pub spread_word : Option ℤ → List ℕ
+spread_word (Some z) = signed_of z
+spread_word None = none_word
 
 -- "Only the 1.3 sheet shows it, as `type=` after `ticker=`" (request 10): the byte, as "other bytes outside 32 to 126 shown as a full stop"
 unfoldable pub type_lines : Option ℕ → List Line
@@ -91,7 +90,7 @@ symbol_lines y s =
 
 -- "spread=20000", then the levels, "bids first"
 unfoldable pub book_lines : ℕ → List Row → List Line
-book_lines id rs = plain spread_key (spread_word (Ok (spread_of id rs))) ∷ (side_lines Side.Buy id rs ++ side_lines Side.Sell id rs)
+book_lines id rs = plain spread_key (spread_word (spread_of id rs)) ∷ (side_lines Side.Buy id rs ++ side_lines Side.Sell id rs)
 
 -- a free or spoiled entry has no lines: "type 1 marks an entry in use"
 unfoldable pub entry_lines : Edition → List Row → List ℕ → List Line
@@ -142,11 +141,6 @@ sheet_number (Ok n) = 0
 sheet_number (Err r) = r.number
 
 -- ---- inside the code's loops and calls
--- how many levels an answer tells of; none where it is refused
-unfoldable pub level_count : Result ℕ Refusal → ℕ
-level_count (Ok n) = n
-level_count (Err r) = 0
-
 -- what a view of good tables counted
 abbrev pub AreSizes : Sizes → List ℕ → List ℕ → Type 0
 AreSizes z orders symbols = Ok z ≡ counts_view orders symbols
