@@ -3,7 +3,7 @@
 // and content, and for any index; sizes are judged by those who lend them (6).
 #![tactic(auto)]
 
-ghost use Rattle.std.specs.Prelude.{◌≡◌, None};
+ghost use Rattle.std.specs.Prelude.{◌≡◌, None, Ok};
 ghost use Rattle.fields.specs.Fields.{decoded};
 ghost use Rattle.rows.specs.Rows.{rows};
 ghost use Rattle.symbols.specs.Entries.{entries};
@@ -11,7 +11,7 @@ ghost use Rattle.symbols.specs.Find.{place_for};
 ghost use Rattle.symbols.specs.Work.{entered};
 ghost use Rattle.orders.specs.Work.{committed};
 ghost use Rattle.engines.specs.Engines.{free_by, entry_by, noted, hinted_to};
-ghost use Rattle.book.specs.Plan.{number_of, works, row_for, target, add_plan, modify_plan, delete_plan, execution_plan, clear_plan, update_plan, plan_by};
+ghost use Rattle.book.specs.Plan.{number_of, works, idle, row_for, target, add_plan, modify_plan, delete_plan, execution_plan, clear_plan, update_plan, plan_by};
 ghost use Rattle.book.specs.Book.{book};
 ghost use Rattle.book.specs.Ledger.{order_for, looks, ledger, seen, posts, told, devised, posted};
 
@@ -123,7 +123,14 @@ fn on_rows(clock: Clock, w: RowWork) -> Works
     }
 }
 
-// 22, 23.
+// Work on no table.
+fn idle(clock: Clock) -> Works
+    ensures { Ok result ≡ idle clock }
+{
+    on_rows(clock, RowWork::Keep)
+}
+
+// The order that a message names: not live 22; live under another symbol 23.
 #[tactic(auto, unfolding(crate::specs::Plan::target, facts::specs::Pick::pick))]
 fn target_of(order: Option<(usize, Row)>, symbol: u32) -> Result<(usize, Row), Rule>
     ensures { result ≡ target order symbol }
@@ -135,7 +142,7 @@ fn target_of(order: Option<(usize, Row)>, symbol: u32) -> Result<(usize, Row), R
     Ok((i, r))
 }
 
-// 20, 21, 25.
+// Unknown symbol 20; order ID already live 21; no free row 25.
 #[tactic(auto, unfolding(crate::specs::Plan::add_plan, crate::specs::Plan::of_known, crate::specs::Plan::room_for))]
 pub fn add_plan(
     clock: Clock,
@@ -155,7 +162,7 @@ pub fn add_plan(
     Ok(on_rows(clock, RowWork::Put(j, row_for(m, number))))
 }
 
-// 20, 22, 23.
+// Unknown symbol 20; its order 22, 23.
 #[tactic(auto, unfolding(crate::specs::Plan::modify_plan, crate::specs::Plan::of_known, crate::specs::Plan::upon))]
 pub fn modify_plan(
     clock: Clock,
@@ -173,7 +180,7 @@ pub fn modify_plan(
     Ok(on_rows(clock, RowWork::Put(i, new)))
 }
 
-// 20, 22, 23.
+// Unknown symbol 20; its order 22, 23.
 #[tactic(auto, unfolding(crate::specs::Plan::delete_plan, crate::specs::Plan::of_known, crate::specs::Plan::upon))]
 pub fn delete_plan(
     clock: Clock,
@@ -188,7 +195,7 @@ pub fn delete_plan(
     Ok(on_rows(clock, RowWork::Put(i, rows::zero_row())))
 }
 
-// 20, 22, 23, 24.
+// Unknown symbol 20; its order 22, 23; executed size above the order's 24.
 #[tactic(auto, unfolding(crate::specs::Plan::execution_plan, crate::specs::Plan::of_known, crate::specs::Plan::upon, facts::specs::Pick::pick))]
 pub fn execution_plan(
     clock: Clock,
@@ -206,7 +213,7 @@ pub fn execution_plan(
     Ok(on_rows(clock, RowWork::Put(i, orders::reduce(r, u64::from(m.size)))))
 }
 
-// 20.
+// Unknown symbol 20.
 #[tactic(auto, unfolding(crate::specs::Plan::clear_plan, crate::specs::Plan::of_known))]
 pub fn clear_plan(clock: Clock, m: SymbolClear, entry: Option<usize>) -> Result<Works, Rule>
     ensures { result ≡ clear_plan clock m entry }
@@ -215,7 +222,7 @@ pub fn clear_plan(clock: Clock, m: SymbolClear, entry: Option<usize>) -> Result<
     Ok(on_rows(clock, RowWork::Clear(m.symbol)))
 }
 
-// 26.
+// No entry of its own, and none free: 26.
 #[tactic(auto, unfolding(crate::specs::Plan::update_plan))]
 pub fn update_plan(clock: Clock, place: Option<usize>) -> Result<Works, Rule>
     ensures { result ≡ update_plan clock place }
@@ -230,59 +237,38 @@ pub fn update_plan(clock: Clock, place: Option<usize>) -> Result<Works, Rule>
 
 // The plan of a message of a kind, by its number and its body; nothing is changed.
 #[tactic(auto, unfolding(crate::specs::Plan::plan_by, fields::specs::Fields::decoded))]
-pub fn plan_kind(
-    k: Kind,
-    tables: Tables,
-    clock: Clock,
-    number: u64,
-    body: &[u8],
-) -> Result<Works, Rule>
-    ensures { result ≡ plan_by (decoded k body.now) number body.now clock (looks (seen tables.entry clock)) }
+pub fn plan_kind(k: Kind, t: Tables, clock: Clock, number: u64, body: &[u8]) -> Result<Works, Rule>
+    ensures { result ≡ plan_by (decoded k body.now) number body.now clock (looks (seen t.entry clock)) }
 {
     match k {
-        Kind::SystemTime => Ok(on_rows(
-            Clock {
-                second: u32::at(body, 1),
-            },
-            RowWork::Keep,
-        )),
-        Kind::SymbolUpdate => update_plan(clock, tables.room(u32::at(body, 5))),
+        Kind::SystemTime => {
+            let second = u32::at(body, 1);
+            Ok(idle(Clock { second }))
+        }
+        Kind::SymbolUpdate => update_plan(clock, t.room(u32::at(body, 5))),
         Kind::SymbolClear => {
             let m = fields::clear_of(body);
-            clear_plan(clock, m, tables.entry(m.symbol))
+            clear_plan(clock, m, t.entry(m.symbol))
         }
         Kind::Add => {
             let m = fields::add_of(body);
-            add_plan(
-                clock,
-                m,
-                number,
-                tables.entry(m.symbol),
-                tables.order(m.order),
-                tables.free_row(),
-            )
+            let free = t.free_row();
+            add_plan(clock, m, number, t.entry(m.symbol), t.order(m.order), free)
         }
         Kind::Modify => {
             let m = fields::modify_of(body);
-            modify_plan(
-                clock,
-                m,
-                number,
-                tables.entry(m.symbol),
-                tables.order(m.order),
-            )
+            modify_plan(clock, m, number, t.entry(m.symbol), t.order(m.order))
         }
         Kind::Delete => {
             let m = fields::delete_of(body);
-            delete_plan(clock, m, tables.entry(m.symbol), tables.order(m.order))
+            delete_plan(clock, m, t.entry(m.symbol), t.order(m.order))
         }
         Kind::Execution => {
             let m = fields::execution_of(body);
-            execution_plan(clock, m, tables.entry(m.symbol), tables.order(m.order))
+            execution_plan(clock, m, t.entry(m.symbol), t.order(m.order))
         }
-        Kind::SystemState | Kind::TradingStatus | Kind::Trade | Kind::TradeCancel => Ok(on_rows(
+        Kind::SystemState | Kind::TradingStatus | Kind::Trade | Kind::TradeCancel => Ok(idle(
             clock,
-            RowWork::Keep,
         )),
         Kind::Unknown => Err(Rule::NoBody),
     }
@@ -290,19 +276,13 @@ pub fn plan_kind(
 
 // The plan of a message by its number and its body, which is read by the edition.
 #[tactic(auto, unfolding(crate::specs::Ledger::devised, crate::specs::Plan::plan_by, body::specs::Read::read_body, body::specs::Read::message))]
-pub fn plan(
-    e: Edition,
-    tables: Tables,
-    clock: Clock,
-    number: u64,
-    body: &[u8],
-) -> Result<Works, Rule>
-    ensures { result ≡ devised e number body.now (seen tables.entry clock) }
+pub fn plan(e: Edition, t: Tables, clock: Clock, number: u64, body: &[u8]) -> Result<Works, Rule>
+    ensures { result ≡ devised e number body.now (seen t.entry clock) }
 {
     let Ok(k) = body::judge_body(e, body) else {
         return Err(Rule::NoBody);
     };
-    plan_kind(k, tables, clock, number, body)
+    plan_kind(k, t, clock, number, body)
 }
 
 // Each table is left by its own work, and the index by both.
