@@ -3,8 +3,7 @@
 use mathlib.Core.Path.{◌≡◌, refl, sym, ap, subst, ◌∙◌}
 use mathlib.Core.List.{List}
 use mathlib.Core.Bool.{Bool, true, false}
-use Prim.Native.Nat.{ℕ, ◌+◌, ◌≤◌}
-use native.Mathlib.Omega.{arith}
+use Prim.Native.Nat.{ℕ, ◌+◌}
 use lib.ListN.{length, take}
 use lib.Dec.{eqb, leb}
 use borrow.Author.Tests.{eqb-true, eqb-false, ne_eqb}
@@ -19,7 +18,6 @@ use Rattle.std.proofs.lemmas.Result.{err_from_is_err_and}
 use Rattle.kinds.specs.declared.Kind.{Kind}
 use Rattle.body.specs.Read.{judge_body, judged, judged_number}
 use Rattle.body.proofs.Codes.{number_some}
-use Rattle.numbers.specs.declared.Draft.{Draft}
 use Rattle.numbers.proofs.Drafts.{passed}
 use Rattle.numbers.proofs.Held.{draft_refused, draft_good}
 use Rattle.trips.specs.Records.{record_bytes}
@@ -37,13 +35,9 @@ mapped (Err f) m Q h k = let p = err_from_is_err_and m h in p.1 ∙ ap (λ (r : 
 
 -- ---- a draft
 module _ (ed : Edition) (l x : List ℕ) where
-  module _ (d : Draft) (e : Ok d ≡ draft_of ed l x) where
-    pub draft_long : d.len ≤ length d.bytes
-    draft_long = let g = draft_good ed l x d e in omega (arith, g.whole, g.short)
-
-    pub drafted : (m : List ℕ) (at n : ℕ) → appended_as ed 0 m at n (take d.len d.bytes) ≡ numbers_appended ed m at n l x
-    unfolding numbers_appended
-    drafted m at n = let g = draft_good ed l x d e in λ i. appended_as ed (sym g.none_refuses i) m at n (g.front_is i)
+  pub drafted : (d : List ℕ) → Ok d ≡ draft_of ed l x → (m : List ℕ) (at n : ℕ) → appended_as ed 0 m at n d ≡ numbers_appended ed m at n l x
+  unfolding numbers_appended
+  drafted d e m at n = let g = draft_good ed l x d e in λ i. appended_as ed (sym g.0 i) m at n (g.1 i)
 
   -- ---- of a message that is refused no byte counts
   module _ (m : List ℕ) (at n : ℕ) where

@@ -2,7 +2,7 @@
 // leaves every byte as it was.
 #![tactic(auto)]
 
-ghost use Rattle.std.specs.Prelude.{◌≡◌, ◌+◌, ◌≤◌, length, take, leb};
+ghost use Rattle.std.specs.Prelude.{◌≡◌, ◌<◌, ◌+◌, ◌≤◌, length, take, leb};
 ghost use Rattle.std.proofs.lemmas.List.Edits.{sets};
 ghost use Rattle.trips.specs.Records.{record_bytes, length_first};
 ghost use Rattle.writer.specs.Append.{writing, put, so_far, room_number, message_number, Numbered, own_number, unless, appended_as, appended, numbers_appended, packet_appended};
@@ -10,6 +10,7 @@ ghost use Rattle.writer.specs.Append.{writing, put, so_far, room_number, message
 use editions::Edition;
 use fields::Refusal;
 use packet::Why;
+use wire::Number;
 
 // Whether a head and n bytes fit behind those that are used. No sum of them need fit.
 fn room_for(room: usize, head: usize, used: usize, n: usize) -> bool
@@ -62,11 +63,12 @@ fn so_far(e: Edition, memory: &[u8], used: usize) -> Result<usize, Why>
 
 // The record's bytes, from a place on.
 fn put_record(memory: &mut [u8], at: usize, number: u64, body: &[u8])
-    requires { at + (10 + length body.now) ≤ length memory.old }
+    requires room { at + (10 + length body.now) ≤ length memory.old }
+    requires small { length body.now < 65536 }
     ensures { memory.new ≡ sets memory.old at (record_bytes number body.now) }
 {
-    wire::put_le(memory, at, 8, number);
-    wire::put_le(memory, at + 8, 2, body.len() as u64);
+    number.put(memory, at);
+    (body.len() as u16).put(memory, at + 8);
     wire::put_at(memory, at + 10, body);
 }
 
@@ -118,22 +120,22 @@ pub fn append_numbers(
     ensures { writing result memory.new ≡ numbers_appended e memory.old used number n.now t.now }
 {
     match numbers::draft_of(e, n, t) {
-        Ok(d) => append_as(e, memory, used, number, Ok(()), &d.bytes[..d.len]),
+        Ok(d) => append_as(e, memory, used, number, Ok(()), d.body()),
         Err(r) => append_as(e, memory, used, number, Err(r), &[]),
     }
 }
 
 // The packet behind its length, where it fits.
 fn put_packet(memory: &mut [u8], used: usize, p: &[u8]) -> Result<usize, Why>
+    requires { length p.now < 65536 }
     ensures { writing result memory.new ≡ put (room_number (length memory.old) (used + length (length_first p.now))) memory.old used (length_first p.now) }
 {
-    let n = p.len();
-    if !room_for(memory.len(), 2, used, n) {
+    if !room_for(memory.len(), 2, used, p.len()) {
         return Err(Why::Alone(Refusal { number: 32 }));
     }
-    wire::put_le(memory, used, 2, n as u64);
+    (p.len() as u16).put(memory, used);
     wire::put_at(memory, used + 2, p);
-    Ok(used + (2 + n))
+    Ok(used + (2 + p.len()))
 }
 
 // A packet behind a recording so far: refused by 32, then as reading refuses the packet, then by 32.

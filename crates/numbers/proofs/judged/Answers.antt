@@ -18,6 +18,9 @@ slice_bounds-judge-end c =
     let whole : length c.args.bytes ≡ 42 = search rules in
     sym (length-take-le _ c.args.bytes (omega (arith, c.length_of-len.ensures, length_most (get_or c.args.bytes 0 0))))
 
+pub invariant_of-result : goal.invariant_of-result
+invariant_of-result c = omega (arith, c.length_of-len.ensures, length_most (get_or c.args.bytes 0 0))
+
 pub returns-in-Ok : goal.returns-in-Ok
 returns-in-Ok c = held_good c.args.e c.args.bytes _ c.length_of-len.ensures _ (sym c.judge.ensures ∙ c.in-Ok.is)
 

@@ -4,5 +4,5 @@ use native.Mathlib.Omega.{arith}
 use Rattle.numbers.proofs.Held.{no_type}
 use Rattle.numbers.proofs.kind_in.Goals as goal
 
-pub returns : goal.returns
-returns c = no_type c.args.v (omega arith)
+pub returns-in-Err : goal.returns-in-Err
+returns-in-Err c = no_type c.args.v (omega (arith, c.in-Err.ensures))

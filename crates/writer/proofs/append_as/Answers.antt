@@ -31,7 +31,9 @@ returns-in_err-allowed c =
     ∙ good_here _ _ c.args.memory.now c.args.used _ _ c.if-memory-used.false (sym c.so_far.ensures ∙ c.in_ok-so_far.was)
 
 pub put_record-requires : goal.put_record-requires
-put_record-requires c = (allowed (message_number c.args.message) c.args.number (length c.args.memory.now) (c.args.used + (10 + length c.args.body.now)) (unless_ok _ _ (sym c.allowed.ensures ∙ c.in_ok-allowed.was))).in_room
+put_record-requires c =
+    let a = allowed (message_number c.args.message) c.args.number (length c.args.memory.now) (c.args.used + (10 + length c.args.body.now)) (unless_ok _ _ (sym c.allowed.ensures ∙ c.in_ok-allowed.was)) in
+    record { room = a.in_room; small = omega (arith, a.in_packet) }
 
 pub overflow_add-result-2 : goal.overflow_add-result-2
 overflow_add-result-2 c = omega (arith, (allowed (message_number c.args.message) c.args.number (length c.args.memory.now) (c.args.used + (10 + length c.args.body.now)) (unless_ok _ _ (sym c.allowed.ensures ∙ c.in_ok-allowed.was))).in_packet)

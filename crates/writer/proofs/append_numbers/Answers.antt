@@ -3,13 +3,9 @@
 use mathlib.Core.Path.{refl, sym, ap, ◌∙◌}
 use Prim.Native.Nat.{ℕ}
 use Rattle.facts.specs.Pick.{pick}
-use Rattle.numbers.proofs.Held.{draft_good}
 use Rattle.writer.specs.Append.{appended_as}
 use Rattle.writer.proofs.Numbers.{drafted, undrafted, refused_so, numbered}
 use Rattle.writer.proofs.append_numbers.Goals as goal
-
-pub shared_ref_as_front-append_as : goal.shared_ref_as_front-append_as
-shared_ref_as_front-append_as c = (draft_good c.args.e c.args.n.now c.args.t.now c.in-Ok.d (sym c.in-Ok.is ∙ c.draft_of.ensures)).short
 
 pub append_as-requires : goal.append_as-requires
 unfolding pick
@@ -19,7 +15,7 @@ pub append_as-requires-in-Err : goal.append_as-requires-in-Err
 append_as-requires-in-Err c = (numbered _ _ (refused_so c.args.e c.args.n.now c.args.t.now _ (sym c.in-Err.is ∙ c.draft_of.ensures))).1
 
 pub returns-in-Ok : goal.returns-in-Ok
-returns-in-Ok c = c.append_as.ensures ∙ drafted c.args.e c.args.n.now c.args.t.now c.in-Ok.d (sym c.in-Ok.is ∙ c.draft_of.ensures) c.args.memory.now c.args.used c.args.number
+returns-in-Ok c = c.append_as.ensures ∙ ap (appended_as c.args.e 0 c.args.memory.now c.args.used c.args.number) c.body.ensures ∙ drafted c.args.e c.args.n.now c.args.t.now c.in-Ok.d (sym c.in-Ok.is ∙ c.draft_of.ensures) c.args.memory.now c.args.used c.args.number
 
 pub returns-in-Err : goal.returns-in-Err
 returns-in-Err c =

@@ -18,4 +18,4 @@ pub overflow_add-result-2 : goal.overflow_add-result-2
 overflow_add-result-2 c = omega (arith, leb-true (c.args.used + (2 + length c.args.p.now)) (length c.args.memory.now) (sym c.room_for.ensures ∙ not-false c.room_for.result c.if-not-room_for.false-raw))
 
 pub returns : goal.returns
-returns c = put_packet_stored c.args.memory.now c.args.used c.args.p.now _ _ (sym c.room_for.ensures ∙ not-false c.room_for.result c.if-not-room_for.false-raw) c.put_le.ensures c.put_at.ensures
+returns c = put_packet_stored c.args.memory.now c.args.used c.args.p.now _ _ (sym c.room_for.ensures ∙ not-false c.room_for.result c.if-not-room_for.false-raw) c.put.ensures c.put_at.ensures
