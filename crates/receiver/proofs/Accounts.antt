@@ -24,10 +24,18 @@ use Rattle.receiver.specs.Demand3.{Reported}
 use Rattle.receiver.specs.declared.Account.{Account}
 use Rattle.std.specs.Prelude.{Ok, Err}
 use Rattle.packet.specs.declared.Why.{Why}
+use Rattle.packet.specs.Packet.{framing, read_packet}
+use Rattle.packet.proofs.Good.{refused_framing, bad_framing}
+use Rattle.editions.specs.declared.Edition.{Edition}
 
 pub next_most : (n : ℕ) → next_ok n ≡ true → n ≤ last_number + 1
 unfolding next_ok
 next_most n h = leb-true n (last_number + 1) (both_true {a = leb 1 n} {b = leb n (last_number + 1)} h).1
+
+-- a packet that its reader refuses is refused for the same
+pub framed_bad : (ed : Edition) (p : List ℕ) (w : Why) → read_packet ed p ≡ Err w → framing ed p ≡ bad w
+framed_bad ed p (Why.Alone r) e = refused_framing ed p r e
+framed_bad ed p (Why.Placed f) e = bad_framing ed p f e
 
 module _ (P : Parts) where
   abbrev S : Store

@@ -2,6 +2,7 @@ pub mod PartsLaws
 pub mod Exits
 pub mod Direct
 pub mod Records
+pub mod Steps
 pub mod Accounts
 pub mod Fits
 pub mod Demand

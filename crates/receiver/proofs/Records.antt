@@ -1,14 +1,12 @@
 -- One record of a packet, and the loop over a packet's records: what is left of the records, from here, gives the end.
 -- Assumes nothing.
 use Prim.Native.Nat.{ℕ, ◌+◌, ◌≤◌, ◌<◌}
-use mathlib.Core.Path.{◌≡◌, sym, ap, subst, ◌∙◌}
+use mathlib.Core.Path.{◌≡◌, refl, sym, ap, subst, ◌∙◌}
 use mathlib.Core.List.{List}
 use native.Mathlib.Omega.{arith}
 use lib.ListN.{length, drop}
 use Rattle.facts.specs.Limits.{packet_most}
 use Rattle.editions.specs.declared.Edition.{Edition}
-use mathlib.Core.Bool.{true}
-use Rattle.body.specs.Read.{good_body}
 use Rattle.body.proofs.Laws.{good_fits}
 use Rattle.packet.specs.Record.{head_of, body_of, rec_of}
 use Rattle.packet.specs.declared.Head.{Head}
@@ -16,14 +14,15 @@ use Rattle.packet.specs.Packet.{frames_from, framing}
 use Rattle.packet.proofs.Laws.{GoodRec}
 use Rattle.packet.proofs.Good.{Step, step, step_end, framing_size}
 use Rattle.arbitration.specs.Engine.{Engine, Store}
-use Rattle.arbitration.specs.Receive.{State, records_of, judged, acted}
+use Rattle.arbitration.specs.Receive.{State, records_of, judged, acted, after}
 use Rattle.arbitration.specs.Receive as theory
 use Rattle.arbitration.specs.Loops.{counted, total, Working, working, work}
 use Rattle.arbitration.specs.Lists.{Bounded}
 use Rattle.arbitration.specs.declared.Counts.{Counts}
 use Rattle.arbitration.proofs.Answers.{after_next}
-use Rattle.arbitration.proofs.Tallies.{working_of, work_step, work_end}
+use Rattle.arbitration.proofs.Tallies.{work_step, work_end}
 use Rattle.receiver.specs.Lent.{answer_of, GoodPacket}
+use Rattle.receiver.specs.AtWork.{Good}
 use Rattle.receiver.specs.declared.Answer.{Answer}
 use Rattle.wire.specs.Records.{Rec, records, rec}
 
@@ -38,12 +37,24 @@ module _ (S : Store) (E : Engine) where
   abbrev W : Type 0
   W = Working S E
 
-  -- a record answered d: the state after it, and the counts with one more
-  pub offered : (c : Rec) (w : W) (a d : Answer) → a ≡ d → (r : State S E) (t : Counts) → answer_of a ≡ judged S E c w.rx → t ≡ counted (answer_of a) w.counts → r ≡ acted S E (answer_of d) c w.rx
-      → ◌≡◌ {A = W} (record { rx = r; counts = t }) (working S E c w)
-  offered c w a d q r t e f g =
-      let n : t ≡ counted (answer_of d) w.counts = f ∙ ap (λ (x : Answer). counted (answer_of x) w.counts) q in
-      (λ i. record { rx = g i; counts = n i }) ∙ sym (working_of S E c w (answer_of d) (sym e ∙ ap answer_of q))
+  -- a record answered a: the state after it
+  pub offered : (c : Rec) (r : State S E) (a : Answer) → answer_of a ≡ judged S E c r → acted S E (answer_of a) c r ≡ after S E c r
+  unfolding after
+  offered c r a e = ap (λ (j : theory.Answer). acted S E j c r) e
+
+  -- only a taken record changes anything
+  pub unchanged : (c : Rec) (r : State S E) (a : Answer) → (a ≡ Answer.Taken → ⊥) → acted S E (answer_of a) c r ≡ r
+  unchanged c r Answer.Taken n = absurd (n refl)
+  unchanged c r Answer.Old n = refl
+  unchanged c r Answer.TooFar n = refl
+  unchanged c r Answer.Repeated n = refl
+  unchanged c r Answer.Differing n = refl
+
+  -- and with the counts that have one answer more
+  pub answered : (c : Rec) (w : W) (r : State S E) (a : theory.Answer) (t : Counts) → r ≡ after S E c w.rx → a ≡ judged S E c w.rx → t ≡ counted a w.counts → ◌≡◌ {A = W} (record { rx = r; counts = t }) (working S E c w)
+  answered c w r a t e f g =
+      let n : t ≡ counted (judged S E c w.rx) w.counts = g ∙ ap (λ (j : theory.Answer). counted j w.counts) f in
+      λ i. record { rx = e i; counts = n i }
 
   -- a record raises next by at most 64 and the counts by one
   pub worked_bounds : (c : Rec) (w w' : W) → w' ≡ working S E c w → (w'.rx.next ≤ w.rx.next + 64) × (total w'.counts ≤ total w.counts + 1)
@@ -86,10 +97,10 @@ module _ (ed : Edition) (p : List ℕ) (at n : ℕ) (inside_p : at < length p) (
   next_frames = behind_is ∙ ap records (sym left_is)
 
   -- what a record of a good packet needs to be taken
-  pub next_good : (h : Head) (b : List ℕ) → h ≡ head_of (drop at p) → b ≡ body_of (drop at p) → (1 ≤ h.number) × Bounded (rec h.number b) × (good_body ed b ≡ true)
+  pub next_good : (h : Head) (b : List ℕ) → h ≡ head_of (drop at p) → b ≡ body_of (drop at p) → Good ed (rec h.number b)
   next_good h b e f =
       let g : GoodRec ed (rec h.number b) = subst (GoodRec ed) (sym (same_record p at h b e f)) walk.good in
-      (g.number_from, good_bounded ed (rec h.number b) g, g.body_good)
+      record { number_from = g.number_from; bounded = good_bounded ed (rec h.number b) g; body_good = g.body_good }
 
   module _ (S : Store) (E : Engine) where
     pub next_works : (w w' end : Working S E) → work S E (left_from ed p at) w ≡ end → w' ≡ working S E (rec_of (drop at p)) w → work S E (left_from ed p (at + (10 + n))) w' ≡ end

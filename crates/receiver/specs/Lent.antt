@@ -18,14 +18,11 @@ use Rattle.index.specs.Index.{built}
 use Rattle.engines.specs.Engines.{good_index}
 use Rattle.arbitration.specs.Engine.{Engine}
 use Rattle.arbitration.specs.Receive as theory
-use Rattle.arbitration.specs.Loops.{Working}
-use Rattle.arbitration.specs.declared.Counts.{Counts}
 use Rattle.shelf.specs.Shelf.{good_shelf}
 use Rattle.shelf.specs.Store.{shelf_store}
 use Rattle.receiver.specs.Parts.{Rules, Parts, engine_of}
 use Rattle.receiver.specs.Receiver as generic
 use Rattle.receiver.specs.declared.State.{State}
-use Rattle.receiver.specs.declared.Place.{Place}
 use Rattle.receiver.specs.declared.Answer.{Answer}
 use Rattle.packet.specs.declared.Why.{Why}
 use Rattle.fields.specs.declared.Refusal.{Refusal}
@@ -178,7 +175,3 @@ answer_of Answer.Differing = theory.differing
 pub record GoodPacket (ed : Edition) (p : List ℕ) : Type 0 where
   pub cs : List Rec
   pub framing_is : framing ed p ≡ records cs
-
--- the work of a packet: where it stands, and the answers so far
-abbrev pub working_of : (ed : Edition) → Place → Counts → List ℕ → List ℕ → List ℕ → List ℕ → Working shelf_store (ledger_engine ed)
-working_of ed a t o s h ix = record { rx = rx a.next a.clock o s h ix; counts = t }

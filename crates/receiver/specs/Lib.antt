@@ -6,3 +6,4 @@ pub mod Chosen
 pub mod Order
 pub mod Undefined
 pub mod Engines
+pub mod AtWork

@@ -26,8 +26,7 @@ received_number (Err (Why.Placed f)) = f.number
 
 -- "Demand 1 reads "number and offset" for these four" (request 5): a refused packet is told as its reader tells it
 abbrev pub refused_by : Why → Result Account Why
-refused_by (Why.Alone r) = Err (Why.Alone r)
-refused_by (Why.Placed f) = Err (Why.Placed f)
+refused_by w = Err w
 
 -- a receiver with what it is lent: the next number, the shelf, the book; the stop of its last accepted packet; and its edition, which is "chosen at start" (request 10): no packet changes it
 pub record Keeps (Shelf Book : Type 0) : Type 0 where
