@@ -65,13 +65,13 @@ impl From<u8> for Kind {
     }
 }
 
-// The length that the table gives a type, 0 where it has no such type. All pairs are looked at, from the last to the first, so that no
-// branch hangs on the type.
+// The length that the table gives a type, 0 where it has no such type. All pairs are looked at, since no type is in two of them, so that
+// no branch hangs on the type.
 pub fn length_of(t: u8) -> usize
     ensures { result ≡ length_of t }
 {
     let mut n = 0;
-    for m in TABLE.iter().rev() {
+    for m in TABLE {
         if m.code == t {
             n = m.len as usize;
         }

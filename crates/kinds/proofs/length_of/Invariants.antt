@@ -1,10 +1,10 @@
--- Each turn takes one pair more off the end of those that are left: the search of the pairs behind them has found n.
+-- The walk of the pairs that are left, with the length found so far, finds what the walk of all finds.
 -- Assumes nothing.
 use mathlib.Core.Path.{◌≡◌}
-use mathlib.Core.List.{List, ◌++◌}
-use Rattle.kinds.specs.Table.{lookup, table}
-use Rattle.kinds.specs.declared.Pair.{Pair}
+use lib.ListN.{drop}
+use Rattle.kinds.specs.Table.{table}
+use Rattle.kinds.proofs.Laws.{walked}
 use Rattle.kinds.proofs.length_of.Given as goal
 
 abbrev pub invariant-loop-m : goal.invariant-loop-m
-invariant-loop-m l = (seen : List Pair) × ((table ≡ l.m-iterator.iter.rest.now ++ seen) × (l.n ≡ lookup l.t seen))
+invariant-loop-m l = walked l.t l.n (drop l.m-index table) ≡ walked l.t 0 table
