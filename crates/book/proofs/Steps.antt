@@ -141,10 +141,10 @@ other_part (cancel m) = refl
 pub part_update : {m : Body} → Group m → part_of m ≡ the_symbols → m ≡ Body.SymbolUpdate
 unfolding part_of
 part_update update q = refl
-part_update (time s) q = let z : ◌≡◌ {A = ℕ} 0 1 = cc in absurd (omega arith)
-part_update (names x) q = let y : the_orders ≡ the_symbols = sym (names_part x) ∙ q in let z : ◌≡◌ {A = ℕ} 0 1 = cc in absurd (omega arith)
-part_update (other x) q = let y : no_part ≡ the_symbols = sym (other_part x) ∙ q in let z : ◌≡◌ {A = ℕ} 0 1 = cc in absurd (omega arith)
-part_update (refused r) q = let z : ◌≡◌ {A = ℕ} 0 1 = cc in absurd (omega arith)
+part_update (time s) q = cc
+part_update (names x) q = cc (names_part x)
+part_update (other x) q = cc (other_part x)
+part_update (refused r) q = cc
 
 -- ---- the plan of each
 module _ (n : ℕ) (b : List ℕ) (c : Clock) (f : Finds) where

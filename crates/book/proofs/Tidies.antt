@@ -63,6 +63,6 @@ module _ (ed : Edition) (n : ℕ) (b : List ℕ) (k : Book) (ranked : 1 ≤ n) (
           let e = part_update (group_of (read_body ed b)) q in
           let w = update_done ed n b k e z in
           ap ids_in (ap entries w.table_is ∙ entries_put k.symbols w.place b) ∙ ids_kept b (entries k.symbols) w.place w.found (update_used ed b e) t.packed
-      go the_orders q = same (λ e. let y : the_orders ≡ the_symbols = sym q ∙ e in let x : ◌≡◌ {A = ℕ} 0 1 = cc in omega arith)
-      go the_second q = same (λ e. let y : the_second ≡ the_symbols = sym q ∙ e in let x : ◌≡◌ {A = ℕ} 0 1 = cc in omega arith)
-      go no_part q = same (λ e. let y : no_part ≡ the_symbols = sym q ∙ e in let x : ◌≡◌ {A = ℕ} 0 1 = cc in omega arith)
+      go the_orders q = same (λ e. cc)
+      go the_second q = same (λ e. cc)
+      go no_part q = same (λ e. cc)

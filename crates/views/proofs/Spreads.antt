@@ -63,8 +63,8 @@ between_none (b ∷ bs) = refl
 pub sides : (s : ℕ) (rs : List Row) (z : ℤ) (bs : List ℕ) → prices (key_of Side.Buy s) rs ≡ bs → All (λ p. p ≤ most_price) bs
     → (os : List ℕ) → prices (key_of Side.Sell s) rs ≡ os → All (λ p. p ≤ most_price) os → between bs os ≡ Some z → Sides s rs z
 unfolding between
-sides s rs z [] p h os q l f = let x : ◌≡◌ {A = ℕ} 0 1 = cc in absurd (omega arith)
-sides s rs z (b ∷ bs) p h [] q l f = let x : ◌≡◌ {A = ℕ} 0 1 = cc in absurd (omega arith)
+sides s rs z [] p h os q l f = cc
+sides s rs z (b ∷ bs) p h [] q l f = cc
 sides s rs z (b ∷ bs) p h (a ∷ os) q l f =
     let e : z ≡ pos a -ℤ pos b = cc in
     record {
