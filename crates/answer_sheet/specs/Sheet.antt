@@ -60,7 +60,7 @@ level_value l = marked_of l.price 32 ++ (marked_of l.shares 32 ++ decimal_of l.o
 
 -- "bid=10000000 150 2"
 unfoldable pub level_line : Side → ℕ → Level → Line
-level_line side id l = record { key = side_key side; value = level_value l; about = level id side l.price }
+level_line side id l = record { key = side_key side; value = level_value l; about = Some (level id side l.price) }
 
 -- "up to ten levels a side"
 unfoldable pub levels_shown : ℕ
