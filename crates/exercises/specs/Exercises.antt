@@ -1,6 +1,6 @@
 -- What an exercise is: a receiver is started, gets packets and is asked, and each question stands with its known result. What the definitions of the
 -- other crates answer is worked out beside it.
-use Rattle.std.specs.Prelude.{ℕ, suc, ◌+◌, ◌*◌, List, [], ◌∷◌, Bool, ltb, eqb, ℤ, pos, negsuc, get_or, Option, Some, None, Result, Ok, Err}
+use Rattle.std.specs.Prelude.{ℕ, ◌+◌, ◌*◌, List, [], ◌∷◌, Bool, ltb, eqb, ℤ, pos, neg_ℤ, get_or, Option, Some, None, Result, Ok, Err}
 use Rattle.facts.specs.Limits.{shelf_size}
 use Rattle.facts.specs.Pick.{pick, both}
 use Rattle.facts.specs.Same.{same_bytes}
@@ -36,10 +36,15 @@ pub data Ask : Type 0 where
   -- what eight bytes say as a price, whatever came before
   price : List ℕ → Ask
 
--- what is answered: a number, a number below zero, a refusal in an answer's place, or nothing
-pub data Told : Type 0 where
-  number minus refusal_by : ℕ → Told
-  nothing : Told
+-- what is answered: a number, or nothing; or the number of a refusal in an answer's place
+abbrev pub Told : Type 0
+Told = Result (Option ℤ) ℕ
+
+abbrev pub number : ℕ → Told
+number n = Ok (Some (pos n))
+
+abbrev pub nothing : Told
+nothing = Ok None
 
 -- what happens in an exercise
 pub data Step : Type 0 where
@@ -56,7 +61,7 @@ abbrev pub ◌is◌ : Ask → ℕ → Step
 a is n = result a (number n)
 
 abbrev pub ◌is_minus◌ : Ask → ℕ → Step
-a is_minus n = result a (minus n)
+a is_minus n = result a (Ok (Some (neg_ℤ (pos n))))
 
 -- no such order is live
 abbrev pub gone : ℕ → Step
@@ -91,8 +96,8 @@ goes_on w p = now w.last.after (received w.last.after p)
 -- a number of an account; a refused packet has none
 unfoldable pub of_account : (Account → ℕ) → Result Account Why → Told
 of_account f (Ok a) = number (f a)
-of_account f (Err (Why.Alone r)) = refusal_by r.number
-of_account f (Err (Why.Placed b)) = refusal_by b.number
+of_account f (Err (Why.Alone r)) = Err r.number
+of_account f (Err (Why.Placed b)) = Err b.number
 
 unfoldable pub place_of : Result Account Why → Told
 place_of (Ok a) = nothing
@@ -128,14 +133,9 @@ ahead_in a None b g rs = nothing
 unfoldable pub ahead_of : ℕ → ℕ → List Row → Told
 ahead_of a b rs = ahead_in a (find_order a rs) b (find_order b rs) rs
 
-unfoldable pub signed : ℤ → Told
-signed (pos n) = number n
-signed (negsuc n) = minus (suc n)
-
 unfoldable pub of_spread : Result (Option ℤ) Refusal → Told
-of_spread (Ok (Some z)) = signed z
-of_spread (Ok None) = nothing
-of_spread (Err r) = refusal_by r.number
+of_spread (Ok z) = Ok z
+of_spread (Err r) = Err r.number
 
 -- what the definitions answer
 unfoldable pub answer_to : Ask → Now → Told
