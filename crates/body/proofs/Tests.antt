@@ -48,8 +48,11 @@ unfolding pick
 last true at l = refl
 last false at l = rw (ne_eqb at 0 (λ e. omega arith)) refl
 
+field_told : (t : Bool) (at : ℕ) (r : Result (Unit {0}) Fault) (n : ℕ) → 0 < at → r ≡ told n → pick t r (bad at) ≡ told (pick t n at)
+field_told t at r n l e = ap (λ (q : Result (Unit {0}) Fault). pick t q (bad at)) e ∙ first t n at l
+
 deal_last : (p z : Bool) (at : ℕ) → 0 < at → pick p (tested z (at + 8)) (bad at) ≡ told (pick p (pick z 0 (at + 8)) at)
-deal_last p z at l = ap (λ (r : Result (Unit {0}) Fault). pick p r (bad at)) (last z (at + 8) (omega arith)) ∙ first p (pick z 0 (at + 8)) at l
+deal_last p z at l = field_told p at _ _ l (last z (at + 8) (omega arith))
 
 -- the tests of price and size at a place
 abbrev pub deal_tested : List ℕ → ℕ → Result (Unit {0}) Fault
@@ -57,9 +60,6 @@ deal_tested b at = pick (price_ok (field b at 8)) (tested (size_ok (field b (at 
 
 abbrev pub stamp_tested : List ℕ → Result (Unit {0}) Fault → Result (Unit {0}) Fault
 stamp_tested b r = pick (nanos_ok (field b 1 4)) r (Err (bad_at 4 1))
-
-behind_stamp : (b : List ℕ) (r : Result (Unit {0}) Fault) (n : ℕ) → r ≡ told n → stamp_tested b r ≡ told (pick (nanos_ok (field b 1 4)) n 1)
-behind_stamp b r n e = ap (stamp_tested b) e ∙ first (nanos_ok (field b 1 4)) n 1 (omega arith)
 
 module _ (ed : Edition) (b : List ℕ) where
   -- nothing is judged
@@ -77,7 +77,7 @@ module _ (ed : Edition) (b : List ℕ) where
   stamp_judged k (inr (inr (inr e))) = rw e (last (nanos_ok (field b 1 4)) 1 (omega arith))
 
   deal_told : (at : ℕ) → 0 < at → stamp_tested b (deal_tested b at) ≡ told (pick (nanos_ok (field b 1 4)) (pick (price_ok (field b at 8)) (pick (size_ok (field b (at + 8) 4)) 0 (at + 8)) at) 1)
-  deal_told at l = behind_stamp b _ _ (deal_last (price_ok (field b at 8)) (size_ok (field b (at + 8) 4)) at l)
+  deal_told at l = field_told (nanos_ok (field b 1 4)) 1 _ _ (omega arith) (deal_last (price_ok (field b at 8)) (size_ok (field b (at + 8) 4)) at l)
 
   -- Timestamp, price and size
   pub modify_judged : stamp_tested b (deal_tested b 17) ≡ judge_fields ed Kind.Modify b
@@ -97,13 +97,12 @@ module _ (ed : Edition) (b : List ℕ) where
   pub add_judged : stamp_tested b (pick (side_ok (get_or b 17 0)) (deal_tested b 18) (Err (bad_at 4 17))) ≡ judge_fields ed Kind.Add b
   unfolding judge_fields fault_of fault_from pick
   add_judged =
-      let deal = deal_last (price_ok (field b 18 8)) (size_ok (field b 26 4)) 18 (omega arith) in
-      behind_stamp b _ _ (ap (λ (r : Result (Unit {0}) Fault). pick (side_ok (get_or b 17 0)) r (bad 17)) deal ∙ first (side_ok (get_or b 17 0)) _ 17 (omega arith))
+      field_told (nanos_ok (field b 1 4)) 1 _ _ (omega arith)
+      (field_told (side_ok (get_or b 17 0)) 17 _ _ (omega arith) (deal_last (price_ok (field b 18 8)) (size_ok (field b 26 4)) 18 (omega arith)))
 
   pub update_judged : stamp_tested b (pick (security_ok ed (get_or b 20 0)) (pick (test_ok (get_or b 21 0)) (tested (market_ok (get_or b 41 0)) 41) (Err (bad_at 4 21))) (Err (bad_at 4 20))) ≡ judge_fields ed Kind.SymbolUpdate b
   unfolding judge_fields fault_of fault_from pick
   update_judged =
-      let market = last (market_ok (get_or b 41 0)) 41 (omega arith) in
-      let test = ap (λ (r : Result (Unit {0}) Fault). pick (test_ok (get_or b 21 0)) r (bad 21)) market ∙ first (test_ok (get_or b 21 0)) _ 21 (omega arith) in
-      let security = ap (λ (r : Result (Unit {0}) Fault). pick (security_ok ed (get_or b 20 0)) r (bad 20)) test ∙ first (security_ok ed (get_or b 20 0)) _ 20 (omega arith) in
-      behind_stamp b _ _ security
+      field_told (nanos_ok (field b 1 4)) 1 _ _ (omega arith)
+      (field_told (security_ok ed (get_or b 20 0)) 20 _ _ (omega arith)
+      (field_told (test_ok (get_or b 21 0)) 21 _ _ (omega arith) (last (market_ok (get_or b 41 0)) 41 (omega arith))))

@@ -20,10 +20,11 @@ pub fn nanos_ok(n: u32) -> bool
     n <= facts::MOST_NANOS
 }
 
+#[tactic(auto, unfolding(crate::specs::Ranges::side_ok, crate::specs::Ranges::one_of, facts::specs::Pick::either))]
 pub fn side_ok(x: u8) -> bool
     ensures { result ≡ side_ok x }
 {
-    x == b'B' || x == b'S'
+    matches!(x, b'B' | b'S')
 }
 
 pub fn price_ok(n: u64) -> bool
@@ -39,36 +40,29 @@ pub fn size_ok(n: u32) -> bool
 }
 
 // In 1.3 byte 20 of a Symbol Update is judged; from 1.3.a on it is reserved.
+#[tactic(auto, unfolding(crate::specs::Ranges::security_ok, crate::specs::Ranges::one_of, facts::specs::Pick::either))]
 pub fn security_ok(e: Edition, x: u8) -> bool
     ensures { result ≡ security_ok e x }
 {
     match e {
-        Edition::V13 => x == b'E' || x == b'F',
+        Edition::V13 => matches!(x, b'E' | b'F'),
         Edition::V13b => true,
     }
 }
 
+#[tactic(auto, unfolding(crate::specs::Ranges::test_ok, crate::specs::Ranges::one_of, facts::specs::Pick::either))]
 pub fn test_ok(x: u8) -> bool
     ensures { result ≡ test_ok x }
 {
-    x == b'Y' || x == b'N'
+    matches!(x, b'Y' | b'N')
 }
 
-// Whether x is one of the letters from first to last.
-fn in_range(x: u8, first: u8, last: u8) -> bool
-    ensures { result ≡ both (leb first x) (leb x last) }
-{
-    first <= x && x <= last
-}
-
-// The eighteen market letters stand in four ranges of the alphabet, none asked before another.
+// The eighteen market letters stand in four ranges of the alphabet.
+#[tactic(auto, using(crate::proofs::Markets::a_to_c, crate::proofs::Markets::h_to_n, crate::proofs::Markets::p_to_q, crate::proofs::Markets::u_to_z, crate::proofs::Markets::no_letter))]
 pub fn market_ok(x: u8) -> bool
     ensures { result ≡ market_ok x }
 {
-    in_range(x, b'A', b'C')
-        | in_range(x, b'H', b'N')
-        | in_range(x, b'P', b'Q')
-        | in_range(x, b'U', b'Z')
+    matches!(x, b'A'..=b'C' | b'H'..=b'N' | b'P'..=b'Q' | b'U'..=b'Z')
 }
 
 // Refuses a body by 4 at a field whose test fails.

@@ -3,10 +3,15 @@
 use mathlib.Core.Path.{◌≡◌, refl, ap, sym, ◌∙◌, subst}
 use mathlib.Core.List.{List, []}
 use mathlib.Core.Bool.{true, false}
-use mathlib.Core.Logic.{inl, inr}
+use mathlib.Core.Logic.{◌⊎◌, inl, inr}
 use Prim.Native.Nat.{ℕ, zero, suc, ◌+◌, ◌-◌, ◌≤◌, ◌<◌}
 use native.Mathlib.Nat.{add-sub_cancel_left, add-zero, zero-add, add_assoc}
 use native.Mathlib.Omega.{arith}
+use native.Mathlib.Decide.{dec_lt}
+use Rattle.std.proofs.Common.{Bor}
+use Rattle.std.specs.Prelude.{Option, Some, None, MatchOption}
+use Rattle.std.specs.Option.{unwrap_or}
+use Rattle.std.specs.List.{slice_range}
 use borrow.Author.Tests.{ltb-true, ltb-false, leb-true, lt-ltb, le-ltb, le-leb, lt-leb}
 use lib.ListN.{length, take, drop, length-drop, drop_of_length-le}
 use lib.Seq.{take_all, take-nil, drop-drop, length-take-le}
@@ -16,7 +21,6 @@ use Rattle.facts.specs.Pick.{pick, both}
 use Rattle.facts.proofs.Picks.{pick_ind, both_true}
 use Rattle.editions.specs.declared.Edition.{Edition}
 use Rattle.wire.specs.Le.{field}
-use Rattle.wire.proofs.Laws.{field_past}
 use Rattle.wire.specs.Records.{Rec, bad, records}
 use Rattle.fields.specs.Fields.{refusal, bad_at}
 use Rattle.fields.specs.declared.Fault.{Fault}
@@ -37,12 +41,6 @@ use Rattle.packet.specs.declared.Head.{Head}
 pub rest : (p : List ℕ) (at : ℕ) → take (length p - at) (drop at p) ≡ drop at p
 rest p at = take_all (length p - at) (drop at p) (rw length-drop (omega arith))
 
--- past the end there is no number and no length
-pub head_past : (p : List ℕ) (at : ℕ) → length p ≤ at → ◌≡◌ {A = Head} (record { number = 0; len = 0 }) (head_of (drop at p))
-head_past p at h =
-    let n : length (drop at p) ≤ 0 = rw length-drop (omega arith) in
-    λ i. record { number = sym (field_past (drop at p) 0 8 n) i; len = sym (field_past (drop at p) 8 2 (omega arith)) i }
-
 -- a body of n bytes, as the code cuts it out of the packet
 pub body_part : (p : List ℕ) (at n : ℕ) → n ≡ field (drop at p) 8 2 → take n (drop (at + 10) p) ≡ body_of (drop at p)
 unfolding body_of
@@ -58,8 +56,11 @@ body_past p at h =
     let e : drop (at + 10) p ≡ [] = drop_of_length-le p {i = at + 10} h in
     sym (sym (body_part p at (field (drop at p) 8 2) refl) ∙ ap (take (field (drop at p) 8 2)) e ∙ take-nil (field (drop at p) 8 2))
 
-pub body_short : (p : List ℕ) (at n : ℕ) → n ≡ field (drop at p) 8 2 → length p - (at + 10) < n → drop (at + 10) p ≡ body_of (drop at p)
-body_short p at n e h = sym (take_all n (drop (at + 10) p) (rw length-drop (omega arith))) ∙ body_part p at n e
+-- n bytes of what is left, or all of it where there are fewer
+pub part_or_all : (o : Option (Bor (List ℕ))) (b : Bor (List ℕ)) (n : ℕ) → MatchOption o ((n < 0) ⊎ (length b.now < n)) (λ x. (0 ≤ n) × (n ≤ length b.now) × (x.now ≡ slice_range b.now 0 n) × (length x.now + 0 ≡ n)) → (unwrap_or o b).now ≡ take n b.now
+part_or_all None b n (inl h) = absurd (omega (arith, h))
+part_or_all None b n (inr h) = sym (take_all n b.now (omega (arith, h)))
+part_or_all (Some x) b n h = let z : n - 0 ≡ n = omega arith in h.2 ∙ ap (λ (k : ℕ). take k b.now) z
 
 -- ---- "the offset in the packet": what each level adds where its part starts
 pub shift_shift : (m n : ℕ) (f : Fault) → shifted m (shifted n f) ≡ shifted (m + n) f
@@ -107,6 +108,13 @@ module _ (ed : Edition) (t : List ℕ) (h : Head) (e : h ≡ head_of t) (a : 10 
     -- a place in it lies within what is left, or at its end
     pub judged_inside : (f : Fault) → Err f ≡ judge_body ed (take (10 + h.len - 10) (drop 10 t)) → 10 + f.at ≤ length t
     judged_inside f q = omega (arith, judged_within ed (take (10 + h.len - 10) (drop 10 t)) f q, length-take-le (10 + h.len - 10) (drop 10 t) (rw length-drop (omega arith)))
+
+pub no_room_read : (ed : Edition) (t : List ℕ) (h : Head) → h ≡ head_of t → length t < 10 + h.len → bad_record 2 ≡ read_record ed t
+no_room_read ed t h e l = go (dec_lt (length t) 10)
+  where
+    go : Dec (length t < 10) → bad_record 2 ≡ read_record ed t
+    go (yes a) = short_header ed t a
+    go (no a) = short_body ed t h e (omega (arith, a)) (omega (arith, a, l))
 
 -- a record that is whole, with a good number, is judged by its body
 pub whole_record : (ed : Edition) (t : List ℕ) → 10 + (head_of t).len ≤ length t → number_ok (head_of t).number ≡ true → read_record ed t ≡ body_judged (judge_body ed (body_of t)) (head_of t)

@@ -47,36 +47,30 @@ pub fn number_ok(n: u64) -> bool
     1 <= n && n <= facts::LAST_NUMBER
 }
 
+// What is left of bytes from a place on, none past the end.
+fn behind(p: &[u8], at: usize) -> &[u8]
+    ensures { result.now ≡ drop at p.now }
+{
+    p.get(at..).unwrap_or(&[])
+}
+
 // Number and length at a place of a packet, whatever stands there.
 pub fn head_at(p: &[u8], at: usize) -> Head
     ensures { result ≡ head_of (drop at p.now) }
 {
-    if p.len() <= at {
-        return Head { number: 0, len: 0 };
-    }
-    let t = &p[at..];
+    let t = behind(p, at);
     Head {
         number: u64::at(t, 0),
         len: u16::at(t, 8) as usize,
     }
 }
 
-// The body of the record at a place of a packet: the part behind its ten header bytes.
+// The body of the record at a place of a packet: the part behind its ten header bytes, as long as the header says or to the end.
 pub fn body_at(p: &[u8], at: usize) -> &[u8]
     ensures { result.now ≡ body_of (drop at p.now) }
 {
-    let n = head_at(p, at).len;
-    if p.len() < 10 {
-        return &p[0..0];
-    }
-    if p.len() - 10 < at {
-        return &p[0..0];
-    }
-    let from = at + 10;
-    if p.len() - from < n {
-        return &p[from..];
-    }
-    &p[from..from + n]
+    let body = behind(behind(p, at), 10);
+    body.get(..head_at(p, at).len).unwrap_or(body)
 }
 
 // What is bad at a place of a part that starts n bytes further on.
@@ -95,13 +89,13 @@ pub fn read_record(e: Edition, t: &[u8]) -> Result<Head, Fault>
     ensures { result ≡ read_record e t.now }
 {
     let h = head_at(t, 0);
-    if t.len() < 10 || t.len() - 10 < h.len {
+    let Some(body) = t.get(10..10 + h.len) else {
         return Err(Fault { number: 2, at: 0 });
-    }
+    };
     if !number_ok(h.number) {
         return Err(Fault { number: 5, at: 0 });
     }
-    match body::judge(e, &t[10..10 + h.len]) {
+    match body::judge(e, body) {
         Ok(()) => Ok(h),
         Err(f) => Err(shifted(10, f)),
     }

@@ -1,33 +1,47 @@
 -- The tests on the way to each answer are those of the laws of 2, 5, and what the body's judge says.
 -- Assumes nothing.
 use mathlib.Core.Path.{sym, ap, ◌∙◌}
-use Rattle.fields.specs.declared.Fault.{Fault}
-use Rattle.std.specs.Prelude.{Err}
+use mathlib.Core.Logic.{inl, inr}
 use native.Mathlib.Omega.{arith}
 use borrow.Author.Tests.{not-true, not-false}
+use Rattle.wire.proofs.Laws.{field_below}
+use Rattle.fields.specs.declared.Fault.{Fault}
+use Rattle.std.specs.Prelude.{Err}
+use Rattle.body.specs.Read.{judge_body, judged}
 use Rattle.body.proofs.Codes.{told_good, told_bad}
 use Rattle.packet.specs.Record.{body_judged}
-use Rattle.packet.proofs.Laws.{short_header, short_body, wrong_number, record_judged, judged_inside}
-use Rattle.packet.proofs.read_record.Goals.{then-t-lt10-via-then-t-lt10, then-t-lt10-via-else-t-lt10+then-t-h}
+use Rattle.packet.specs.declared.Head.{Head}
+use Rattle.packet.proofs.Laws.{no_room_read, wrong_number, record_judged, judged_inside}
 use Rattle.packet.proofs.read_record.Goals as goal
 
-pub returns-then-t-lt10 : goal.returns-then-t-lt10
-returns-then-t-lt10 c =
-    elim c.then-t-lt10.branch [
-      | then-t-lt10-via-then-t-lt10 w ↦ short_header c.args.e c.args.t.now w.if-t-lt10.true
-      | then-t-lt10-via-else-t-lt10+then-t-h w ↦ short_body c.args.e c.args.t.now c.head_at-h.result c.head_at-h.ensures w.if-t-lt10.false w.if-t-h.true
-    ]
+pub overflow_add-h : goal.overflow_add-h
+overflow_add-h c = omega (arith, ap (λ (h : Head). h.len) c.head_at-h.ensures, field_below c.args.t.now (λ i. (c.type_inv.t i).fits) 8 2)
+
+pub returns-in_default : goal.returns-in_default
+returns-in_default c = elim c.in_default.ensures.lookup.0 [ inl l ↦ absurd (omega (arith, l)) | inr l ↦ no_room_read c.args.e c.args.t.now c.head_at-h.result c.head_at-h.ensures l ]
 
 pub returns-then-not-number_ok : goal.returns-then-not-number_ok
-returns-then-not-number_ok c = wrong_number c.args.e c.args.t.now c.head_at-h.result c.head_at-h.ensures c.if-t-lt10.false c.if-t-h.false (sym c.number_ok.ensures ∙ not-true c.number_ok.result c.if-not-number_ok.true-raw)
+returns-then-not-number_ok c =
+    let s = c.in-Some.ensures.lookup.0 in
+    wrong_number c.args.e c.args.t.now c.head_at-h.result c.head_at-h.ensures (omega (arith, s.1)) (omega (arith, s.1)) (sym c.number_ok.ensures ∙ not-true c.number_ok.result c.if-not-number_ok.true-raw)
 
 pub shifted-requires : goal.shifted-requires
-shifted-requires c = omega (arith, judged_inside c.args.e c.args.t.now c.head_at-h.result c.head_at-h.ensures c.if-t-lt10.false c.if-t-h.false _ (told_bad _ _ (sym c.judge.ensures ∙ c.in-Err.is)))
+shifted-requires c =
+    let s = c.in-Some.ensures.lookup.0 in
+    let j = c.judge.ensures ∙ ap (λ b. judged (judge_body c.args.e b)) s.2 in
+    omega (arith, judged_inside c.args.e c.args.t.now c.head_at-h.result c.head_at-h.ensures (omega (arith, s.1)) (omega (arith, s.1)) _ (told_bad _ _ (sym j ∙ c.in-Err.is)))
 
 pub returns-in-Ok : goal.returns-in-Ok
 unfolding body_judged
-returns-in-Ok c = let k = told_good _ _ (sym c.judge.ensures ∙ c.in-Ok.is) in record_judged c.args.e c.args.t.now c.head_at-h.result c.head_at-h.ensures c.if-t-lt10.false c.if-t-h.false (sym c.number_ok.ensures ∙ not-false c.number_ok.result c.if-not-number_ok.false-raw) _ k.1
+returns-in-Ok c =
+    let s = c.in-Some.ensures.lookup.0 in
+    let j = c.judge.ensures ∙ ap (λ b. judged (judge_body c.args.e b)) s.2 in
+    let k = told_good _ _ (sym j ∙ c.in-Ok.is) in
+    record_judged c.args.e c.args.t.now c.head_at-h.result c.head_at-h.ensures (omega (arith, s.1)) (omega (arith, s.1)) (sym c.number_ok.ensures ∙ not-false c.number_ok.result c.if-not-number_ok.false-raw) _ k.1
 
 pub returns-in-Err : goal.returns-in-Err
 unfolding body_judged
-returns-in-Err c = ap (λ (f : Fault). Err f) c.shifted.ensures ∙ record_judged c.args.e c.args.t.now c.head_at-h.result c.head_at-h.ensures c.if-t-lt10.false c.if-t-h.false (sym c.number_ok.ensures ∙ not-false c.number_ok.result c.if-not-number_ok.false-raw) _ (told_bad _ _ (sym c.judge.ensures ∙ c.in-Err.is))
+returns-in-Err c =
+    let s = c.in-Some.ensures.lookup.0 in
+    let j = c.judge.ensures ∙ ap (λ b. judged (judge_body c.args.e b)) s.2 in
+    ap (λ (f : Fault). Err f) c.shifted.ensures ∙ record_judged c.args.e c.args.t.now c.head_at-h.result c.head_at-h.ensures (omega (arith, s.1)) (omega (arith, s.1)) (sym c.number_ok.ensures ∙ not-false c.number_ok.result c.if-not-number_ok.false-raw) _ (told_bad _ _ (sym j ∙ c.in-Err.is))
