@@ -31,8 +31,7 @@ record Alike (x y : Standing) : Type 0 where
 noted_alike : (a : Result Account Why) (l l' : Lent) (x y : Standing) → SameRuns l l' → Alike x y → Alike (noted a l x) (noted a l' y)
 unfolding noted
 noted_alike (Ok a) l l' x y r h = record { bad_same = h.bad_same; last_same = h.last_same; totals_same = ap (added a.counts) h.totals_same; runs_same = r }
-noted_alike (Err (Why.Alone q)) l l' x y r h = record { bad_same = ap (λ (n : ℕ). more n 1) h.bad_same; last_same = refl; totals_same = h.totals_same; runs_same = r }
-noted_alike (Err (Why.Placed f)) l l' x y r h = record { bad_same = ap (λ (n : ℕ). more n 1) h.bad_same; last_same = refl; totals_same = h.totals_same; runs_same = r }
+noted_alike (Err w) l l' x y r h = record { bad_same = ap (λ (n : ℕ). more n 1) h.bad_same; last_same = refl; totals_same = h.totals_same; runs_same = r }
 
 heard_alike : (p : List ℕ) (x y : Standing) → Alike x y → Alike (heard p x) (heard p y)
 unfolding heard pick done done_all

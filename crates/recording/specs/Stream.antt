@@ -39,10 +39,13 @@ abbrev pub refused_for : Fault → Lent → Standing → Standing
 refused_for f after k = standing (more k.bad 1) f k.totals after
 
 -- by number and offset (request 5), and with offset 0 where the number stands alone
+abbrev pub placed : Why → Fault
+placed (Why.Alone r) = bad_at r.number 0
+placed (Why.Placed f) = f
+
 unfoldable pub noted : Result Account Why → Lent → Standing → Standing
 noted (Ok a) after k = standing k.bad k.last (added a.counts k.totals) after
-noted (Err (Why.Alone r)) after k = refused_for (bad_at r.number 0) after k
-noted (Err (Why.Placed f)) after k = refused_for f after k
+noted (Err w) after k = refused_for (placed w) after k
 
 -- "A packet is 1 to 1,500 bytes": a longer one is refused by 1, unread
 abbrev pub too_long : Standing → Standing
