@@ -2,16 +2,15 @@
 -- Assumes nothing.
 use Prim.Native.Nat.{ℕ, zero, suc, ◌+◌, ◌*◌, ◌/◌, ◌-◌, ◌≤◌, ◌<◌, min, max}
 use mathlib.Core.Path.{◌≡◌, refl, sym, ap, ◌∙◌}
-use mathlib.Core.Logic.{◌≢◌, ◌⊎◌, inl, inr}
+use mathlib.Core.Logic.{◌≢◌}
 use mathlib.Core.List.{List, [], ◌∷◌, ◌++◌, append_assoc, append-nil}
 use mathlib.Core.Bool.{Bool, true, false, ◌&&◌}
 use lib.Dec.{eqb}
 use lib.Pointwise.{pointwise}
-use lib.ListN.{length, get_or, take, drop, replicate, length-append, length-drop, drop_of_length-le, get_or-eq_default}
+use lib.ListN.{length, get_or, take, drop, replicate, length-append, length-drop, drop_of_length-le}
 use lib.Seq.{sets, take_at, drop_at, take-take, length-take-le, drop-drop, sets-eq}
 use native.Mathlib.Nat.{add-sub_cancel_left}
 use native.Mathlib.Omega.{arith}
-use native.Mathlib.Decide.{dec_lt}
 use borrow.Author.Tests.{eqb-true, eq-eqb, ne_eqb}
 use Rattle.facts.specs.Limits.{shelf_size}
 use Rattle.facts.specs.Pick.{both}
@@ -19,7 +18,7 @@ use Rattle.std.proofs.Common.{add-one}
 use Rattle.std.specs.Simd.{first_chunks}
 use Rattle.std.proofs.lemmas.List.{take_min}
 use Rattle.facts.specs.Pieces.{cut, pieces}
-use Rattle.facts.proofs.PieceLaws.{length_pieces, get_or_pieces, length_piece, piece_fits, put_in, put_out, pieces_replicate}
+use Rattle.facts.proofs.PieceLaws.{length_piece, piece_fits, put_in, put_out, pieces_replicate}
 use Rattle.wire.specs.Le.{le, to_le, field, padded}
 use Rattle.wire.proofs.Laws.{length_padded, padded_part, length_to_le, stored_behind}
 use Rattle.facts.specs.Same.{same_bytes}
@@ -38,21 +37,6 @@ chunks_cut w (suc n) t = ap (λ (l : List (List ℕ)). take w t ∷ l) (chunks_c
 pub chunks_pieces : (t : List ℕ) → first_chunks slot_size (length t / slot_size) t ≡ pieces slot_size t
 unfolding pieces
 chunks_pieces t = chunks_cut slot_size (length t / slot_size) t
-
--- ---- the bytes of a slot, as the code cuts them out
-pub slot_in : (t : List ℕ) (i : ℕ) → i < length t / 74 → take (74 * i + 74 - 74 * i) (drop (74 * i) t) ≡ get_or (pieces slot_size t) i []
-slot_in t i h = rw (add-sub_cancel_left (74 * i) 74) (sym (get_or_pieces slot_size t i [] h))
-
-pub slot_past : (t : List ℕ) (i : ℕ) → length t / 74 ≤ i → [] ≡ get_or (pieces slot_size t) i []
-slot_past t i h = sym (get_or-eq_default (pieces slot_size t) [] (rw length_pieces h))
-
--- slots_64, or none
-slot_cases : (t : List ℕ) (i : ℕ) → (length (get_or (pieces slot_size t) i []) ≡ 74) ⊎ ([] ≡ get_or (pieces slot_size t) i [])
-slot_cases t i = go (dec_lt i (length t / slot_size))
-  where
-    go : Dec (i < length t / slot_size) → (length (get_or (pieces slot_size t) i []) ≡ 74) ⊎ ([] ≡ get_or (pieces slot_size t) i [])
-    go (yes h) = inl (ap length (get_or_pieces slot_size t i [] h) ∙ length_piece slot_size t i h)
-    go (no h) = inr (slot_past t i (omega arith))
 
 -- ---- what is read of them
 module _ (t : List ℕ) (i : ℕ) (x : List ℕ) (is : x ≡ get_or (pieces slot_size t) i []) where

@@ -14,6 +14,7 @@ use wire::Number;
 // The bytes of a slot.
 const SLOT: usize = 74;
 
+#[tactic(auto, unfolding(crate::specs::Shelf::good_shelf))]
 pub fn good_shelf(n: usize) -> bool
     ensures { result ≡ good_shelf n }
 {
@@ -21,6 +22,7 @@ pub fn good_shelf(n: usize) -> bool
 }
 
 // The slots of a shelf, as they lie in it.
+#[tactic(auto, using(crate::proofs::Laws::chunks_pieces))]
 fn slots(s: &[u8]) -> &[[u8; SLOT]]
     ensures { result.now ≡ pieces slot_size s.now }
 {
@@ -38,12 +40,14 @@ fn slot(s: &[u8], i: usize) -> &[u8]
     }
 }
 
+#[tactic(auto, using(crate::proofs::Laws::number_is))]
 pub fn slot_number(s: &[u8], i: usize) -> u64
     ensures { result ≡ (slot_at s.now i).number }
 {
     u64::at(slot(s, i), 0)
 }
 
+#[tactic(auto, using(crate::proofs::Laws::len_is))]
 pub fn slot_len(s: &[u8], i: usize) -> usize
     ensures { result ≡ (slot_at s.now i).len }
 {
@@ -84,6 +88,7 @@ fn write(x: &mut [u8], number: u64, body: &[u8])
 }
 
 // Stores the slot of a message. Of a body longer than 64 bytes (no good one is) the first 64 are stored, beside its length modulo 65,536.
+#[tactic(auto, using(crate::proofs::Laws::part_put, crate::proofs::Laws::put_past, wire::proofs::Laws::length_padded))]
 pub fn put(s: &mut [u8], i: usize, number: u64, body: &[u8])
     ensures { s.new ≡ put_slot s.old i (slot_for number body.now) }
 {
@@ -104,6 +109,7 @@ pub fn empty(s: &mut [u8], i: usize)
 }
 
 // The largest number in any of the 64 slots, 0 if none.
+#[tactic(auto, using(crate::proofs::Laws::highest_next), unfolding(arbitration::specs::Receive::highest))]
 pub fn highest(s: &[u8]) -> u64
     ensures { result ≡ highest_number shelf_store 64 s.now }
 {
