@@ -9,9 +9,10 @@ use native.Mathlib.Nat.{add-sub_cancel_left, add-zero, zero-add, add_assoc}
 use native.Mathlib.Omega.{arith}
 use native.Mathlib.Decide.{dec_lt}
 use Rattle.std.proofs.Common.{Bor}
-use Rattle.std.specs.Prelude.{Option, Some, None, MatchOption}
+use Rattle.std.specs.Prelude.{Option, Some, None, MatchOption, MatchResult, IsErrAnd}
 use Rattle.std.specs.Option.{unwrap_or}
 use Rattle.std.specs.List.{slice_range}
+use Rattle.std.proofs.lemmas.Result.{err_from_is_err_and}
 use borrow.Author.Tests.{ltb-true, ltb-false, leb-true, lt-ltb, le-ltb, le-leb, lt-leb}
 use lib.ListN.{length, take, drop, length-drop, drop_of_length-le}
 use lib.Seq.{take_all, take-nil, drop-drop, length-take-le}
@@ -76,6 +77,23 @@ later_later m n (Why.Placed f) = ap Why.Placed (shift_shift m n f)
 later_none : (w : Why) → later 0 w ≡ w
 later_none (Why.Alone r) = refl
 later_none (Why.Placed f) = ap Why.Placed (shift_none f)
+
+-- an answer of a part that starts n bytes further on, as it is mapped
+abbrev pub moved : {T : Type 0} → ℕ → Result T Fault → Result T Fault
+moved n (Ok x) = Ok x
+moved n (Err f) = Err (shifted n f)
+
+pub mapped : {T : Type 0} (n : ℕ) (j m : Result T Fault) (Q : Fault → Fault → Type 0) → MatchResult j (λ x. m ≡ Ok x) (λ f. IsErrAnd m (Q f)) → ((f g : Fault) → Q f g → g ≡ shifted n f) → m ≡ moved n j
+mapped n (Ok x) m Q h k = h
+mapped n (Err f) m Q h k = let p = err_from_is_err_and m h in p.1 ∙ ap (λ (g : Fault). Err g) (k f p.0 p.2)
+
+pub moved_ok : {T : Type 0} (n : ℕ) (j : Result T Fault) (x : T) → moved n j ≡ Ok x → j ≡ Ok x
+moved_ok n (Ok y) x e = e
+moved_ok n (Err f) x e = let z : ◌≡◌ {A = ℕ} 0 1 = cc in absurd (omega arith)
+
+pub moved_err : {T : Type 0} (n : ℕ) (j : Result T Fault) (g : Fault) → moved n j ≡ Err g → (f : Fault) × (j ≡ Err f) × (g ≡ shifted n f)
+moved_err n (Ok x) g e = let z : ◌≡◌ {A = ℕ} 0 1 = cc in absurd (omega arith)
+moved_err n (Err f) g e = let q : shifted n f ≡ g = cc in (f, refl, sym q)
 
 -- ---- a record is judged by 2, 5, 3, 4: each is told whatever stands behind it
 pub short_header : (ed : Edition) (t : List ℕ) → length t < 10 → bad_record 2 ≡ read_record ed t

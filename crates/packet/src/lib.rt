@@ -95,10 +95,8 @@ pub fn read_record(e: Edition, t: &[u8]) -> Result<Head, Fault>
     if !number_ok(h.number) {
         return Err(Fault { number: 5, at: 0 });
     }
-    match body::judge(e, body) {
-        Ok(()) => Ok(h),
-        Err(f) => Err(shifted(10, f)),
-    }
+    body::judge(e, body).map_err(|f| shifted(10, f))?;
+    Ok(h)
 }
 
 // Judges a whole packet of an edition: 1, then its records from the front.
@@ -111,13 +109,9 @@ pub fn read_packet(e: Edition, p: &[u8]) -> Result<usize, Why>
     let mut at: usize = 0;
     let mut records: usize = 0;
     while at < p.len() {
-        match read_record(e, &p[at..]) {
-            Ok(h) => {
-                at += 10 + h.len;
-                records += 1;
-            }
-            Err(f) => return Err(Why::Placed(shifted(at, f))),
-        }
+        let h = read_record(e, &p[at..]).map_err(|f| shifted(at, f))?;
+        at += 10 + h.len;
+        records += 1;
     }
     Ok(records)
 }
