@@ -24,7 +24,7 @@ use Rattle.views.specs.declared.Level.{Level}
 use Rattle.views.specs.declared.Side.{Side}
 use Rattle.std.specs.Prelude.{Result, Ok}
 use Rattle.fields.specs.declared.Refusal.{Refusal}
-use Rattle.views.proofs.Theorems.{level_stands}
+use Rattle.views.proofs.Theorems.{level_stands, run_length}
 use Rattle.views.proofs.ViewLaws.{no_fault}
 use Rattle.text.specs.Text.{line_of, first_texts}
 use Rattle.answer_sheet.specs.Keys.{side_key}
@@ -101,3 +101,10 @@ module _ (side : Side) (id : ℕ) (orders symbols o : List ℕ) (f : view_fault 
       let c : m ≡ length ls = (let w = sym q ∙ ladder_told in cc) in
       ap (λ (x : LadderOut). first_texts (λ i. line_of key (level_value (level_at x.run i))) n) told
       ∙ run_lines side id key k ls o n l (h ∙ ap (λ (x : ℕ). min levels_shown x) c)
+
+  -- and the levels that are shown lie in the run
+  pub run_fits : (m n : ℕ) → a ≡ Ok m → length o ≡ 30 → n ≡ min levels_shown m → 3 * n ≤ length u
+  unfolding levels_shown
+  run_fits m n q l h =
+      let r : length u ≡ 30 = ap (λ (x : LadderOut). length x.run) told ∙ (run_length (ladder (key_of side id) (rows orders)) o ∙ l) in
+      omega arith
