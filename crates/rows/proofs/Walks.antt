@@ -3,21 +3,20 @@
 use mathlib.Core.Path.{◌≡◌, refl, sym, ap, ◌∙◌}
 use mathlib.Core.List.{List, [], ◌∷◌, map}
 use mathlib.Core.Bool.{Bool, true, false}
-use Prim.Native.Nat.{ℕ, suc, ◌+◌, ◌*◌, ◌-◌, ◌≤◌, ◌<◌}
-use native.Mathlib.Nat.{sub-zero, add-zero, add_assoc}
+use Prim.Native.Nat.{ℕ, suc, ◌+◌, ◌*◌, ◌≤◌, ◌<◌}
+use native.Mathlib.Nat.{sub-zero}
 use native.Mathlib.Numerals.{add-one}
 use native.Mathlib.Omega.{arith}
-use lib.ListN.{length, get_or, drop, length-drop}
-use Rattle.std.proofs.lemmas.List.{take_all, drop-map}
-use Rattle.std.specs.Prelude.{position, cond, filter, option_map}
-use Rattle.std.specs.List.{position_from, slice_range}
+use lib.ListN.{length, get_or, drop}
+use Rattle.std.specs.Prelude.{position, cond, filter}
+use Rattle.std.specs.List.{position_from}
 use Rattle.std.proofs.lemmas.Iterator.Adapters.{position_from-zero}
 use Rattle.facts.specs.Pick.{pick}
 use Rattle.facts.specs.Search.{first}
 use Rattle.facts.specs.Sums.{sum_by, only_if, count_by}
 use Rattle.std.specs.Prelude.{Some, None}
 use Rattle.facts.proofs.Lists.{map_to, map_more, map_all}
-use Rattle.facts.proofs.Searches.{first_end, first_at}
+use Rattle.facts.proofs.Searches.{first_hit, first_miss, first_end, first_at}
 use Rattle.facts.proofs.SumLaws.{sum_step, sum_end, sum_bound, only_bound}
 use Rattle.facts.proofs.CountLaws as counts
 use Rattle.rows.specs.declared.Row.{Row}
@@ -28,6 +27,12 @@ use Rattle.rows.proofs.Judged.{live_ranges}
 
 -- ---- searches: a walk at row i, and where a found row lies
 module _ (p : Row → Bool) (t : List ℕ) (i : ℕ) where
+  pub row_hit : i < row_count t → p (get_or (rows t) i zero_row) ≡ true → first p i (drop i (rows t)) ≡ Some i
+  row_hit h e = first_hit p (rows t) i zero_row (rw length_rows h) e
+
+  pub row_miss : i < row_count t → p (get_or (rows t) i zero_row) ≡ false → first p i (drop i (rows t)) ≡ first p (i + 1) (drop (i + 1) (rows t))
+  row_miss h e = first_miss p (rows t) i zero_row (rw length_rows h) e
+
   pub row_end : row_count t ≤ i → first p i (drop i (rows t)) ≡ None
   row_end h = first_end p (rows t) i (rw length_rows h)
 
@@ -48,14 +53,6 @@ unfolding pick
 pick_cond true x y = refl
 pick_cond false x y = refl
 
-shifted : {A : Type 0} (t : A → Bool) (i k : ℕ) (xs : List A) → position_from t (i + k) xs ≡ option_map (λ n. i + n) (position_from t k xs)
-shifted t i k [] = refl
-shifted t i k (x ∷ xs) = go (t x) (rw (add_assoc i k 1) (shifted t i (k + 1) xs))
-  where
-    go : (b : Bool) → position_from t (i + k + 1) xs ≡ option_map (λ n. i + n) (position_from t (k + 1) xs) → cond b (Some (i + k)) (position_from t (i + k + 1) xs) ≡ option_map (λ n. i + n) (cond b (Some k) (position_from t (k + 1) xs))
-    go true h = refl
-    go false h = h
-
 module _ {A B : Type 0} (p : B → Bool) (f : A → B) where
   from_position : (i : ℕ) (xs : List A) → first p i (map f xs) ≡ position_from (λ x. p (f x)) i xs
   unfolding first
@@ -64,11 +61,6 @@ module _ {A B : Type 0} (p : B → Bool) (f : A → B) where
 
   pub first_position : (xs : List A) → first p 0 (map f xs) ≡ position (λ x. p (f x)) xs
   first_position xs = from_position 0 xs ∙ sym (position_from-zero (λ x. p (f x)) xs)
-
-  pub later_position : (s : ℕ) (xs : List A) → first p s (map f xs) ≡ option_map (λ n. s + n) (position (λ x. p (f x)) xs)
-  later_position s xs =
-      let z : position_from (λ x. p (f x)) s xs ≡ position_from (λ x. p (f x)) (s + 0) xs = rw add-zero in
-      from_position s xs ∙ z ∙ shifted (λ x. p (f x)) s 0 xs ∙ ap (option_map (λ n. s + n)) (sym (position_from-zero (λ x. p (f x)) xs))
 
 counted : {A B : Type 0} (p : B → Bool) (f : A → B) (xs : List A) → length (filter (λ x. p (f x)) xs) ≡ sum_by (only_if p (λ x. 1)) (map f xs)
 unfolding sum_by only_if pick
@@ -82,10 +74,6 @@ counted p f (x ∷ xs) = go (p (f x)) (counted p f xs)
 pub live_filtered : (xs : List (List ℕ)) → length (filter (λ x. live (row_of x)) xs) ≡ count_live (map row_of xs)
 unfolding count_live count_by
 live_filtered xs = counted live row_of xs
-
--- the rows from row s on, of their numbers from there to the end
-pub rows_left : (xs : List (List ℕ)) (s : ℕ) → map row_of (slice_range xs s (length xs)) ≡ drop s (map row_of xs)
-rows_left xs s = ap (λ (x : List (List ℕ)). map row_of x) (take_all (length xs - s) (drop s xs) (simp length-drop (omega arith))) ∙ sym (drop-map row_of s xs)
 
 -- ---- sums and counts: a walk at row i
 module _ (f : Row → ℕ) (t : List ℕ) (i : ℕ) where
