@@ -1,4 +1,4 @@
--- What is answered is handed on, case by case; an offset is one of reading, and small.
+-- An offset in what a conversion answers is one of reading, and small.
 -- Assumes nothing.
 use Prim.Native.Nat.{ℕ, ◌≤◌}
 use mathlib.Core.Path.{◌≡◌, refl, sym, ap, ◌∙◌}
@@ -22,9 +22,7 @@ use Rattle.retype.specs.Types.{whole_exceptions, types_ok}
 use Rattle.retype.specs.Retyped.{Asked}
 use Rattle.conversion.specs.Packet.{Conversion, conversion, converted_by, judged_first, converted}
 use Rattle.conversion.specs.Piece.{Turned, turned, pieced_number}
-use Rattle.api.specs.Conversions.{convert_call, convert_code, updates_given, convert_answer, counts_given, piece_answer}
 
--- ---- a packet
 Small : Conversion → Type 0
 Small x = (f : Fault) → x.answer ≡ Err (Why.Placed f) → f.at ≤ packet_most
 
@@ -46,17 +44,3 @@ convert_small from a p =
     pick_ind Small (whole_exceptions (length a.others)) _ _
     (λ _. pick_ind Small (types_ok a.to a.all a.others) _ _ (λ _. by_small from a p (framing from p) refl) (λ _. refused_small 4 p))
     (λ _. refused_small 6 p)
-
--- r is what the library answered, which is k, and q the packet after it
-pub convert_told : (r k : Result ℕ Why) (q : List ℕ) (v : Conversion) → r ≡ k → conversion r q ≡ v → (l : List ℕ) → convert_call (convert_code k) q (updates_given k l) ≡ convert_answer v l
-unfolding convert_answer
-convert_told r k q v e h l = ap (λ (x : Result ℕ Why). convert_call (convert_code x) q (updates_given x l)) (sym e) ∙ ap (λ (x : Conversion). convert_answer x l) h
-
--- the number is what the call that makes it told of a fault
-pub convert_bad : (r : Result ℕ Why) (f : Fault) (q : List ℕ) (v : Conversion) → r ≡ Err (Why.Placed f) → conversion r q ≡ v → (l : List ℕ) (n : ℕ) → n ≡ with_offset f → convert_call n q l ≡ convert_answer v l
-convert_bad r f q v e h l n g = ap (λ (y : ℕ). convert_call y q l) g ∙ convert_told r (Err (Why.Placed f)) q v e h l
-
--- ---- a piece
-pub piece_told : (r k : Result (ℕ × Tally) Refusal) (q : List ℕ) (v : Turned) → r ≡ k → turned r q ≡ v → (l : List ℕ) → convert_call (pieced_number k) q (counts_given k l) ≡ piece_answer v l
-unfolding piece_answer
-piece_told r k q v e h l = ap (λ (x : Result (ℕ × Tally) Refusal). convert_call (pieced_number x) q (counts_given x l)) (sym e) ∙ ap (λ (x : Turned). piece_answer x l) h

@@ -3,7 +3,7 @@
 use mathlib.Core.Path.{sym, ◌∙◌}
 use native.Mathlib.Omega.{arith}
 use Rattle.body.proofs.Places.{judged_small}
-use Rattle.api.proofs.Handing.{body_refused, body_told}
+use Rattle.api.proofs.Bodies.{body_refused, body_told}
 use Rattle.api.proofs.rimeheath_body.Goals as goal
 
 pub with_offset-requires : goal.with_offset-requires

@@ -1,17 +1,17 @@
+-- The number and the Symbol Updates of a conversion; an offset is one of reading, and small.
+-- Assumes nothing.
 use mathlib.Core.Path.{sym, ap, ◌∙◌}
-use native.Mathlib.Omega.{arith}
 use Rattle.conversion.specs.Packet.{Conversion}
-use Rattle.api.proofs.Converting.{convert_small, convert_told, convert_bad}
+use Rattle.api.specs.Conversions.{convert_answer}
+use Rattle.api.proofs.Converting.{convert_small}
+use Rattle.api.proofs.Telling.{code_told, small_err}
 use Rattle.api.proofs.rimeheath_convert.Goals as goal
 
-pub with_offset-requires : goal.with_offset-requires
-with_offset-requires c = omega (arith, convert_small _ _ _ _ (sym (ap (λ (x : Conversion). x.answer) c.convert.ensures) ∙ c.in-Err.is))
+pub code-requires : goal.code-requires
+code-requires c = rw c.store.ensures.done (small_err _ (λ f e. convert_small _ _ _ f (sym (ap (λ (x : Conversion). x.answer) c.convert-converted.ensures) ∙ e)))
 
-pub returns-in-Refused : goal.returns-in-Refused
-returns-in-Refused c = convert_told _ _ _ _ c.in-Refused.is (rw (c.from-f.ensures, c.from-t.ensures) at c.convert.ensures) _
-
-pub returns-in-Err : goal.returns-in-Err
-returns-in-Err c = convert_bad _ _ _ _ c.in-Err.is (rw (c.from-f.ensures, c.from-t.ensures) at c.convert.ensures) _ _ c.with_offset.ensures
-
-pub returns-in-Ok : goal.returns-in-Ok
-returns-in-Ok c = convert_told _ _ _ _ c.in-Ok.is (rw (c.from-f.ensures, c.from-t.ensures) at c.convert.ensures) c.args.updates.now
+pub returns : goal.returns
+unfolding convert_answer
+returns c =
+    rw (c.code.ensures, c.store.ensures.done, code_told, c.store.ensures.lent)
+    (ap (λ (x : Conversion). convert_answer x c.args.updates.now) (rw (c.from.ensures, c.from-2.ensures) at c.convert-converted.ensures))

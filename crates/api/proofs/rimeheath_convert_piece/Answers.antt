@@ -1,8 +1,13 @@
-use Rattle.api.proofs.Converting.{piece_told}
+-- The number and the counts of a piece.
+-- Assumes nothing.
+use mathlib.Core.Path.{ap}
+use Rattle.conversion.specs.Piece.{Turned}
+use Rattle.api.specs.Conversions.{piece_answer}
+use Rattle.api.proofs.Telling.{code_told, piece_code}
 use Rattle.api.proofs.rimeheath_convert_piece.Goals as goal
 
-pub returns-in-Refused : goal.returns-in-Refused
-returns-in-Refused c = piece_told _ _ _ _ c.in-Refused.is (rw (c.from-f.ensures, c.from-t.ensures) at c.convert_piece.ensures) _
-
-pub returns-in-Ok : goal.returns-in-Ok
-returns-in-Ok c = piece_told _ _ _ _ c.in-Ok.is (rw (c.from-f.ensures, c.from-t.ensures) at c.convert_piece.ensures) c.args.counts.now
+pub returns : goal.returns
+unfolding piece_answer
+returns c =
+    rw (c.number.ensures, c.store.ensures.done, code_told, piece_code, c.store.ensures.lent)
+    (ap (λ (x : Turned). piece_answer x c.args.counts.now) (rw (c.from.ensures, c.from-2.ensures) at c.convert_piece-turned.ensures))

@@ -1,13 +1,13 @@
--- A refused chunk leaves the stream; another tells it.
+-- The number and the stream of a chunk.
 -- Assumes nothing.
+use mathlib.Core.Path.{ap}
+use Rattle.recording.specs.Stream.{Feeding, fed_number}
 use Rattle.api.specs.Streams.{feed_answer}
-use Rattle.recording.specs.Stream.{fed_number}
-use Rattle.api.proofs.Streams.{feed_handed, feed_took}
+use Rattle.api.proofs.Telling.{code_told}
 use Rattle.api.proofs.rimeheath_feed.Goals as goal
 
-pub returns-in-Refused : goal.returns-in-Refused
+pub returns : goal.returns
 unfolding feed_answer fed_number
-returns-in-Refused c = feed_handed _ _ _ _ _ _ _ (rw c.stream_from.ensures at c.feed.ensures) c.args.stream.now _ c.in-Refused.is
-
-pub returns-in-Ok : goal.returns-in-Ok
-returns-in-Ok c = feed_took _ _ _ _ _ _ _ (rw c.stream_from.ensures at c.feed.ensures) _ _ c.in-Ok.is _ c.stream_numbers.ensures
+returns c =
+    rw (c.number.ensures, c.store.ensures.done, code_told, c.store.ensures.lent)
+    (ap (λ (f : Feeding). feed_answer f c.args.stream.now) (rw c.stream_from-from.ensures at c.feed-fed.ensures))

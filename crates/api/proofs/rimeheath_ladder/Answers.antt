@@ -1,14 +1,13 @@
--- Both answers of the ladder are handed on, and the run is the ladder's.
+-- The number, the levels and the run of the view.
 -- Assumes nothing.
-use Rattle.views.specs.Views.{ladder_number}
+use mathlib.Core.Path.{ap}
+use Rattle.views.specs.Views.{LadderOut, ladder_number}
 use Rattle.api.specs.Calls.{ladder_answer}
-use Rattle.api.proofs.Handing.{ladder_handed}
+use Rattle.api.proofs.Telling.{code_told}
 use Rattle.api.proofs.rimeheath_ladder.Goals as goal
 
-pub returns-in-Refused : goal.returns-in-Refused
+pub returns : goal.returns
 unfolding ladder_answer ladder_number
-returns-in-Refused c = ladder_handed _ _ c.in-Refused.is _ _ (rw c.side_asked.ensures at c.ladder.ensures) c.args.levels.now
-
-pub returns-in-Ok : goal.returns-in-Ok
-unfolding ladder_answer ladder_number
-returns-in-Ok c = ladder_handed _ _ c.in-Ok.is _ _ (rw c.side_asked.ensures at c.ladder.ensures) c.args.levels.now
+returns c =
+    rw (c.number.ensures, c.store.ensures.done, code_told, c.store.ensures.lent)
+    (ap (λ (v : LadderOut). ladder_answer v c.args.levels.now) (rw c.side_asked.ensures at c.ladder-ladder.ensures))

@@ -1,14 +1,13 @@
--- Both answers of the sheet are handed on, and the text is the sheet's.
+-- The number, the length and the text of the sheet.
 -- Assumes nothing.
-use Rattle.answer_sheet.specs.Sheet.{sheet_number}
+use mathlib.Core.Path.{ap}
+use Rattle.answer_sheet.specs.Sheet.{Sheet, sheet_number}
 use Rattle.api.specs.Calls.{sheet_answer}
-use Rattle.api.proofs.Handing.{sheet_handed}
+use Rattle.api.proofs.Telling.{code_told}
 use Rattle.api.proofs.rimeheath_sheet.Goals as goal
 
-pub returns-in-Refused : goal.returns-in-Refused
+pub returns : goal.returns
 unfolding sheet_answer sheet_number
-returns-in-Refused c = sheet_handed _ _ c.in-Refused.is _ _ (rw (c.state_in-s.ensures, c.word_of.ensures) at c.sheet.ensures) c.args.length.now
-
-pub returns-in-Ok : goal.returns-in-Ok
-unfolding sheet_answer sheet_number
-returns-in-Ok c = sheet_handed _ _ c.in-Ok.is _ _ (rw (c.state_in-s.ensures, c.word_of.ensures) at c.sheet.ensures) c.args.length.now
+returns c =
+    rw (c.number.ensures, c.store.ensures.done, code_told, c.store.ensures.lent)
+    (ap (λ (v : Sheet). sheet_answer v c.args.length.now) (rw (c.state_in.ensures, c.word_of.ensures) at c.sheet-sheet.ensures))

@@ -1,17 +1,15 @@
--- Each of the three answers of the spread is handed on, the number as its bits.
+-- The number and the spread of the view.
 -- Assumes nothing.
-use Rattle.views.specs.Views.{spread_number}
+use mathlib.Core.Path.{ap}
+use lib.IntN.{ℤ}
+use Rattle.std.specs.Prelude.{Option, Result}
+use Rattle.fields.specs.declared.Refusal.{Refusal}
 use Rattle.api.specs.Calls.{spread_answer}
-use Rattle.api.proofs.Handing.{spread_handed, spread_is}
+use Rattle.api.proofs.Telling.{code_told, spread_code}
 use Rattle.api.proofs.rimeheath_spread.Goals as goal
 
-pub returns-in-Refused : goal.returns-in-Refused
-unfolding spread_answer spread_number
-returns-in-Refused c = spread_handed _ _ c.spread.ensures c.args.answer.now _ c.in-Refused.is
-
-pub returns-in-Empty : goal.returns-in-Empty
-unfolding spread_answer spread_number
-returns-in-Empty c = spread_handed _ _ c.spread.ensures c.args.answer.now _ c.in-Empty.is
-
-pub returns-in-Of : goal.returns-in-Of
-returns-in-Of c = spread_is _ _ c.spread.ensures _ c.in-Of.z (record { sfits = c.in-Of.known_told-in-Of-1-own.given.0.1 }) c.in-Of.is _ c.bits_of.ensures
+pub returns : goal.returns
+unfolding spread_answer
+returns c =
+    rw (c.number.ensures, c.store.ensures.done, code_told, spread_code, c.store.ensures.lent)
+    (ap (λ (a : Result (Option ℤ) Refusal). spread_answer a c.args.answer.now) c.spread.ensures)

@@ -1,12 +1,13 @@
--- A refused start leaves the state; another tells it.
+-- The number and the state of a start.
 -- Assumes nothing.
+use mathlib.Core.Path.{ap}
+use Rattle.receiver.specs.Lent.{Begun}
 use Rattle.api.specs.Calls.{start_answer}
-use Rattle.api.proofs.Handing.{start_handed, start_ready}
+use Rattle.api.proofs.Telling.{code_told}
 use Rattle.api.proofs.rimeheath_start.Goals as goal
 
-pub returns-in-Refused : goal.returns-in-Refused
+pub returns : goal.returns
 unfolding start_answer
-returns-in-Refused c = start_handed _ _ c.in-Refused.is _ _ _ _ _ (rw c.from.ensures at c.start.ensures) c.args.state.now
-
-pub returns-in-Ok : goal.returns-in-Ok
-returns-in-Ok c = start_ready _ _ c.in-Ok.is _ _ _ _ _ (rw c.from.ensures at c.start.ensures) c.args.state.now _ c.state_numbers.ensures
+returns c =
+    rw (c.number.ensures, c.store.ensures.done, code_told, c.store.ensures.lent)
+    (ap (λ (b : Begun). start_answer b c.args.state.now) (rw c.from.ensures at c.start-started.ensures))
