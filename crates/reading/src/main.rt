@@ -6,7 +6,7 @@ ghost use Rattle.std.specs.Prelude.{length};
 ghost use Rattle.std.specs.Iterator.{at_most};
 
 use editions::Edition;
-use fields::{Body, Fault};
+use fields::{Body, Fault, Symbol};
 use kinds::Kind;
 use packet::Why;
 use std::env::Env;
@@ -177,17 +177,14 @@ fn show_records(rt: &impl Print, e: Edition, p: &[u8]) -> io::Result<()> {
 fn show_fields(rt: &impl Print, e: Edition, b: &[u8]) -> io::Result<()> {
     match body::read_body(e, b) {
         Body::SystemTime(seconds) => print!(rt; " {seconds}"),
-        Body::SymbolUpdate => show_symbol(rt, e, b),
-        Body::SystemState => {
-            let s = fields::state_of(b);
-            print!(rt;
-                " {}{} {} {}",
-                s.nanos,
-                Spaced(&s.version),
-                s.session,
-                s.status
-            )
-        }
+        Body::SymbolUpdate(m) => show_symbol(rt, m.symbol, body::security_in(e, b)),
+        Body::SystemState(m) => print!(rt;
+            " {}{} {} {}",
+            m.nanos,
+            Spaced(&m.version),
+            m.session,
+            m.status
+        ),
         Body::TradingStatus(m) => print!(rt;
             " {} {} {} {} {}",
             m.nanos, m.symbol, m.trading, m.market, m.short
@@ -219,10 +216,9 @@ fn show_fields(rt: &impl Print, e: Edition, b: &[u8]) -> io::Result<()> {
 }
 
 // The Security Type, where there is one, stands behind the ticker.
-fn show_symbol(rt: &impl Print, e: Edition, b: &[u8]) -> io::Result<()> {
-    let s = fields::symbol_of(b);
+fn show_symbol(rt: &impl Print, s: Symbol, security: Option<u8>) -> io::Result<()> {
     print!(rt; " {}{}", s.id, Spaced(&s.ticker))?;
-    if let Some(y) = body::security_in(e, b) {
+    if let Some(y) = security {
         print!(rt; " {y}")?;
     }
     print!(rt;
