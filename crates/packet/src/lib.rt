@@ -11,14 +11,14 @@ use fields::{Fault, Refusal};
 use wire::Number;
 
 // What the ten header bytes of a record say.
-#[derive(Clone, Copy)]
+#[derive(Clone, Copy, Debug, PartialEq, Eq)]
 pub struct Head {
     pub number: u64,
     pub len: usize,
 }
 
 // Why a packet, or what is read as one, is refused: by a number alone, or by number and offset.
-#[derive(Clone, Copy)]
+#[derive(Clone, Copy, Debug, PartialEq, Eq)]
 pub enum Why {
     Alone(Refusal),
     Placed(Fault),
@@ -41,6 +41,7 @@ impl From<Fault> for Why {
 }
 
 // Whether a sequence number is in range.
+#[tactic(auto, unfolding(crate::specs::Record::number_ok, facts::specs::Pick::both))]
 pub fn number_ok(n: u64) -> bool
     ensures { result ≡ number_ok n }
 {

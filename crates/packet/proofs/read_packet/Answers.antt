@@ -49,12 +49,6 @@ overflow_add-at-in-loop-at c =
     let g = at_good c.args.e c.args.p.now c.loop-at.at c.loop-at.records c.read_record.result c.loop-at-test.true c.read_record.ensures _ (moved_ok c.loop-at.at c.read_record.result _ (sym m ∙ c.in_ok-h.was)) in
     omega (arith, g.0)
 
-pub loop-at-smaller : goal.loop-at-smaller
-loop-at-smaller c =
-    let m = mapped c.loop-at.at c.read_record.result c.map_err.result _ c.map_err.ensures.cases (λ f g k. search rules) in
-    let g = at_good c.args.e c.args.p.now c.loop-at.at c.loop-at.records c.read_record.result c.loop-at-test.true c.read_record.ensures _ (moved_ok c.loop-at.at c.read_record.result _ (sym m ∙ c.in_ok-h.was)) in
-    omega (arith, g.0)
-
 pub loop-at-preserved : goal.loop-at-preserved
 loop-at-preserved c =
     let m = mapped c.loop-at.at c.read_record.result c.map_err.result _ c.map_err.ensures.cases (λ f g k. search rules) in
