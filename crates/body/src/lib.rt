@@ -14,6 +14,7 @@ use fields::{Body, Fault};
 use kinds::Kind;
 use wire::Number;
 
+#[tactic(auto, unfolding(crate::specs::Ranges::nanos_ok))]
 pub fn nanos_ok(n: u32) -> bool
     ensures { result ≡ nanos_ok n }
 {
@@ -27,12 +28,14 @@ pub fn side_ok(x: u8) -> bool
     matches!(x, b'B' | b'S')
 }
 
+#[tactic(auto, unfolding(crate::specs::Ranges::price_ok, facts::specs::Pick::both))]
 pub fn price_ok(n: u64) -> bool
     ensures { result ≡ price_ok n }
 {
     1 <= n && n <= facts::MOST_PRICE
 }
 
+#[tactic(auto, unfolding(crate::specs::Ranges::size_ok))]
 pub fn size_ok(n: u32) -> bool
     ensures { result ≡ size_ok n }
 {
@@ -66,6 +69,7 @@ pub fn market_ok(x: u8) -> bool
 }
 
 // Refuses a body by 4 at a field whose test fails.
+#[tactic(auto, unfolding(facts::specs::Pick::pick))]
 fn judge_field(at: usize, ok: bool) -> Result<(), Fault>
     ensures { result ≡ tested ok at }
 {
@@ -120,6 +124,7 @@ fn judge_stamped_deal(b: &[u8], at: usize) -> Result<(), Fault>
 }
 
 // The fields of a kind in their order: 4 at the earliest one out of range.
+#[tactic(auto, using(crate::proofs::Tests::none_judged, crate::proofs::Tests::stamp_judged, crate::proofs::Tests::modify_judged, crate::proofs::Tests::trade_judged, crate::proofs::Tests::execution_judged))]
 fn judge_fields(e: Edition, k: Kind, b: &[u8]) -> Result<(), Fault>
     ensures { result ≡ judge_fields e k b.now }
 {
@@ -157,6 +162,7 @@ pub fn judge(e: Edition, b: &[u8]) -> Result<(), Fault>
 }
 
 // The message that a good body says, or why and where it is bad.
+#[tactic(auto, unfolding(crate::specs::Read::read_body, crate::specs::Read::message))]
 pub fn read_body(e: Edition, b: &[u8]) -> Body
     ensures { result ≡ read_body e b.now }
 {
