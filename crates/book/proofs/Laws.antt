@@ -1,32 +1,25 @@
--- A rule's number is never 0, and which end of a rule holds; a message's plan by the case of its body, and what it tells of the message.
+-- A rule's number is never 0; a message's plan by the case of its body, and what it tells of the message.
 -- Assumes nothing.
-use mathlib.Core.Path.{◌≡◌, refl, sym, ap, subst, ◌∙◌}
+use mathlib.Core.Path.{◌≡◌, sym, ap, subst, ◌∙◌}
 use mathlib.Core.Bool.{true, true≢false}
 use lib.ListN.{get_or}
 use mathlib.Core.List.{List}
-use Prim.Native.Nat.{ℕ, ◌≤◌, ◌<◌}
+use Prim.Native.Nat.{ℕ, ◌≤◌}
 use native.Mathlib.Omega.{arith}
-use borrow.Author.Tests.{lt-ltb, le-ltb, eq-eqb, ne_eqb}
-use Rattle.facts.specs.Pick.{pick}
 use Rattle.kinds.specs.Table.{kind_of}
 use Rattle.kinds.specs.declared.Kind.{Kind}
 use Rattle.fields.specs.Fields.{decoded}
 use Rattle.editions.specs.declared.Edition.{Edition}
 use Rattle.fields.specs.declared.Body.{Body}
-use Rattle.fields.specs.declared.OrderExecution.{OrderExecution}
 use Rattle.fields.specs.declared.Fault.{Fault}
-use Rattle.std.specs.Prelude.{Some, Result, Ok, Err}
+use Rattle.std.specs.Prelude.{Result, Ok, Err}
 use Rattle.body.specs.Read.{judge_body, message, read_body, good_body}
 use Rattle.body.proofs.Laws.{JudgedAs, judge_sound, Judgement, good, bad, judgement}
-use Rattle.rows.specs.declared.Row.{Row}
-use Rattle.rows.specs.Rows.{symbol_of}
-use Rattle.orders.specs.declared.RowWork.{RowWork}
-use Rattle.orders.specs.Work.{reduced}
 use Rattle.book.specs.declared.Clock.{Clock}
 use Rattle.book.specs.declared.Rule.{Rule}
 use Rattle.book.specs.declared.Rule.TheVariants.{UnknownSymbol, AlreadyLive, NotLive, OtherSymbol, AboveSize, NoRow, NoEntry, NoBody}
 use Rattle.book.specs.declared.Works.{Works}
-use Rattle.book.specs.Plan.{number_of, Plan, on_rows, target, execute_at, Finds, plan_by}
+use Rattle.book.specs.Plan.{number_of, Plan, Finds, plan_by}
 use Rattle.book.specs.Book.{Book, scans, planned, carried, applied}
 use Rattle.book.specs.Ledger.{Ledger, Posting, posting, looks, devised, index_after, posts, posted}
 
@@ -43,25 +36,6 @@ rule_from NoBody = (omega arith, omega arith)
 
 pub rule_some : (r : Rule) → number_of r ≡ 0 → ⊥
 rule_some r e = omega (arith, (rule_from r).0)
-
--- ---- a rule's test came out one way
-module _ (i : ℕ) (r : Row) (symbol : ℕ) where
-  pub target_other : (symbol_of r ≡ symbol → ⊥) → target (Some (i, r)) symbol ≡ Err OtherSymbol
-  unfolding target pick
-  target_other n = rw (ne_eqb (symbol_of r) symbol n)
-
-  pub target_own : symbol_of r ≡ symbol → target (Some (i, r)) symbol ≡ Ok (i, r)
-  unfolding target pick
-  target_own e = rw (eq-eqb (symbol_of r) symbol e)
-
-module _ (c : Clock) (m : OrderExecution) (i : ℕ) (r : Row) where
-  pub execute_over : r.size < m.size → Err AboveSize ≡ execute_at c m i r
-  unfolding pick
-  execute_over h = rw (lt-ltb r.size m.size h) refl
-
-  pub execute_is : m.size ≤ r.size → on_rows c (RowWork.Put i (reduced m.size r)) ≡ execute_at c m i r
-  unfolding pick
-  execute_is h = rw (le-ltb r.size m.size h) refl
 
 -- ---- a message by the case that reading its body gives
 pub planned_by : (ed : Edition) (m : Body) (n : ℕ) (b : List ℕ) (k : Book) → read_body ed b ≡ m → plan_by m n b k.clock (scans k) ≡ planned ed n b k
