@@ -11,12 +11,13 @@ ghost use Rattle.symbols.specs.Find.{place_for};
 ghost use Rattle.symbols.specs.Work.{entered};
 ghost use Rattle.orders.specs.Work.{committed};
 ghost use Rattle.engines.specs.Engines.{free_by, entry_by, noted, hinted_to};
+ghost use Rattle.book.specs.declared.Rule.TheVariants.{NoBody};
 ghost use Rattle.book.specs.Plan.{number_of, works, idle, row_for, target, add_plan, modify_plan, delete_plan, execution_plan, clear_plan, update_plan, plan_by};
 ghost use Rattle.book.specs.Book.{book};
 ghost use Rattle.book.specs.Ledger.{order_for, looks, ledger, seen, posts, told, devised, posted};
 
 use editions::Edition;
-use fields::{AddOrder, DeleteOrder, ModifyOrder, OrderExecution, SymbolClear};
+use fields::{AddOrder, DeleteOrder, Fault, ModifyOrder, OrderExecution, SymbolClear};
 use kinds::Kind;
 use orders::RowWork;
 use rows::Row;
@@ -40,6 +41,15 @@ impl From<Rule> for u8 {
 
     fn from(r: Rule) -> u8 {
         r as u8
+    }
+}
+
+// "no good body stops with 27", whatever its fault.
+impl From<Fault> for Rule {
+    ghost from_gives = { λ f r. r ≡ NoBody };
+
+    fn from(_: Fault) -> Rule {
+        Rule::NoBody
     }
 }
 
@@ -67,6 +77,7 @@ pub struct Tables<'a> {
 
 impl Tables<'_> {
     // The order that stands under an ID.
+    #[inline(always)]
     fn order(self, id: u64) -> Option<(usize, Row)>
         ensures { result ≡ order_for self.entry.index.now id self.entry.orders.now }
     {
@@ -77,6 +88,7 @@ impl Tables<'_> {
     }
 
     // The row that an Add takes.
+    #[inline(always)]
     fn free_row(self) -> Option<usize>
         ensures { result ≡ free_by self.entry.index.now (rows self.entry.orders.now) }
     {
@@ -84,6 +96,7 @@ impl Tables<'_> {
     }
 
     // The entry of a symbol.
+    #[inline(always)]
     fn entry(self, id: u32) -> Option<usize>
         ensures { result ≡ entry_by self.entry.index.now id (entries self.entry.symbols.now) }
     {
@@ -91,6 +104,7 @@ impl Tables<'_> {
     }
 
     // The entry that a Symbol Update takes.
+    #[inline(always)]
     fn room(self, id: u32) -> Option<usize>
         ensures { result ≡ place_for id (entries self.entry.symbols.now) }
     {
@@ -235,8 +249,10 @@ pub fn update_plan(clock: Clock, place: Option<usize>) -> Result<Works, Rule>
     })
 }
 
-// The plan of a message of a kind, by its number and its body; nothing is changed.
+// The plan of a message of a kind, by its number and its body; nothing is changed. It is written into its callers, since a plan handed over
+// in memory costs a tenth of a message's time; so are the searches.
 #[tactic(auto, unfolding(crate::specs::Plan::plan_by, fields::specs::Fields::decoded))]
+#[inline(always)]
 pub fn plan_kind(k: Kind, t: Tables, clock: Clock, number: u64, body: &[u8]) -> Result<Works, Rule>
     ensures { result ≡ plan_by (decoded k body.now) number body.now clock (looks (seen t.entry clock)) }
 {
@@ -279,10 +295,7 @@ pub fn plan_kind(k: Kind, t: Tables, clock: Clock, number: u64, body: &[u8]) -> 
 pub fn plan(e: Edition, t: Tables, clock: Clock, number: u64, body: &[u8]) -> Result<Works, Rule>
     ensures { result ≡ devised e number body.now (seen t.entry clock) }
 {
-    let Ok(k) = body::judge_body(e, body) else {
-        return Err(Rule::NoBody);
-    };
-    plan_kind(k, t, clock, number, body)
+    plan_kind(body::judge_body(e, body)?, t, clock, number, body)
 }
 
 // Each table is left by its own work, and the index by both.
@@ -326,7 +339,7 @@ pub fn try_kind(
 }
 
 // A message by its number and its body, which is read by the edition, planned and carried out.
-#[tactic(auto, unfolding(crate::specs::Ledger::posted, crate::specs::Book::carried, crate::specs::Ledger::index_after))]
+#[tactic(auto, unfolding(crate::specs::Ledger::posted, crate::specs::Ledger::devised, crate::specs::Plan::plan_by, body::specs::Read::read_body, body::specs::Read::message, crate::specs::Book::carried, crate::specs::Ledger::index_after))]
 pub fn attempt(
     e: Edition,
     orders: &mut [u64],
@@ -338,17 +351,6 @@ pub fn attempt(
 ) -> Result<Clock, Rule>
     ensures { told result (ledger (book orders.new symbols.new clock) index.new) ≡ posted e number body.now (ledger (book orders.old symbols.old clock) index.old) }
 {
-    let w = plan(
-        e,
-        Tables {
-            orders,
-            symbols,
-            index,
-        },
-        clock,
-        number,
-        body,
-    )?;
-    carry_out(w, orders, symbols, index, body);
-    Ok(w.clock)
+    let k = body::judge_body(e, body)?;
+    try_kind(k, orders, symbols, index, clock, number, body)
 }

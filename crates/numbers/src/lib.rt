@@ -179,6 +179,7 @@ fn cancel_fields(t: u64, s: TradeCancel) -> [u64; 8]
 }
 
 // The numbers of a body of a kind, whether in range or not: its type byte first.
+#[tactic(auto, unfolding(fields::specs::Fields::decoded))]
 pub fn fields_of(e: Edition, k: Kind, b: &[u8]) -> [u64; 8]
     ensures { result ≡ typed e (get_or b.now 0 0) (decoded k b.now) b.now }
 {
@@ -240,6 +241,7 @@ fn state_text(b: &[u8]) -> [u8; 28]
 }
 
 // The bytes of a body of a kind that are no numbers, zeros behind them.
+#[tactic(auto, unfolding(fields::specs::Fields::decoded))]
 pub fn text_of(e: Edition, k: Kind, b: &[u8]) -> [u8; 28]
     ensures { result ≡ text_of e (decoded k b.now) b.now }
 {
@@ -499,6 +501,7 @@ fn judged(e: Edition, bytes: [u8; 42]) -> Result<Draft, Refusal>
 }
 
 // The kind of the message whose type a number is.
+#[tactic(auto, using(crate::proofs::Held::no_type))]
 fn kind_in(v: u64) -> Kind
     ensures { result ≡ kind_of v }
 {

@@ -4,7 +4,7 @@ use mathlib.Core.Path.{◌≡◌, refl, sym, ap, ◌∙◌}
 use mathlib.Core.List.{List, ◌++◌}
 use mathlib.Core.Bool.{Bool, true, false}
 use mathlib.Core.Logic.{inl, inr}
-use Prim.Native.Nat.{ℕ, ◌+◌, ◌-◌, ◌≤◌, ◌<◌}
+use Prim.Native.Nat.{ℕ, ◌+◌, ◌≤◌, ◌<◌}
 use native.Mathlib.Omega.{arith}
 use lib.ListN.{length, length-append}
 use lib.Seq.{sets}
@@ -16,7 +16,7 @@ use Rattle.facts.proofs.Picks.{pick_ind, pick_cases}
 use Rattle.facts.proofs.Stores.{sets_append}
 use Rattle.editions.specs.declared.Edition.{Edition}
 use Rattle.wire.specs.Le.{to_le}
-use Rattle.wire.proofs.Laws.{length_to_le, fits_test}
+use Rattle.wire.proofs.Laws.{length_to_le}
 use Rattle.fields.specs.declared.Refusal.{Refusal}
 use Rattle.fields.specs.Fields.{refusal}
 use Rattle.packet.specs.Record.{number_ok}
@@ -148,9 +148,6 @@ module _ (r : Result ℕ Why) (k : ℕ) (m : List ℕ) (at : ℕ) (s : List ℕ)
   good_here n l e = ap (λ (y : Result ℕ Why). where_read y m (put k m at s)) (sym e) ∙ within r k m at s l
 
 -- ---- a record, as the code goes
-pub room_test : (used head n room : ℕ) → head + n ≤ room → leb used (room - head - n) ≡ leb (used + (head + n)) room
-room_test used head n room h = let e : room - head - n ≡ room - (head + n) = omega arith in rw e (fits_test used (head + n) room h)
-
 module _ (why n : ℕ) (m : List ℕ) (at : ℕ) (b : List ℕ) (k : ℕ) where
   own_is : k ≡ own_number why n (length m) (at + (10 + length b)) → k ≡ own_number why n (length m) (at + length (record_bytes n b))
   own_is e = rw (length_record n b) e

@@ -16,14 +16,9 @@ use wire::Number;
 fn room_for(room: usize, head: usize, used: usize, n: usize) -> bool
     ensures { result ≡ leb (used + (head + n)) room }
 {
-    if room < head {
-        return false;
-    }
-    let left = room - head;
-    if left < n {
-        return false;
-    }
-    used <= left - n
+    room.checked_sub(head)
+        .and_then(|left| left.checked_sub(n))
+        .is_some_and(|left| used <= left)
 }
 
 // Whether nothing refuses a record with a body of n bytes: its number, its message, the packet's size, the memory's.
