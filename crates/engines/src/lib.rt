@@ -13,12 +13,14 @@ use rows::Row;
 use wire::Number;
 
 // No index, or one of the stated size.
+#[tactic(auto, unfolding(crate::specs::Engines::good_index, facts::specs::Pick::either))]
 pub fn good_index(n: usize) -> bool
     ensures { result ≡ good_index n }
 {
     n == 0 || n == index::INDEX_SIZE
 }
 
+#[tactic(auto, unfolding(crate::specs::Engines::order_by, facts::specs::Pick::pick))]
 pub fn find_order(t: &[u64], ix: &[u64], id: u64) -> Option<usize>
     ensures { result ≡ order_by ix.now id (rows t.now) }
 {
@@ -29,6 +31,7 @@ pub fn find_order(t: &[u64], ix: &[u64], id: u64) -> Option<usize>
     }
 }
 
+#[tactic(auto, unfolding(crate::specs::Engines::free_by, facts::specs::Pick::pick))]
 pub fn find_free(t: &[u64], ix: &[u64]) -> Option<usize>
     ensures { result ≡ free_by ix.now (rows t.now) }
 {
@@ -40,6 +43,7 @@ pub fn find_free(t: &[u64], ix: &[u64]) -> Option<usize>
 }
 
 // A hint is tested, and the whole table is searched where it names no entry of the symbol.
+#[tactic(auto, unfolding(crate::specs::Engines::hinted, facts::specs::Pick::pick))]
 fn follow_hint(symbols: &[u8], ix: &[u64], id: u32) -> Option<usize>
     ensures { result ≡ hinted ix.now id (entries symbols.now) }
 {
@@ -51,6 +55,7 @@ fn follow_hint(symbols: &[u8], ix: &[u64], id: u32) -> Option<usize>
     }
 }
 
+#[tactic(auto, unfolding(crate::specs::Engines::entry_by, facts::specs::Pick::pick))]
 pub fn find_entry(symbols: &[u8], ix: &[u64], id: u32) -> Option<usize>
     ensures { result ≡ entry_by ix.now id (entries symbols.now) }
 {
@@ -62,6 +67,7 @@ pub fn find_entry(symbols: &[u8], ix: &[u64], id: u32) -> Option<usize>
 }
 
 // Row i is about to become r.
+#[tactic(auto, unfolding(crate::specs::Engines::put_noted, facts::specs::Pick::pick))]
 fn note_put(t: &[u64], ix: &mut [u64], i: usize, r: Row)
     ensures { ix.new ≡ put_noted i r (rows t.now) ix.old }
 {
@@ -73,6 +79,7 @@ fn note_put(t: &[u64], ix: &mut [u64], i: usize, r: Row)
 }
 
 // A row of the symbol leaves.
+#[tactic(auto, unfolding(crate::specs::Engines::left, facts::specs::Pick::pick))]
 fn note_row(ix: &mut [u64], r: Row, i: usize, symbol: u64)
     ensures { ix.new ≡ left symbol ix.old r i }
 {
@@ -105,6 +112,7 @@ pub fn note(t: &[u64], ix: &mut [u64], w: RowWork)
 }
 
 // What the work on the symbol table leaves of it.
+#[tactic(auto, unfolding(crate::specs::Engines::hinted_to))]
 pub fn note_entry(ix: &mut [u64], w: Option<usize>, body: &[u8])
     ensures { ix.new ≡ hinted_to w body.now ix.old }
 {

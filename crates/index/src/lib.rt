@@ -46,6 +46,7 @@ fn put_word(ix: &mut [u64], p: usize, v: u64)
 }
 
 // Where the search for an order ID begins.
+#[tactic(auto, unfolding(crate::specs::Index::hash))]
 fn start_of(id: u64) -> usize
     ensures { result ≡ hash id }
 {
@@ -54,12 +55,14 @@ fn start_of(id: u64) -> usize
 }
 
 // What of an order ID stands in a slot.
+#[tactic(auto, unfolding(crate::specs::Index::tag_of))]
 fn tag_of(id: u64) -> u64
     ensures { result ≡ tag_of id }
 {
     id % 140737488355328 + 1
 }
 
+#[tactic(auto, unfolding(crate::specs::Index::packed, crate::specs::Index::tag_of))]
 fn pack(id: u64, i: usize) -> u64
     ensures { result ≡ packed id i }
 {
@@ -67,6 +70,7 @@ fn pack(id: u64, i: usize) -> u64
 }
 
 // The slot's row is the live one of this ID; another tag is seen without a look at the table.
+#[tactic(auto, unfolding(crate::specs::Index::fits, facts::specs::Pick::both))]
 fn is_row(t: &[u64], s: u64, id: u64) -> bool
     ensures { result ≡ fits id (rows t.now) s }
 {
@@ -109,6 +113,7 @@ fn find_vacant(ix: &[u64], id: u64) -> Option<usize>
 }
 
 // Row i goes into the first empty slot for its order ID.
+#[tactic(auto, unfolding(crate::specs::Index::placed, crate::specs::Index::filled_at, facts::specs::Pick::pick))]
 fn place(ix: &mut [u64], id: u64, i: usize)
     ensures { ix.new ≡ placed ix.old id i }
 {
@@ -124,6 +129,7 @@ fn place(ix: &mut [u64], id: u64, i: usize)
 }
 
 // Row i is free no more.
+#[tactic(auto, unfolding(crate::specs::Index::taken, facts::specs::Pick::pick))]
 fn take(ix: &mut [u64], i: usize)
     ensures { ix.new ≡ taken ix.old i }
 {
@@ -135,6 +141,7 @@ fn take(ix: &mut [u64], i: usize)
 }
 
 // Row i is free again.
+#[tactic(auto, unfolding(crate::specs::Index::freed, facts::specs::Pick::pick))]
 pub fn gone(ix: &mut [u64], i: usize)
     ensures { ix.new ≡ freed ix.old i }
 {
@@ -187,6 +194,7 @@ pub fn lowest_free(t: &[u64], ix: &[u64]) -> Option<usize>
 }
 
 // A live row goes into a slot, a free one into its block's count.
+#[tactic(auto, unfolding(crate::specs::Index::entered, facts::specs::Pick::pick))]
 fn enter(ix: &mut [u64], r: Row, i: usize)
     ensures { ix.new ≡ entered ix.old r i }
 {
@@ -215,6 +223,7 @@ fn empty(ix: &mut [u64])
 }
 
 // The index of a table, from nothing; hints stay.
+#[tactic(auto, unfolding(crate::specs::Index::built))]
 pub fn rebuild(t: &[u64], ix: &mut [u64])
     ensures { ix.new ≡ built ix.old (rows t.now) }
 {
@@ -223,6 +232,7 @@ pub fn rebuild(t: &[u64], ix: &mut [u64])
 }
 
 // Room for one order more.
+#[tactic(auto, unfolding(crate::specs::Index::roomy, facts::specs::Pick::pick))]
 fn make_room(t: &[u64], ix: &mut [u64])
     ensures { ix.new ≡ roomy ix.old (rows t.now) }
 {
@@ -232,6 +242,7 @@ fn make_room(t: &[u64], ix: &mut [u64])
 }
 
 // An order comes to row i, which is still free in the table.
+#[tactic(auto, unfolding(crate::specs::Index::came))]
 pub fn come(t: &[u64], ix: &mut [u64], id: u64, i: usize)
     ensures { ix.new ≡ came ix.old (rows t.now) id i }
 {

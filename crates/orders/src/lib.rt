@@ -17,6 +17,7 @@ pub enum RowWork {
 }
 
 // Bit 0 of a Modify's flags.
+#[tactic(auto, unfolding(crate::specs::Work::moves))]
 pub fn loses_place(flags: u8) -> bool
     ensures { result ≡ moves flags }
 {
@@ -24,6 +25,7 @@ pub fn loses_place(flags: u8) -> bool
 }
 
 // Whoever moves to the back takes the sequence number as rank.
+#[tactic(auto, unfolding(crate::specs::Work::remade, facts::specs::Pick::pick))]
 pub fn remake(old: Row, price: u64, size: u64, moved: bool, number: u64) -> Row
     ensures { result ≡ remade price size moved number old }
 {
@@ -36,6 +38,7 @@ pub fn remake(old: Row, price: u64, size: u64, moved: bool, number: u64) -> Row
 }
 
 // The row with n shares fewer; at zero the order leaves.
+#[tactic(auto, unfolding(crate::specs::Work::reduced, facts::specs::Pick::pick))]
 pub fn reduce(r: Row, n: u64) -> Row
     ensures { result ≡ reduced n r }
 {
@@ -64,6 +67,7 @@ fn clear(t: &mut [u64], symbol: u64)
 }
 
 // The one function that changes the order table.
+#[tactic(auto, unfolding(crate::specs::Work::committed))]
 pub fn commit(t: &mut [u64], w: RowWork)
     ensures { t.new ≡ committed w t.old }
 {

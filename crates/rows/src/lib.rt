@@ -25,6 +25,7 @@ pub struct Row {
 impl From<[u64; ROW_SIZE]> for Row {
     ghost from_gives = { λ x r. r ≡ row_of x };
 
+    #[tactic(auto, unfolding(crate::specs::Rows::row_of))]
     fn from([order, key, price, size, rank]: [u64; ROW_SIZE]) -> Row {
         Row {
             order,
@@ -40,6 +41,7 @@ impl From<[u64; ROW_SIZE]> for Row {
 impl From<Row> for [u64; ROW_SIZE] {
     ghost from_gives = { λ r x. x ≡ numbers_of r };
 
+    #[tactic(auto, unfolding(crate::specs::Rows::numbers_of))]
     fn from(r: Row) -> [u64; ROW_SIZE] {
         [r.order, r.key, r.price, r.size, r.rank]
     }
@@ -65,12 +67,14 @@ pub fn side_in(key: u64) -> u64
 }
 
 // The side that a message's letter tells.
+#[tactic(auto, unfolding(crate::specs::Keys::side_of, facts::specs::Pick::pick))]
 pub fn side_of(letter: u8) -> u8
     ensures { result ≡ side_of letter }
 {
     if letter == b'B' { 0 } else { 1 }
 }
 
+#[tactic(auto, unfolding(crate::specs::Rows::zero_row))]
 pub fn zero_row() -> Row
     ensures { result ≡ zero_row }
 {
@@ -106,12 +110,14 @@ pub fn put_row(t: &mut [u64], i: usize, r: Row)
 }
 
 // The rank first: it tells a live row at once.
+#[tactic(auto, unfolding(crate::specs::Rows::free, facts::specs::Pick::both))]
 pub fn is_free(r: Row) -> bool
     ensures { result ≡ free r }
 {
     r.rank == 0 && r.order == 0 && r.key == 0 && r.price == 0 && r.size == 0
 }
 
+#[tactic(auto, unfolding(crate::specs::Rows::live, facts::specs::Pick::both))]
 pub fn is_live(r: Row) -> bool
     ensures { result ≡ live r }
 {
@@ -123,18 +129,21 @@ pub fn is_live(r: Row) -> bool
         && r.size <= 4_294_967_295
 }
 
+#[tactic(auto, unfolding(crate::specs::Find::is_order, facts::specs::Pick::both))]
 pub fn is_order(r: Row, id: u64) -> bool
     ensures { result ≡ is_order id r }
 {
     r.order == id && is_live(r)
 }
 
+#[tactic(auto, unfolding(crate::specs::Find::of_symbol, facts::specs::Pick::both))]
 pub fn of_symbol(r: Row, symbol: u64) -> bool
     ensures { result ≡ of_symbol symbol r }
 {
     symbol_in(r.key) == symbol && is_live(r)
 }
 
+#[tactic(auto, unfolding(crate::specs::Find::of_key, facts::specs::Pick::both))]
 pub fn of_key(r: Row, key: u64) -> bool
     ensures { result ≡ of_key key r }
 {
@@ -142,6 +151,7 @@ pub fn of_key(r: Row, key: u64) -> bool
 }
 
 // A table of n numbers holds whole rows, and as many as it may.
+#[tactic(auto, unfolding(crate::specs::Rows::good_rows, facts::specs::Pick::both))]
 pub fn good_rows(n: usize) -> bool
     ensures { result ≡ good_rows n }
 {
@@ -168,6 +178,7 @@ pub fn free_from(t: &[u64], s: usize) -> Option<usize>
     None
 }
 
+#[tactic(auto, unfolding(crate::specs::Find::find_free))]
 pub fn find_free(t: &[u64]) -> Option<usize>
     ensures { result ≡ find_free (rows t.now) }
 {
@@ -175,6 +186,7 @@ pub fn find_free(t: &[u64]) -> Option<usize>
 }
 
 // The row that a search ended at, whichever search it was.
+#[tactic(auto, unfolding(crate::specs::Find::held_at))]
 pub fn held_at(t: &[u64], at: Option<usize>) -> Option<(usize, Row)>
     ensures { result ≡ held_at at (rows t.now) }
 {

@@ -18,6 +18,7 @@ const USED: u8 = 1;
 const FREE: u8 = 0;
 
 // A table of n bytes holds whole entries, and as many as it may.
+#[tactic(auto, unfolding(crate::specs::Entries::good_entries, facts::specs::Pick::both))]
 pub fn good_entries(n: usize) -> bool
     ensures { result ≡ good_entries n }
 {
@@ -53,18 +54,21 @@ pub fn entry_at(t: &[u8], i: usize) -> Symbol
     fields::symbol_of(entry_bytes(t, i))
 }
 
+#[tactic(auto, unfolding(crate::specs::Entries::used))]
 fn is_used(e: &[u8]) -> bool
     ensures { result ≡ used e.now }
 {
     u8::at(e, 0) == USED
 }
 
+#[tactic(auto, unfolding(crate::specs::Entries::free_entry))]
 fn is_free(e: &[u8]) -> bool
     ensures { result ≡ free_entry e.now }
 {
     u8::at(e, 0) == FREE
 }
 
+#[tactic(auto, unfolding(crate::specs::Find::is_symbol, facts::specs::Pick::both))]
 fn is_symbol(e: &[u8], id: u32) -> bool
     ensures { result ≡ is_symbol id e.now }
 {
@@ -95,12 +99,14 @@ fn find_free_entry(t: &[u8]) -> Option<usize>
     whole_entries(t).iter().position(|e| is_free(e))
 }
 
+#[tactic(auto, unfolding(crate::specs::Find::known_symbol))]
 pub fn known(t: &[u8], id: u32) -> bool
     ensures { result ≡ known_symbol id (entries t.now) }
 {
     find_symbol(t, id).is_some()
 }
 
+#[tactic(auto, unfolding(crate::specs::Find::place_for))]
 pub fn find_place(t: &[u8], id: u32) -> Option<usize>
     ensures { result ≡ place_for id (entries t.now) }
 {
@@ -117,6 +123,7 @@ fn put_entry(t: &mut [u8], i: usize, body: &[u8])
 }
 
 // The one function that changes the symbol table.
+#[tactic(auto, unfolding(crate::specs::Work::entered))]
 pub fn commit(t: &mut [u8], w: Option<usize>, body: &[u8])
     ensures { t.new ≡ entered w body.now t.old }
 {
