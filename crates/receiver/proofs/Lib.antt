@@ -1,6 +1,7 @@
 pub mod PartsLaws
 pub mod Exits
 pub mod Direct
+pub mod Lying
 pub mod Records
 pub mod Steps
 pub mod Accounts

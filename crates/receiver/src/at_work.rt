@@ -9,6 +9,7 @@ ghost use Rattle.shelf.specs.Store.{shelf_store};
 ghost use Rattle.receiver.specs.Lent.{ledger_engine, answer_of, GoodPacket};
 
 use crate::Answer;
+use crate::walk::Records;
 use arbitration::Counts;
 use book::{Clock, Rule, Tables};
 use editions::Edition;
@@ -189,12 +190,9 @@ impl Receiver<'_> {
         ensures work { working_of self.old.edition self.new result ≡ work_all shelf_store (ledger_engine self.old.edition) (records_of (framing self.old.edition p.now)) (working_of self.old.edition self.old no_counts) }
     {
         let mut counts = Counts::default();
-        let mut at: usize = 0;
-        while at < p.len() {
-            let h = packet::head_at(p, at);
-            let answer = self.offer(h.number, packet::body_at(p, at));
+        for r in (Records { rest: p }) {
+            let answer = self.offer(r.number, r.body);
             counts = counted(counts, answer);
-            at += 10 + h.len;
         }
         counts
     }

@@ -8,6 +8,7 @@ ghost use Rattle.receiver.specs.Receiver.{next_ok, handled_by};
 ghost use Rattle.receiver.specs.Lent.{real, sizes_ok, GoodPacket, lent, handled, received, begun, started};
 
 mod at_work;
+mod walk;
 
 use arbitration::Counts;
 use at_work::Receiver;
