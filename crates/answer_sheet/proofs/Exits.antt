@@ -37,7 +37,7 @@ module _ (orders symbols : List ℕ) where
     where
       go : (g : Bool) → Ok z ≡ pick g (Ok table_sizes) (Err (refusal 6)) → (g ≡ true) × (z ≡ table_sizes)
       go true e = (refl, cc)
-      go false e = let x : ◌≡◌ {A = ℕ} 0 1 = cc in absurd (omega arith)
+      go false e = cc
 
   pub sizes_good : (z : Sizes) → AreSizes z orders symbols → good_tables orders symbols ≡ true
   sizes_good z e = (sizes_is z e).0
@@ -53,7 +53,7 @@ module _ (word : Recording) (bad : ℕ) (s : State) (orders symbols b : List ℕ
     where
       go : (g : Bool) → Err r ≡ pick g (Ok (table_sizes orders symbols)) (Err (refusal 6))
           → sheet_and (Err r) b ≡ pick (both g (next_ok s.next)) (stored (sheet_of word bad s orders symbols) b) (sheet_and (Err (refusal 6)) b)
-      go true e = let x : ◌≡◌ {A = ℕ} 0 1 = cc in absurd (omega arith)
+      go true e = cc
       go false e = let k : r ≡ refusal 6 = cc in ap (λ (x : Refusal). sheet_and (Err x) b) k
 
   pub next_refused : good_tables orders symbols ≡ true → next_ok s.next ≡ false → sheet_and (Err (refusal 6)) b ≡ sheet_view word bad s orders symbols b

@@ -1,6 +1,5 @@
 -- The bits of a number are 2^64 less its magnitude where it is below 0, else its magnitude.
 -- Assumes nothing.
-use Prim.Native.Nat.{ℕ}
 use mathlib.Core.Path.{◌≡◌, refl}
 use native.Mathlib.Omega.{arith}
 use lib.IntN.{ℤ, pos, negsuc}

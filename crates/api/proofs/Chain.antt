@@ -44,7 +44,7 @@ module _ (k : Lent) (h : Held (state_of k)) (p m : List ℕ) where
     where
       go : (a : Result Account Why) → (received k p).answer ≡ a → told (λ (t : Account). state_numbers (state_of after)) a numbers ≡ state_numbers (state_of after)
       go (Ok t) e = refl
-      go (Err w) e = ap (λ (x : Lent). state_numbers (state_of x)) (sym (refused_same (real k.edition) k p (λ (t : Account) q. let n : Err w ≡ Ok t = sym e ∙ q in let z : ◌≡◌ {A = ℕ} 0 1 = cc in absurd (omega arith))))
+      go (Err w) e = ap (λ (x : Lent). state_numbers (state_of x)) (sym (refused_same (real k.edition) k p (λ (t : Account) q. let n : Err w ≡ Ok t = sym e ∙ q in cc)))
 
   pub next_call : receive_answer (received (lent (orders_of k) (symbols_of k) (shelf_of k) (index_of k) (state_in numbers)) p) numbers m
       ≡ receive_call (code_of why_code (received k p).answer) (state_numbers (state_of after)) (told account_numbers (received k p).answer m) (orders_of after) (symbols_of after) (shelf_of after) (index_of after)

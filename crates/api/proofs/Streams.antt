@@ -8,8 +8,7 @@ use Rattle.fields.specs.Fields.{bad_at}
 use Rattle.receiver.specs.declared.State.{State}
 use Rattle.receiver.specs.Lent.{state_numbers}
 use Rattle.recording.specs.declared.Stream.{Stream}
-use Rattle.std.specs.Prelude.{Result, Ok}
-use Rattle.fields.specs.declared.Refusal.{Refusal}
+use Rattle.std.specs.Prelude.{Ok}
 use Rattle.recording.specs.Stream.{opened, cut, Feeding, feeding, fed, fed_number}
 use Rattle.recording.specs.Whole.{fed_on}
 use Rattle.api.specs.Calls.{state_in, call}

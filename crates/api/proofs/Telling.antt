@@ -1,12 +1,10 @@
 -- What a library call answered decides what C is told, and an offset of reading is small.
 -- Assumes nothing.
 use Prim.Native.Nat.{ℕ, ◌≤◌}
-use mathlib.Core.Path.{◌≡◌, refl, sym, ap, ◌∙◌}
-use mathlib.Core.Bool.{true, false}
-use mathlib.Core.List.{List}
+use mathlib.Core.Path.{◌≡◌, refl, ap}
 use native.Mathlib.Omega.{arith}
 use lib.IntN.{ℤ}
-use Rattle.std.specs.Prelude.{Option, Some, None, Result, Ok, Err, IfErr, is_ok}
+use Rattle.std.specs.Prelude.{Option, Some, None, Result, Ok, Err, IfErr}
 use Rattle.facts.specs.Limits.{packet_most}
 use Rattle.fields.specs.declared.Fault.{Fault}
 use Rattle.fields.specs.declared.Refusal.{Refusal}
@@ -14,7 +12,7 @@ use Rattle.packet.specs.declared.Why.{Why}
 use Rattle.views.specs.Views.{spread_number}
 use Rattle.conversion.specs.declared.Tally.{Tally}
 use Rattle.conversion.specs.Piece.{pieced_number}
-use Rattle.api.specs.Told.{code_of, told, done_of, Small}
+use Rattle.api.specs.Told.{code_of, done_of, Small}
 
 -- ---- the number is that of the answer
 pub code_told : {A E : Type 0} (g : E → ℕ) (v : Result A E) → code_of g (done_of v) ≡ code_of g v
@@ -31,18 +29,10 @@ pub piece_code : (a : Result (ℕ × Tally) Refusal) → code_of (λ (r : Refusa
 piece_code (Ok (n, t)) = refl
 piece_code (Err r) = refl
 
--- ---- what is refused was refused, and what is done was not
+-- ---- what is refused was refused
 pub refused : {A E : Type 0} (v : Result A E) (e : E) → done_of v ≡ Err e → v ≡ Err e
-refused (Ok a) e h = let z : ◌≡◌ {A = ℕ} 0 1 = cc in absurd (omega arith)
+refused (Ok a) e h = cc
 refused (Err y) e h = ap Err (cc)
-
-pub told_done : {A E : Type 0} (v : Result A E) (q l : List ℕ) → is_ok (done_of v) ≡ true → q ≡ told (λ (a : A). q) v l
-told_done (Ok a) q l h = refl
-told_done (Err e) q l h = let z : ◌≡◌ {A = ℕ} 0 1 = cc in absurd (omega arith)
-
-pub told_not : {A E : Type 0} (v : Result A E) (q l : List ℕ) → is_ok (done_of v) ≡ false → l ≡ told (λ (a : A). q) v l
-told_not (Ok a) q l h = let z : ◌≡◌ {A = ℕ} 0 1 = cc in absurd (omega arith)
-told_not (Err e) q l h = refl
 
 -- ---- an offset of reading is small
 pub small_err : {A : Type 0} (v : Result A Why) → ((f : Fault) → v ≡ Err (Why.Placed f) → f.at ≤ packet_most) → IfErr (done_of v) Small

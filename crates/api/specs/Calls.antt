@@ -1,6 +1,6 @@
 -- What each call of the C boundary answers: a number, and the lent memory after it. The meaning is that of the library's own definitions;
 -- "tables, output and state keep every byte" (document 01), so that a refusal's offset comes in the number (request 5).
-use Rattle.std.specs.Prelude.{ℕ, ◌%◌, ◌-◌, Bool, true, false, List, [], ◌∷◌, get_or, ℤ, pos, nat_abs, Option, Some, None, Result, Ok, Err}
+use Rattle.std.specs.Prelude.{ℕ, ◌%◌, ◌-◌, Bool, true, false, List, [], ◌∷◌, get_or, ℤ, pos, nat_abs, Option, Some, None, Result}
 use Rattle.std.specs.Int.Signed.{lt_z}
 use Rattle.facts.specs.Pick.{pick}
 use Rattle.editions.specs.Editions.{edition_of}

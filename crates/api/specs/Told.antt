@@ -1,6 +1,5 @@
 -- What C is told of an answer, whatever it holds and however it is refused: a number, and the answer's own numbers where nothing is refused.
 use Rattle.std.specs.Prelude.{ℕ, ◌<◌, List, Result, Ok, Err}
-use Rattle.fields.specs.declared.Fault.{Fault}
 use Rattle.body.specs.Read.{with_offset}
 use Rattle.packet.specs.declared.Why.{Why}
 

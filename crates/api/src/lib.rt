@@ -191,6 +191,7 @@ fn code(done: Result<(), Why>) -> u32
 }
 
 // Starts a receiver of an edition: the tables are zeroed, the index is made if one is lent, and state becomes next 1, second 0, stop 0 and the edition's number.
+#[tactic(auto, using(crate::proofs::Telling::code_told), unfolding(crate::specs::Calls::start_answer))]
 pub fn rimeheath_start(
     edition: u64,
     orders: &mut [u64],
@@ -220,6 +221,7 @@ fn state_in(l: &[u64; 4]) -> State
 }
 
 // Gives a packet to a receiver: state and account become what they are after it.
+#[tactic(auto, using(crate::proofs::Telling::code_told), unfolding(crate::specs::Calls::receive_answer))]
 pub fn rimeheath_receive(
     orders: &mut [u64],
     symbols: &mut [u8],
@@ -267,6 +269,7 @@ fn stream_from(l: &[u64; 14]) -> Stream
 }
 
 // Opens a stream over a receiver, before the first chunk of a recording.
+#[tactic(auto, unfolding(crate::specs::Streams::open_answer))]
 pub fn rimeheath_open(state: &[u64; 4], stream: &mut [u64; 14]) -> u8
     ensures { call result stream.new ≡ open_answer (opened (state_in state.now)) }
 {
@@ -275,6 +278,7 @@ pub fn rimeheath_open(state: &[u64; 4], stream: &mut [u64; 14]) -> u8
 }
 
 // Gives the next chunk of a recording: the stream, the tables and the buffer become what they are after it.
+#[tactic(auto, using(crate::proofs::Telling::code_told), unfolding(crate::specs::Streams::feed_answer, recording::specs::Stream::fed_number))]
 pub fn rimeheath_feed(
     orders: &mut [u64],
     symbols: &mut [u8],
@@ -305,6 +309,7 @@ fn side_asked(sell: bool) -> Side
 }
 
 // The ladder of a symbol and side: the levels that fit into the run, and the number of all.
+#[tactic(auto, using(crate::proofs::Telling::code_told), unfolding(crate::specs::Calls::ladder_answer, views::specs::Views::ladder_number))]
 pub fn rimeheath_ladder(
     orders: &[u64],
     symbols: &[u8],
@@ -320,6 +325,7 @@ pub fn rimeheath_ladder(
 }
 
 // The spread of a symbol: 1 and the signed number as 64 bits, or two zeros where a side is empty.
+#[tactic(auto, using(crate::proofs::Telling::code_told, crate::proofs::Telling::spread_code), unfolding(crate::specs::Calls::spread_answer))]
 pub fn rimeheath_spread(orders: &[u64], symbols: &[u8], symbol: u32, answer: &mut [u64; 2]) -> u8
     ensures { call result answer.new ≡ spread_answer (spread_view symbol orders.now symbols.now) answer.old }
 {
@@ -327,6 +333,7 @@ pub fn rimeheath_spread(orders: &[u64], symbols: &[u8], symbol: u32, answer: &mu
 }
 
 // Live orders and used entries.
+#[tactic(auto, using(crate::proofs::Telling::code_told), unfolding(crate::specs::Calls::counts_answer, views::specs::Views::counts_number))]
 pub fn rimeheath_counts(orders: &[u64], symbols: &[u8], counts: &mut [u64; 2]) -> u8
     ensures { call result counts.new ≡ counts_answer (counts_view orders.now symbols.now) counts.old }
 {
@@ -334,6 +341,7 @@ pub fn rimeheath_counts(orders: &[u64], symbols: &[u8], counts: &mut [u64; 2]) -
 }
 
 // Judges a packet of an edition: the number of its records.
+#[tactic(auto, using(crate::proofs::Telling::code_told), unfolding(crate::specs::Calls::packet_answer))]
 pub fn rimeheath_packet(edition: u64, p: &[u8], records: &mut [u64; 1]) -> u32
     ensures { call result records.new ≡ packet_answer (read_packet (edition_of edition) p.now) records.old }
 {
@@ -341,6 +349,7 @@ pub fn rimeheath_packet(edition: u64, p: &[u8], records: &mut [u64; 1]) -> u32
 }
 
 // Judges the first record of what is left of a packet of an edition: its number, and the length of its body.
+#[tactic(auto, using(crate::proofs::Telling::code_told), unfolding(crate::specs::Calls::record_answer))]
 pub fn rimeheath_record(edition: u64, rest: &[u8], head: &mut [u64; 2]) -> u32
     ensures { call result head.new ≡ record_answer (read_record (edition_of edition) rest.now) head.old }
 {
@@ -376,6 +385,7 @@ fn word_of(cut: bool) -> Recording
 }
 
 // The answer sheet, as far as the buffer reaches, and how long the whole of it is.
+#[tactic(auto, using(crate::proofs::Telling::code_told), unfolding(crate::specs::Calls::sheet_answer, answer_sheet::specs::Sheet::sheet_number))]
 pub fn rimeheath_sheet(
     buf: &mut [u8],
     orders: &[u64],
@@ -392,6 +402,7 @@ pub fn rimeheath_sheet(
 }
 
 // Makes a packet of one edition one of another, in place: how many Symbol Updates it has.
+#[tactic(auto, using(crate::proofs::Telling::code_told), unfolding(crate::specs::Conversions::convert_answer))]
 pub fn rimeheath_convert(
     from: u64,
     to: u64,
@@ -412,6 +423,7 @@ pub fn rimeheath_convert(
 }
 
 // The same of the whole packets at the front of a piece of a recording: their bytes, and what was counted of them.
+#[tactic(auto, using(crate::proofs::Telling::code_told, crate::proofs::Telling::piece_code), unfolding(crate::specs::Conversions::piece_answer))]
 pub fn rimeheath_convert_piece(
     from: u64,
     to: u64,
@@ -432,6 +444,7 @@ pub fn rimeheath_convert_piece(
 }
 
 // Writes a record behind the packet so far, from the numbers and the text in which rimeheath_body gives a message: the packet's new length.
+#[tactic(auto, using(crate::proofs::Telling::code_told), unfolding(crate::specs::Writing::write_answer))]
 pub fn rimeheath_append(
     edition: u64,
     memory: &mut [u8],
@@ -449,6 +462,7 @@ pub fn rimeheath_append(
 }
 
 // Writes a packet, behind its length, behind the recording so far: the recording's new length.
+#[tactic(auto, using(crate::proofs::Telling::code_told), unfolding(crate::specs::Writing::write_answer))]
 pub fn rimeheath_append_packet(
     edition: u64,
     memory: &mut [u8],

@@ -117,8 +117,8 @@ account_is w y h d e =
     }
 
 no_account : (u : Result Account Why) (x : Account) → Refusing u → u ≡ Ok x → ⊥
-no_account _ x (by_number r) e = let z : ◌≡◌ {A = ℕ} 0 1 = cc in absurd (omega arith)
-no_account _ x (by_place f) e = let z : ◌≡◌ {A = ℕ} 0 1 = cc in absurd (omega arith)
+no_account _ x (by_number r) e = cc
+no_account _ x (by_place f) e = cc
 
 -- to packets of true copies every number of the account is the same
 module _ (from : Edition) (a : Asked) (ok : types_ok a.to a.all a.others ≡ true) (ms : List (List ℕ)) (wf : WellFormed (good_body from) ms) (o s h' i i' : ℕ)

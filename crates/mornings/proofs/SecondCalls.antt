@@ -149,8 +149,8 @@ module _ (from : Edition) (a : Asked) (ok : types_ok a.to a.all a.others ≡ tru
   account_of r cs u v x y e f (refused_to n q) = absurd (no_account u n e)
     where
       no_account : (u : Result Account Why) → Refusing u → u ≡ Ok x → ⊥
-      no_account _ (by_number r) e = let z : ◌≡◌ {A = ℕ} 0 1 = cc in absurd (omega arith)
-      no_account _ (by_place f) e = let z : ◌≡◌ {A = ℕ} 0 1 = cc in absurd (omega arith)
+      no_account _ (by_number r) e = cc
+      no_account _ (by_place f) e = cc
 
   module _ (o s h i i' : ℕ) (sizes : sizes_ok o s h i ≡ true) (sizes' : sizes_ok o s h i' ≡ true) (ps : List (List ℕ)) (p : List ℕ) (x y : Account)
       (before : (received (received_all ps (fresh from o s h i)) p).answer ≡ Ok x)

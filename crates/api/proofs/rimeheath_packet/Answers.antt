@@ -2,13 +2,8 @@
 -- Assumes nothing.
 use mathlib.Core.Path.{sym, ◌∙◌}
 use Rattle.packet.proofs.Places.{packet_small}
-use Rattle.api.specs.Calls.{packet_answer}
-use Rattle.api.proofs.Telling.{code_told, small_err}
+use Rattle.api.proofs.Telling.{small_err}
 use Rattle.api.proofs.rimeheath_packet.Goals as goal
 
 pub code-requires : goal.code-requires
 code-requires c = rw c.store.ensures.done (small_err _ (λ f e. packet_small _ c.args.p.now f (sym c.read_packet.ensures ∙ e)))
-
-pub returns : goal.returns
-unfolding packet_answer
-returns c = rw (c.code.ensures, c.store.ensures.done, code_told, c.store.ensures.lent, c.read_packet.ensures, c.from.ensures)
