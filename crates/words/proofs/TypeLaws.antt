@@ -59,6 +59,9 @@ unfolding decimal_from
 decimal_grows n [] = omega arith
 decimal_grows n (x ∷ s) = omega (arith, decimal_grows (10 * n + (x - 48)) s)
 
--- ---- a name over spaces: what is left of them behind it
-pub spaces_left : (n t : ℕ) → n ≤ 11 → drop n (replicate 11 32 ++ (t ∷ [])) ≡ replicate (11 - n) 32 ++ (t ∷ [])
-spaces_left n t h = drop-append-le n (replicate 11 32) (t ∷ []) h ∙ ap (λ (l : List ℕ). l ++ (t ∷ [])) (same_left 11 n 32)
+-- ---- a name over spaces: what is left of them behind it, and the type
+spaces_left : (n k : ℕ) → drop {A = ℕ} k (replicate n 32) ≡ replicate (n - k) 32
+spaces_left n k = same_left n k 32
+
+pub type_behind : (n t : ℕ) → n ≤ 11 → drop n (replicate 11 32 ++ (t ∷ [])) ≡ replicate (11 - n) 32 ++ (t ∷ [])
+type_behind n t h = drop-append-le n (replicate 11 32) (t ∷ []) h ∙ ap (λ (l : List ℕ). l ++ (t ∷ [])) (spaces_left 11 n)

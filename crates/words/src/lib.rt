@@ -6,6 +6,7 @@ ghost use Rattle.words.specs.Words.{edition_named, edition_asked};
 ghost use Rattle.words.specs.Types.{all_from, decimal_from, by_id, by_ticker, id_asked, exception_asked, type_asked};
 
 use editions::Edition;
+use wire::Number;
 
 // The edition of a name.
 #[tactic(auto, using(crate::proofs::NameLaws::named_13, crate::proofs::NameLaws::named_13b, crate::proofs::NameLaws::named_only))]
@@ -70,11 +71,11 @@ fn decimal_of(s: &[u8]) -> u64
 }
 
 // An exception by symbol ID.
-fn by_id(n: u64, t: u8) -> [u8; 13]
-    ensures { result ≡ by_id n t }
+fn by_id(id: u32, t: u8) -> [u8; 13]
+    ensures { result ≡ by_id id t }
 {
     let mut x = [0; 13];
-    wire::put_le(&mut x, 1, 4, n);
+    id.put(&mut x, 1);
     x[12] = t;
     x
 }
@@ -96,11 +97,8 @@ fn by_ticker(name: &[u8], t: u8) -> [u8; 13]
 fn id_asked(name: &[u8], t: u8) -> Option<TypeWord>
     ensures { result ≡ id_asked (decimal_from 0 name.now) t }
 {
-    let n = decimal_of(name);
-    if MOST_ID < n {
-        return None;
-    }
-    Some(TypeWord::Exception(by_id(n, t)))
+    let id = u32::try_from(decimal_of(name)).ok()?;
+    Some(TypeWord::Exception(by_id(id, t)))
 }
 
 // An exception, by what its name is.

@@ -5,7 +5,7 @@ use Prim.Native.Nat.{◌+◌, ◌-◌}
 use native.Mathlib.Omega.{arith}
 use lib.ListN.{length}
 use Rattle.words.specs.Types.{by_ticker}
-use Rattle.words.proofs.TypeLaws.{spaces_left}
+use Rattle.words.proofs.TypeLaws.{type_behind}
 use Rattle.words.proofs.by_ticker.Goals as goal
 
 pub returns : goal.returns
@@ -13,4 +13,4 @@ unfolding by_ticker
 returns c =
     let n = length c.args.name.now in
     let k : 1 + n - 1 ≡ n = omega arith in
-    rw (← spaces_left n c.args.t c.requires) (rw (k, c.copy_from_slice.ensures.after) refl)
+    rw (← type_behind n c.args.t c.requires) (rw (k, c.copy_from_slice.ensures.after) refl)
