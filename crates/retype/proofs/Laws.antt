@@ -10,15 +10,14 @@ use lib.ListN.{length, get_or, set, length-set}
 use lib.Seq.{get_or-set_same, get_or-set_other, set-get_or}
 use lib.Dec.{eqb}
 use borrow.Author.Tests.{eqb-true, eq-eqb}
-use Rattle.facts.specs.Pick.{pick, both}
+use Rattle.facts.specs.Pick.{pick}
 use Rattle.facts.specs.Search.{first, is_found}
-use Rattle.facts.specs.Same.{same_bytes}
 use Rattle.std.specs.Prelude.{Option, Some, None, Result, Ok}
 use Rattle.fields.specs.declared.Fault.{Fault}
 use Rattle.facts.proofs.Picks.{pick_ind, both_true}
 use Rattle.facts.proofs.Searches.{first_at, first_none}
 use Rattle.editions.specs.declared.Edition.{Edition}
-use Rattle.wire.specs.Le.{field, padded}
+use Rattle.wire.specs.Le.{padded}
 use Rattle.wire.proofs.Laws.{field_same, length_padded, get_or_padded, is_padded}
 use Rattle.kinds.specs.Table.{kind_of, type_of as type_byte, kind_length, length_of, lookup, table}
 use Rattle.kinds.specs.declared.Kind.{Kind}
@@ -28,7 +27,7 @@ use Rattle.body.specs.Read.{judge_body, judged_number, message, read_body, good_
 use Rattle.body.specs.Editions.{IsUpdate}
 use Rattle.body.proofs.Laws.{good_framed, Framed, framed_is, Judgement, good, bad, judgement, JudgedAs, judge_sound}
 use Rattle.body.proofs.Editions.{no_update_alike, lettered_alike, reserved_unjudged, older_alike}
-use Rattle.retype.specs.Types.{exceptions, names, type_of, type_at, type_for, bad_type, types_ok}
+use Rattle.retype.specs.Types.{exceptions, names_symbol, names, type_of, type_at, type_for, bad_type, types_ok}
 use Rattle.retype.specs.Retyped.{Asked, is_update, byte_in, new_byte, retyped}
 
 -- ---- bytes that are the same but for byte 20
@@ -59,7 +58,7 @@ module _ (b c : List ℕ) (same : ButFor20 b c) where
 
   names_same : (x : List ℕ) → names x c ≡ names x b
   unfolding names
-  names_same x i = pick (eqb (get_or x 0 0) 0) (eqb (field x 1 4) (symbol_same i).id) (both (eqb (get_or x 0 0) 1) (same_bytes (padded x 1 11) (symbol_same i).ticker))
+  names_same x = ap (names_symbol x) symbol_same
 
   pub type_same : (all : ℕ) (others : List ℕ) → type_for all others c ≡ type_for all others b
   unfolding type_for

@@ -2,7 +2,7 @@
 -- Assumes nothing.
 use mathlib.Core.Path.{◌≡◌, sym, ap}
 use mathlib.Core.Bool.{true, false}
-use mathlib.Core.List.{List, []}
+use mathlib.Core.List.{List}
 use mathlib.Core.Logic.{◌≢◌}
 use Prim.Native.Nat.{ℕ}
 use lib.ListN.{get_or, set}
@@ -13,7 +13,7 @@ use Rattle.facts.specs.Search.{first}
 use borrow.Author.Tests.{ne_eqb}
 use Rattle.wire.specs.Le.{padded}
 use Rattle.fields.specs.Fields.{symbol_of}
-use Rattle.retype.specs.Types.{exceptions, names, type_at, type_for}
+use Rattle.retype.specs.Types.{exceptions, names_symbol, names, type_at, type_for}
 use Rattle.retype.specs.Retyped.{Asked, is_update, new_byte, retyped, retyping, retypes}
 
 module _ (a : Asked) (b : List ℕ) (t : ℕ) (e : t ≡ get_or b 0 0) where
@@ -27,7 +27,7 @@ module _ (a : Asked) (b : List ℕ) (t : ℕ) (e : t ≡ get_or b 0 0) where
 
 module _ (x b : List ℕ) (by : ℕ) (e : by ≡ get_or x 0 0) where
   pub names_by_ticker : by ≢ 0 → by ≡ 1 → same_bytes (padded x 1 11) (symbol_of b).ticker ≡ names x b
-  unfolding names pick both
+  unfolding names names_symbol pick both
   names_by_ticker z o = simp (← e, ne_eqb by 0 z, o)
 
 module _ (all : ℕ) (others b : List ℕ) where

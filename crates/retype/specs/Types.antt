@@ -7,6 +7,7 @@ use Rattle.facts.specs.Search.{first, is_found}
 use Rattle.editions.specs.declared.Edition.{Edition}
 use Rattle.wire.specs.Le.{field, padded}
 use Rattle.fields.specs.Fields.{symbol_of}
+use Rattle.fields.specs.declared.Symbol.{Symbol}
 use Rattle.body.specs.Ranges.{security_ok}
 
 -- an exception is 13 bytes: by which name it is (0: the symbol ID, 1: the ticker), the name in 11 bytes (an ID in the first four of them), and the type
@@ -20,11 +21,15 @@ exceptions t = pieces exception_size t
 unfoldable pub whole_exceptions : ℕ → Bool
 whole_exceptions n = eqb (n % exception_size) 0
 
--- it names the symbol of a Symbol Update: by the ID, or by all eleven bytes of the ticker; an exception by any other name names none
+-- it names a symbol: by the ID, or by all eleven bytes of the ticker; an exception by any other name names none
+unfoldable pub names_symbol : List ℕ → Symbol → Bool
+names_symbol x s =
+    pick (eqb (get_or x 0 0) 0) (eqb (field x 1 4) s.id)
+    (both (eqb (get_or x 0 0) 1) (same_bytes (padded x 1 11) s.ticker))
+
+-- and so the symbol of a Symbol Update
 unfoldable pub names : List ℕ → List ℕ → Bool
-names x b =
-    pick (eqb (get_or x 0 0) 0) (eqb (field x 1 4) (symbol_of b).id)
-    (both (eqb (get_or x 0 0) 1) (same_bytes (padded x 1 11) (symbol_of b).ticker))
+names x b = names_symbol x (symbol_of b)
 
 abbrev pub type_of : List ℕ → ℕ
 type_of x = get_or x 12 0

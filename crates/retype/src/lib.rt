@@ -2,10 +2,11 @@
 #![tactic(auto)]
 
 ghost use Rattle.std.specs.Prelude.{◌≡◌};
-ghost use Rattle.retype.specs.Types.{whole_exceptions, names as names_symbol, type_for, types_ok};
+ghost use Rattle.retype.specs.Types.{whole_exceptions, names_symbol, type_for, types_ok};
 ghost use Rattle.retype.specs.Retyped.{byte_in, retyping, retypes, asked_of};
 
 use editions::Edition;
+use fields::Symbol;
 use wire::Number;
 
 // The bytes of an exception.
@@ -27,12 +28,11 @@ pub fn whole_exceptions(n: usize) -> bool
     n % EXCEPTION_SIZE == 0
 }
 
-// The exception names the symbol of a Symbol Update, by ID or by ticker.
-#[tactic(auto, using(crate::proofs::ExceptionLaws::same_eq), unfolding(crate::specs::Types::names, facts::specs::Pick::pick, facts::specs::Pick::both))]
-fn names(x: &[u8], b: &[u8]) -> bool
-    ensures { result ≡ names_symbol x.now b.now }
+// The exception names the symbol, by ID or by ticker.
+#[tactic(auto, using(crate::proofs::ExceptionLaws::same_eq), unfolding(crate::specs::Types::names_symbol, facts::specs::Pick::pick, facts::specs::Pick::both))]
+fn names(x: &[u8], s: &Symbol) -> bool
+    ensures { result ≡ names_symbol x.now s.now }
 {
-    let s = fields::symbol_of(b);
     match u8::at(x, 0) {
         0 => u32::at(x, 1) == s.id,
         1 => wire::bytes_at::<11>(x, 1) == s.ticker,
@@ -45,9 +45,10 @@ impl Asked<'_> {
     pub fn type_for(&self, b: &[u8]) -> u8
         ensures { result ≡ type_for self.now.all self.now.others.now b.now }
     {
+        let s = fields::symbol_of(b);
         self.others
             .chunks_exact(EXCEPTION_SIZE)
-            .find(|x| names(x, b))
+            .find(|x| names(x, &s))
             .map_or(self.all, |x| u8::at(x, 12))
     }
 

@@ -131,6 +131,7 @@ impl<const N: usize> Word<N> {
 }
 
 // Bytes as the programs print them: each as a number behind a space.
+#[derive(Clone, Copy)]
 pub struct Spaced<'a>(pub &'a [u8]);
 
 impl fmt::Display for Spaced<'_> {
