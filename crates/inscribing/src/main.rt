@@ -9,6 +9,7 @@ use line_in::{Expected, Line, Slip};
 use std::env::Env;
 use std::io;
 use std::io::{ErrorKind, Read};
+use streams::Word;
 use styles::Style;
 use packet::Why;
 
@@ -92,15 +93,11 @@ fn fail(err: &impl Print, what: &str, e: io::Error) {
 }
 
 // The edition that the words ask for.
-fn edition_asked(rt: &impl Env) -> Named {
-    let mut first = [0u8; 16];
-    let mut second = [0u8; 16];
-    let n = streams::word(rt, 1, &mut first);
-    let m = streams::word(rt, 2, &mut second);
+fn edition_asked(rt: &impl Env) -> Option<Edition> {
     words::edition_asked(
         streams::word_count(rt, usize::MAX),
-        &first[..n],
-        &second[..m],
+        Word::<16>::at(rt, 1).as_slice(),
+        Word::<16>::at(rt, 2).as_slice(),
     )
 }
 

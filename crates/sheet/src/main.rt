@@ -82,13 +82,14 @@ fn sheet(rt: &(impl Input + Print), e: Edition) -> Result<(), Failure> {
     let mut index = [0; index::INDEX_SIZE];
     let mut hold = [0; facts::HOLD_LEAST];
     let mut block = [0; BLOCK];
+    let mut text = [0; answer_sheet::SHEET_MOST];
     let mut from = rt.reader();
     let started = receiver::start(e, &mut orders, &mut symbols, &mut shelf, &mut index);
     let mut stream = recording::open(started.map_err(refused)?);
     for _ in 0..u64::MAX {
         let n = streams::read_once(&mut from, &mut block).map_err(Failure::Input)?;
         if n == 0 {
-            return print(rt, &orders, &symbols, stream);
+            return print(rt, &orders, &symbols, stream, &mut text);
         }
         let fed = recording::feed(
             &mut orders,
@@ -108,16 +109,19 @@ fn refused(_: Refusal) -> Failure {
     Failure::Told(REFUSED)
 }
 
-fn print(rt: &impl Print, orders: &[u64], symbols: &[u8], s: Stream) -> Result<(), Failure> {
+// The sheet's memory is lent as an array: one so long is no slice where it is made, since its length would be counted there.
+fn print(
+    rt: &impl Print,
+    orders: &[u64],
+    symbols: &[u8],
+    s: Stream,
+    sheet: &mut [u8; answer_sheet::SHEET_MOST],
+) -> Result<(), Failure> {
     let word = if recording::is_cut(s) {
         Recording::Cut
     } else {
         Recording::Whole
     };
-    let mut sheet = [0; answer_sheet::SHEET_MOST];
-    let n = answer_sheet::sheet(&mut sheet, orders, symbols, s.receiver, s.bad, word).map_err(
-        refused,
-    )?;
-    rt.write_all(text::front(&sheet, n))
-        .map_err(Failure::Output)
+    let n = answer_sheet::sheet(sheet, orders, symbols, s.receiver, s.bad, word).map_err(refused)?;
+    rt.write_all(text::front(sheet, n)).map_err(Failure::Output)
 }
