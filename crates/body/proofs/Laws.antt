@@ -19,8 +19,8 @@ use Rattle.layout.specs.Message.{read_as}
 use Rattle.kinds.specs.Table.{table, lookup, length_of, kind_of, type_of, kind_length, refusal_of}
 use Rattle.kinds.specs.declared.Kind.{Kind}
 use Rattle.kinds.proofs.Laws.{Lengths, lengths, no_length, type_kind}
-use Rattle.fields.specs.Fields.{status_of, clear_of, add_of, modify_of, delete_of, execution_of, trade_of, cancel_of, bad_at, decoded, body_number}
-use Rattle.fields.specs.Messages.{system_time, symbol_update, system_state}
+use Rattle.fields.specs.Fields.{status_of, clear_of, add_of, modify_of, delete_of, execution_of, trade_of, cancel_of, update_of, state_of, bad_at, decoded, body_number}
+use Rattle.fields.specs.Messages.{system_time}
 use Rattle.fields.specs.declared.Body.{Body}
 use Rattle.body.specs.Ranges.{nanos_ok, one_of, side_ok, price_ok, size_ok, security_ok, test_ok, market_ok}
 use Rattle.body.specs.Faults.{Tests, tests, fault_from, fault_of}
@@ -86,8 +86,8 @@ pub record Framed (k : Kind) (b : List ℕ) : Type 0 where
 -- what an answer says: the body is framed, the message is what its layout reads there, and the fields that it shows are in range
 abbrev pub Sound : (ed : Edition) → Body → List ℕ → Type 0
 Sound ed (Body.SystemTime n) b = Framed Kind.SystemTime b × (n ≡ read_as system_time b)
-Sound ed Body.SymbolUpdate b = Framed Kind.SymbolUpdate b × (test_ok (read_as symbol_update b).test ≡ true) × (market_ok (read_as symbol_update b).symbol.market ≡ true) × ((read_as symbol_update b).nanos ≤ most_nanos) × (security_ok ed (read_as symbol_update b).security ≡ true)
-Sound ed Body.SystemState b = Framed Kind.SystemState b × ((read_as system_state b).nanos ≤ most_nanos)
+Sound ed (Body.SymbolUpdate m) b = Framed Kind.SymbolUpdate b × (m ≡ update_of b) × (test_ok m.test ≡ true) × (market_ok m.symbol.market ≡ true) × (m.nanos ≤ most_nanos) × (security_ok ed m.security ≡ true)
+Sound ed (Body.SystemState m) b = Framed Kind.SystemState b × (m ≡ state_of b) × (m.nanos ≤ most_nanos)
 Sound ed (Body.TradingStatus m) b = Framed Kind.TradingStatus b × (m ≡ status_of b) × (m.nanos ≤ most_nanos)
 Sound ed (Body.SymbolClear m) b = Framed Kind.SymbolClear b × (m ≡ clear_of b) × (m.nanos ≤ most_nanos)
 Sound ed (Body.Add m) b = Framed Kind.Add b × (m ≡ add_of b) × (side_ok m.side ≡ true) × Deal m.price m.size × (m.nanos ≤ most_nanos)
@@ -111,8 +111,8 @@ no_kind b w = let e : length b ≡ 0 = w.length_is in omega (arith, w.some)
 decoded_sound : (ed : Edition) (k : Kind) (b : List ℕ) → Framed k b → AllHold (shapes k) (tests ed k) (fields_in k b) → Sound ed (decoded k b) b
 unfolding decoded
 decoded_sound ed Kind.SystemTime b w h = (w, refl)
-decoded_sound ed Kind.SymbolUpdate b w h = (w, h.1.1.1.1.0, h.1.1.1.1.1.1.1.1.1.0, in_time (read_as symbol_update b).nanos h.0, h.1.1.1.0)
-decoded_sound ed Kind.SystemState b w h = (w, in_time (read_as system_state b).nanos h.0)
+decoded_sound ed Kind.SymbolUpdate b w h = (w, refl, h.1.1.1.1.0, h.1.1.1.1.1.1.1.1.1.0, in_time (update_of b).nanos h.0, h.1.1.1.0)
+decoded_sound ed Kind.SystemState b w h = (w, refl, in_time (state_of b).nanos h.0)
 decoded_sound ed Kind.TradingStatus b w h = (w, refl, in_time (status_of b).nanos h.0)
 decoded_sound ed Kind.SymbolClear b w h = (w, refl, in_time (clear_of b).nanos h.0)
 decoded_sound ed Kind.Add b w h = (w, refl, h.1.1.1.0, deal (add_of b).price (add_of b).size h.1.1.1.1.0 h.1.1.1.1.1.0, in_time (add_of b).nanos h.0)

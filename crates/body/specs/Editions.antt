@@ -22,8 +22,8 @@ pub record Unlettered (b : List ℕ) : Type 0 where
   pub update : IsUpdate b
   pub no_letter : security_ok Edition.V13 (security_of b) ≡ false
 
--- "a reader shows only right fields": a reader of the edition r, given a body of the edition w, takes it as the same message, whose fields are read from the same bytes by definitions that know no
--- edition (`decoded`, and of a Symbol Update and a System State `symbol_of` and `state_of`), and shows no Security Type but the one that w has there
+-- "a reader shows only right fields": a reader of the edition r, given a body of the edition w, takes it as the same message, whose fields are read from the same bytes by a definition that knows no
+-- edition (`decoded`), and shows no Security Type but the one that w has there
 pub record OnlyRight (r w : Edition) (b : List ℕ) : Type 0 where
   pub taken : good_body r b ≡ true
   pub same_message : read_body r b ≡ read_body w b

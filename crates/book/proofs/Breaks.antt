@@ -15,6 +15,7 @@ use Rattle.fields.specs.declared.AddOrder.{AddOrder}
 use Rattle.fields.specs.declared.ModifyOrder.{ModifyOrder}
 use Rattle.fields.specs.declared.DeleteOrder.{DeleteOrder}
 use Rattle.fields.specs.declared.OrderExecution.{OrderExecution}
+use Rattle.fields.specs.declared.SymbolUpdate.{SymbolUpdate}
 use Rattle.fields.specs.declared.Fault.{Fault}
 use Rattle.body.specs.Read.{read_body}
 use Rattle.rows.specs.declared.Row.{Row}
@@ -40,7 +41,7 @@ pub data Breaks : Body → ℕ → Type 0 where
   elsewhere : {m : Body} → NamesOrder m → Breaks m 23
   above : (m : OrderExecution) → Breaks (Body.Execution m) 24
   no_row : (m : AddOrder) → Breaks (Body.Add m) 25
-  no_entry : Breaks Body.SymbolUpdate 26
+  no_entry : (m : SymbolUpdate) → Breaks (Body.SymbolUpdate m) 26
   no_body : (r : Fault) → Breaks (Body.Bad r) 27
 
 -- ---- each guard: it stopped the plan, or what stands behind it did
@@ -101,7 +102,7 @@ module _ (n : ℕ) (b : List ℕ) (c : Clock) (f : Finds) (q : Rule) where
   group_breaks : {m : Body} → Group m → plan_by m n b c f ≡ Err q → Breaks m (number_of q)
   unfolding plan_by
   group_breaks (time s) h = never_stops h
-  group_breaks update h = update_stop (λ r. Breaks Body.SymbolUpdate (number_of r)) q c _ no_entry h
+  group_breaks (update m) h = update_stop (λ r. Breaks (Body.SymbolUpdate m) (number_of r)) q c _ (no_entry m) h
   group_breaks (names x) h = names_breaks x h
   group_breaks (other x) h = never_stops (sym (other_idle n b c f x) ∙ h)
   group_breaks (refused r) h = subst (λ x. Breaks (Body.Bad r) (number_of x)) (same_stop h) (no_body r)

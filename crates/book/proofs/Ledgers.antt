@@ -128,7 +128,7 @@ module _ (n : ℕ) (b : List ℕ) (k : Book) (ranked : 1 ≤ n) where
   proper_plan : (m : Body) (w : Works) → plan_by m n b k.clock (scans k) ≡ Ok w → Proper rs w.orders
   unfolding plan_by add_plan modify_plan delete_plan execution_plan clear_plan
   proper_plan (Body.SystemTime s) w e = let q : RowWork.Keep ≡ w.orders = cc in subst (Proper rs) q nothing
-  proper_plan Body.SymbolUpdate w e =
+  proper_plan (Body.SymbolUpdate m) w e =
       let u = goes_update k.clock (place_for (id_of b) (entries k.symbols)) w e in
       subst (Proper rs) (ap (λ (x : Works). x.orders) u.2) nothing
   proper_plan (Body.Add m) w e =
@@ -161,7 +161,7 @@ module _ (n : ℕ) (b : List ℕ) (k : Book) (ranked : 1 ≤ n) where
       let g = goes_known _ (λ i. Ok _) w e in
       let q : RowWork.Clear m.symbol ≡ w.orders = cc g.2 in
       subst (Proper rs) q (clears m.symbol)
-  proper_plan Body.SystemState w e = let q : RowWork.Keep ≡ w.orders = cc in subst (Proper rs) q nothing
+  proper_plan (Body.SystemState m) w e = let q : RowWork.Keep ≡ w.orders = cc in subst (Proper rs) q nothing
   proper_plan (Body.TradingStatus m) w e = let q : RowWork.Keep ≡ w.orders = cc in subst (Proper rs) q nothing
   proper_plan (Body.Trade m) w e = let q : RowWork.Keep ≡ w.orders = cc in subst (Proper rs) q nothing
   proper_plan (Body.TradeCancel m) w e = let q : RowWork.Keep ≡ w.orders = cc in subst (Proper rs) q nothing

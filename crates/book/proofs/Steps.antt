@@ -21,6 +21,8 @@ use Rattle.fields.specs.declared.DeleteOrder.{DeleteOrder}
 use Rattle.fields.specs.declared.OrderExecution.{OrderExecution}
 use Rattle.fields.specs.declared.Trade.{Trade}
 use Rattle.fields.specs.declared.TradeCancel.{TradeCancel}
+use Rattle.fields.specs.declared.SymbolUpdate.{SymbolUpdate}
+use Rattle.fields.specs.declared.SystemState.{SystemState}
 use Rattle.fields.specs.declared.Fault.{Fault}
 use Rattle.body.specs.Read.{read_body, good_body}
 use Rattle.body.proofs.Laws.{bad_number}
@@ -82,7 +84,7 @@ pub data Names : Body → ℕ → Type 0 where
   execution : (m : OrderExecution) → Names (Body.Execution m) m.symbol
 
 pub data Other : Body → Type 0 where
-  state : Other Body.SystemState
+  state : (m : SystemState) → Other (Body.SystemState m)
   status : (m : TradingStatus) → Other (Body.TradingStatus m)
   trade : (m : Trade) → Other (Body.Trade m)
   cancel : (m : TradeCancel) → Other (Body.TradeCancel m)
@@ -90,20 +92,20 @@ pub data Other : Body → Type 0 where
 -- what a body is, as far as the tables go
 pub data Group : Body → Type 0 where
   time : (s : ℕ) → Group (Body.SystemTime s)
-  update : Group Body.SymbolUpdate
+  update : (m : SymbolUpdate) → Group (Body.SymbolUpdate m)
   names : {m : Body} {s : ℕ} → Names m s → Group m
   other : {m : Body} → Other m → Group m
   refused : (r : Fault) → Group (Body.Bad r)
 
 pub group_of : (m : Body) → Group m
 group_of (Body.SystemTime s) = time s
-group_of Body.SymbolUpdate = update
+group_of (Body.SymbolUpdate m) = update m
 group_of (Body.SymbolClear m) = names (clear m)
 group_of (Body.Add m) = names (add m)
 group_of (Body.Modify m) = names (modify m)
 group_of (Body.Delete m) = names (delete m)
 group_of (Body.Execution m) = names (execution m)
-group_of Body.SystemState = other state
+group_of (Body.SystemState m) = other (state m)
 group_of (Body.TradingStatus m) = other (status m)
 group_of (Body.Trade m) = other (trade m)
 group_of (Body.TradeCancel m) = other (cancel m)
@@ -125,22 +127,22 @@ names_part (delete m) = refl
 names_part (execution m) = refl
 
 other_good : {m : Body} → Other m → body_number m ≡ 0
-other_good state = refl
+other_good (state m) = refl
 other_good (status m) = refl
 other_good (trade m) = refl
 other_good (cancel m) = refl
 
 other_part : {m : Body} → Other m → part_of m ≡ no_part
 unfolding part_of
-other_part state = refl
+other_part (state m) = refl
 other_part (status m) = refl
 other_part (trade m) = refl
 other_part (cancel m) = refl
 
 -- a Symbol Update alone may change the symbol table
-pub part_update : {m : Body} → Group m → part_of m ≡ the_symbols → m ≡ Body.SymbolUpdate
+pub part_update : {m : Body} → Group m → part_of m ≡ the_symbols → (u : SymbolUpdate) × (m ≡ Body.SymbolUpdate u)
 unfolding part_of
-part_update update q = refl
+part_update (update m) q = (m, refl)
 part_update (time s) q = cc
 part_update (names x) q = cc (names_part x)
 part_update (other x) q = cc (other_part x)
@@ -172,7 +174,7 @@ module _ (n : ℕ) (b : List ℕ) (c : Clock) (f : Finds) where
 
   pub other_idle : {m : Body} → Other m → plan_by m n b c f ≡ idle c
   unfolding plan_by
-  other_idle state = refl
+  other_idle (state m) = refl
   other_idle (status m) = refl
   other_idle (trade m) = refl
   other_idle (cancel m) = refl
@@ -180,7 +182,7 @@ module _ (n : ℕ) (b : List ℕ) (c : Clock) (f : Finds) where
   pub group_bad : {m : Body} → Group m → (body_number m ≡ 0 → ⊥) → plan_by m n b c f ≡ Err NoBody
   unfolding plan_by
   group_bad (time s) h = absurd (h refl)
-  group_bad update h = absurd (h refl)
+  group_bad (update m) h = absurd (h refl)
   group_bad (names x) h = absurd (h (names_good x))
   group_bad (other x) h = absurd (h (other_good x))
   group_bad (refused r) h = refl
@@ -216,15 +218,15 @@ module _ (n : ℕ) (b : List ℕ) (c : Clock) (f : Finds) where
   group_rows : {m : Body} → Group m → ((s : ℕ) × Names m s) ⊎ (rows_of (plan_by m n b c f) ≡ RowWork.Keep)
   unfolding plan_by
   group_rows (time s) = inr refl
-  group_rows update = inr (update_rows (f.room (id_of b))).0
+  group_rows (update m) = inr (update_rows (f.room (id_of b))).0
   group_rows (names {s = s} x) = inl (s, x)
   group_rows (other x) = inr (ap rows_of (other_idle n b c f x))
   group_rows (refused r) = inr refl
 
-  group_entries : {m : Body} → Group m → (m ≡ Body.SymbolUpdate) ⊎ (entries_of (plan_by m n b c f) ≡ None)
+  group_entries : {m : Body} → Group m → ((u : SymbolUpdate) × (m ≡ Body.SymbolUpdate u)) ⊎ (entries_of (plan_by m n b c f) ≡ None)
   unfolding plan_by
   group_entries (time s) = inr refl
-  group_entries update = inl refl
+  group_entries (update m) = inl (m, refl)
   group_entries (names x) = inr (orders_entries (names_orders n b c f x)).0
   group_entries (other x) = inr (ap entries_of (other_idle n b c f x))
   group_entries (refused r) = inr refl
@@ -232,7 +234,7 @@ module _ (n : ℕ) (b : List ℕ) (c : Clock) (f : Finds) where
   group_clock : {m : Body} → Group m → ((s : ℕ) × (m ≡ Body.SystemTime s)) ⊎ (clock_of c (plan_by m n b c f) ≡ c)
   unfolding plan_by
   group_clock (time s) = inl (s, refl)
-  group_clock update = inr (update_rows (f.room (id_of b))).1
+  group_clock (update m) = inr (update_rows (f.room (id_of b))).1
   group_clock (names x) = inr (orders_entries (names_orders n b c f x)).1
   group_clock (other x) = inr (ap (clock_of c) (other_idle n b c f x))
   group_clock (refused r) = inr refl
@@ -280,7 +282,7 @@ module _ (ed : Edition) (n : ℕ) (b : List ℕ) (k : Book) where
       (group_rows n b k.clock (scans k) (group_of (read_body ed b)))
 
   -- it is a Symbol Update, or the symbol table is as it was
-  pub symbols_updated : (read_body ed b ≡ Body.SymbolUpdate) ⊎ ((applied ed n b k).after.symbols ≡ k.symbols)
+  pub symbols_updated : ((m : SymbolUpdate) × (read_body ed b ≡ Body.SymbolUpdate m)) ⊎ ((applied ed n b k).after.symbols ≡ k.symbols)
   unfolding entered planned
   symbols_updated =
       ⊎_elim inl (λ e. inr (ap (λ x. x.symbols) applied_all ∙ ap (λ w. entered w b k.symbols) e))
@@ -296,7 +298,7 @@ module _ (ed : Edition) (n : ℕ) (b : List ℕ) (k : Book) where
 
   pub symbols_kept : (part_of (read_body ed b) ≡ the_symbols → ⊥) → (applied ed n b k).after.symbols ≡ k.symbols
   unfolding part_of
-  symbols_kept h = ⊎_elim (λ e. absurd (h (ap part_of e))) (λ e. e) symbols_updated
+  symbols_kept h = ⊎_elim (λ e. absurd (h (ap part_of e.1))) (λ e. e) symbols_updated
 
   pub clock_kept : (part_of (read_body ed b) ≡ the_second → ⊥) → (applied ed n b k).after.clock ≡ k.clock
   unfolding part_of

@@ -20,6 +20,7 @@ use Rattle.fields.specs.declared.AddOrder.{AddOrder}
 use Rattle.fields.specs.declared.ModifyOrder.{ModifyOrder}
 use Rattle.fields.specs.declared.DeleteOrder.{DeleteOrder}
 use Rattle.fields.specs.declared.OrderExecution.{OrderExecution}
+use Rattle.fields.specs.declared.SymbolUpdate.{SymbolUpdate}
 use Rattle.body.specs.Read.{read_body}
 use Rattle.body.proofs.Laws.{Sound, read_sound}
 use Rattle.rows.specs.declared.Row.{Row}
@@ -229,10 +230,10 @@ module _ (ed : Edition) (m : SymbolClear) (n : ℕ) (b : List ℕ) (k : Book) (e
 
 -- ---- Symbol Update: its symbol is known afterwards
 -- its type byte marks an entry in use
-pub update_used : (ed : Edition) (b : List ℕ) → read_body ed b ≡ Body.SymbolUpdate → used b ≡ true
-update_used ed b e = let w = rw e at (read_sound ed b) in used_body b w.0.type_is
+pub update_used : (ed : Edition) (m : SymbolUpdate) (b : List ℕ) → read_body ed b ≡ Body.SymbolUpdate m → used b ≡ true
+update_used ed m b e = let w = rw e at (read_sound ed b) in used_body b w.0.type_is
 
-module _ (ed : Edition) (n : ℕ) (b : List ℕ) (k : Book) (e : read_body ed b ≡ Body.SymbolUpdate) (z : (applied ed n b k).rule ≡ 0) where
+module _ (ed : Edition) (m : SymbolUpdate) (n : ℕ) (b : List ℕ) (k : Book) (e : read_body ed b ≡ Body.SymbolUpdate m) (z : (applied ed n b k).rule ≡ 0) where
   pub record Updated : Type 0 where
     pub place : ℕ
     pub found : place_for (id_of b) (entries k.symbols) ≡ Some place
@@ -241,7 +242,7 @@ module _ (ed : Edition) (n : ℕ) (b : List ℕ) (k : Book) (e : read_body ed b 
   pub update_done : Updated
   unfolding plan_by entered
   update_done =
-      let d = done ed Body.SymbolUpdate n b k e z in
+      let d = done ed (Body.SymbolUpdate m) n b k e z in
       let g = goes_update k.clock (place_for (id_of b) (entries k.symbols)) d.does d.plan_is in
       record { place = g.0; found = g.1; table_is = d.symbols_are ∙ ap (λ (o : Works). entered o.symbols b k.symbols) (sym g.2) }
 
@@ -249,7 +250,7 @@ module _ (ed : Edition) (n : ℕ) (b : List ℕ) (k : Book) (e : read_body ed b 
   w = update_done
 
   pub update_known : known_symbol (id_of b) (entries (applied ed n b k).after.symbols) ≡ true
-  update_known = rw (w.table_is, entries_put k.symbols w.place b) (known_after b (entries k.symbols) w.place w.found (update_used ed b e))
+  update_known = rw (w.table_is, entries_put k.symbols w.place b) (known_after b (entries k.symbols) w.place w.found (update_used ed m b e))
 
 -- ---- what an update at its place keeps of the entries, every message keeps
 module _ (ed : Edition) (n : ℕ) (b : List ℕ) (k : Book) where
@@ -261,8 +262,8 @@ module _ (ed : Edition) (n : ℕ) (b : List ℕ) (k : Book) where
       go (yes z) =
           ⊎_elim
           (λ e.
-          let w = update_done ed n b k e z in
-          subst P (sym (ap entries w.table_is ∙ entries_put k.symbols w.place b)) (f w.place w.found (update_used ed b e) p))
+          let w = update_done ed e.0 n b k e.1 z in
+          subst P (sym (ap entries w.table_is ∙ entries_put k.symbols w.place b)) (f w.place w.found (update_used ed e.0 b e.1) p))
           (λ e. subst (λ t. P (entries t)) (sym e) p)
           (symbols_updated ed n b k)
       go (no x) = subst (λ (u : Book). P (entries u.symbols)) (sym (broken_keeps ed n b k x)) p
@@ -274,8 +275,8 @@ module _ (ed : Edition) (n : ℕ) (b : List ℕ) (k : Book) where
   -- ---- live order IDs stay unique
   unique_by : (m : Body) (s : ℕ) → Names m s → read_body ed b ≡ m → (applied ed n b k).rule ≡ 0 → Unique (rows k.orders) → Unique (rows (applied ed n b k).after.orders)
   unique_by (Body.SystemTime _) s h e z v = elim h [ ]
-  unique_by Body.SymbolUpdate s h e z v = elim h [ ]
-  unique_by Body.SystemState s h e z v = elim h [ ]
+  unique_by (Body.SymbolUpdate _) s h e z v = elim h [ ]
+  unique_by (Body.SystemState _) s h e z v = elim h [ ]
   unique_by (Body.TradingStatus _) s h e z v = elim h [ ]
   unique_by (Body.Trade _) s h e z v = elim h [ ]
   unique_by (Body.TradeCancel _) s h e z v = elim h [ ]

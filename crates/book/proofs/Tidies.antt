@@ -60,8 +60,8 @@ module _ (ed : Edition) (n : ℕ) (b : List ℕ) (k : Book) (ranked : 1 ≤ n) (
       go : (p : Part) → part_of (read_body ed b) ≡ p → used_ids (applied ed n b k).after ≡ first_use_by p (id_of b) (used_ids k)
       go the_symbols q =
           let e = part_update (group_of (read_body ed b)) q in
-          let w = update_done ed n b k e z in
-          ap ids_in (ap entries w.table_is ∙ entries_put k.symbols w.place b) ∙ ids_kept b (entries k.symbols) w.place w.found (update_used ed b e) t.packed
+          let w = update_done ed e.0 n b k e.1 z in
+          ap ids_in (ap entries w.table_is ∙ entries_put k.symbols w.place b) ∙ ids_kept b (entries k.symbols) w.place w.found (update_used ed e.0 b e.1) t.packed
       go the_orders q = same (λ e. cc)
       go the_second q = same (λ e. cc)
       go no_part q = same (λ e. cc)

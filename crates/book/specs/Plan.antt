@@ -129,14 +129,14 @@ pub record Finds : Type 0 where
 unfoldable pub plan_by : Body → ℕ → List ℕ → Clock → Finds → Plan
 -- "System Time sets the current second."
 plan_by (Body.SystemTime s) n b c f = idle (clock s)
-plan_by Body.SymbolUpdate n b c f = update_plan c (f.room (id_of b))
+plan_by (Body.SymbolUpdate m) n b c f = update_plan c (f.room (id_of b))
 plan_by (Body.Add m) n b c f = add_plan c m n (f.entry m.symbol) (f.order m.order) f.free_row
 plan_by (Body.Modify m) n b c f = modify_plan c m n (f.entry m.symbol) (f.order m.order)
 plan_by (Body.Delete m) n b c f = delete_plan c m (f.entry m.symbol) (f.order m.order)
 plan_by (Body.Execution m) n b c f = execution_plan c m (f.entry m.symbol) (f.order m.order)
 plan_by (Body.SymbolClear m) n b c f = clear_plan c m (f.entry m.symbol)
 -- "The other four apply without changing a table."
-plan_by Body.SystemState n b c f = idle c
+plan_by (Body.SystemState m) n b c f = idle c
 plan_by (Body.TradingStatus m) n b c f = idle c
 plan_by (Body.Trade m) n b c f = idle c
 plan_by (Body.TradeCancel m) n b c f = idle c

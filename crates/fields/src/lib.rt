@@ -134,13 +134,12 @@ pub struct Fault {
     pub at: usize,
 }
 
-// What a body says, or why it is refused. The fields of a Symbol Update and of a System State, which have texts, stand beside it
-// (update_of and state_of), so that a Body stays as small as the numbers of an order.
+// What a body says, or why it is refused.
 #[derive(Clone, Copy, Debug, PartialEq, Eq)]
 pub enum Body {
     SystemTime(u32),
-    SymbolUpdate,
-    SystemState,
+    SymbolUpdate(SymbolUpdate),
+    SystemState(SystemState),
     TradingStatus(TradingStatus),
     SymbolClear(SymbolClear),
     Add(AddOrder),
@@ -306,8 +305,8 @@ pub fn decode(k: Kind, b: &[u8]) -> Body
 {
     match k {
         Kind::SystemTime => Body::SystemTime(u32::at(b, 1)),
-        Kind::SymbolUpdate => Body::SymbolUpdate,
-        Kind::SystemState => Body::SystemState,
+        Kind::SymbolUpdate => Body::SymbolUpdate(update_of(b)),
+        Kind::SystemState => Body::SystemState(state_of(b)),
         Kind::TradingStatus => Body::TradingStatus(status_of(b)),
         Kind::SymbolClear => Body::SymbolClear(clear_of(b)),
         Kind::Add => Body::Add(add_of(b)),

@@ -4,7 +4,6 @@ use Rattle.std.specs.Prelude.{ℕ, List, [], ◌∷◌, ◌++◌, replicate, Opt
 use Rattle.kinds.specs.declared.Kind.{Kind}
 use Rattle.kinds.specs.Table.{type_of}
 use Rattle.editions.specs.declared.Edition.{Edition}
-use Rattle.fields.specs.Fields.{update_of, state_of}
 use Rattle.fields.specs.declared.TradingStatus.{TradingStatus}
 use Rattle.fields.specs.declared.SymbolClear.{SymbolClear}
 use Rattle.fields.specs.declared.AddOrder.{AddOrder}
@@ -67,11 +66,11 @@ trade_fields t m = eight t m.nanos m.symbol m.trade m.correction m.price m.size 
 abbrev pub cancel_fields : ℕ → TradeCancel → List ℕ
 cancel_fields t m = eight t m.nanos m.symbol m.trade m.correction m.price m.size 0
 
--- the numbers of a message behind its type, and of the body that holds those of a Symbol Update and of a System State; System Time is its second
+-- the numbers of a message behind its type, and of the body that holds the Security Type of a Symbol Update; System Time is its second
 abbrev pub typed : Edition → ℕ → Body → List ℕ → List ℕ
 typed ed t (Body.SystemTime n) b = eight t n 0 0 0 0 0 0
-typed ed t Body.SymbolUpdate b = update_fields t (update_of b) (security_in ed b)
-typed ed t Body.SystemState b = state_fields t (state_of b)
+typed ed t (Body.SymbolUpdate m) b = update_fields t m (security_in ed b)
+typed ed t (Body.SystemState m) b = state_fields t m
 typed ed t (Body.TradingStatus m) b = status_fields t m
 typed ed t (Body.SymbolClear m) b = clear_fields t m
 typed ed t (Body.Add m) b = add_fields t m
@@ -85,8 +84,8 @@ typed ed t (Body.Bad r) b = eight t 0 0 0 0 0 0 0
 -- the kind of a message
 abbrev pub kind_in : Body → Kind
 kind_in (Body.SystemTime n) = Kind.SystemTime
-kind_in Body.SymbolUpdate = Kind.SymbolUpdate
-kind_in Body.SystemState = Kind.SystemState
+kind_in (Body.SymbolUpdate m) = Kind.SymbolUpdate
+kind_in (Body.SystemState m) = Kind.SystemState
 kind_in (Body.TradingStatus m) = Kind.TradingStatus
 kind_in (Body.SymbolClear m) = Kind.SymbolClear
 kind_in (Body.Add m) = Kind.Add
@@ -123,8 +122,8 @@ no_text = replicate text_size 0
 
 abbrev pub text_of : Edition → Body → List ℕ → List ℕ
 text_of ed (Body.SystemTime n) b = no_text
-text_of ed Body.SymbolUpdate b = update_text (update_of b) (security_in ed b)
-text_of ed Body.SystemState b = state_text (state_of b)
+text_of ed (Body.SymbolUpdate m) b = update_text m (security_in ed b)
+text_of ed (Body.SystemState m) b = state_text m
 text_of ed (Body.TradingStatus m) b = no_text
 text_of ed (Body.SymbolClear m) b = no_text
 text_of ed (Body.Add m) b = no_text

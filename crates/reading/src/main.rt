@@ -265,8 +265,8 @@ fn show_body(rt: &impl Print, e: Edition, b: &[u8]) -> io::Result<()> {
 fn show_fields(rt: &impl Print, e: Edition, b: &[u8]) -> io::Result<()> {
     match body::read_body(e, b) {
         Body::SystemTime(seconds) => also(rt, seconds as u64),
-        Body::SymbolUpdate => show_symbol(rt, fields::symbol_of(b), body::security_in(e, b)),
-        Body::SystemState => show_state(rt, fields::state_of(b)),
+        Body::SymbolUpdate(m) => show_symbol(rt, m.symbol, body::security_in(e, b)),
+        Body::SystemState(m) => show_state(rt, m),
         Body::TradingStatus(m) => show_status(rt, m),
         Body::SymbolClear(m) => show_clear(rt, m),
         Body::Add(m) => show_add(rt, m),

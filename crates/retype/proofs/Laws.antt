@@ -23,6 +23,7 @@ use Rattle.wire.proofs.Laws.{field_same, length_padded, get_or_padded, is_padded
 use Rattle.kinds.specs.Table.{kind_of, type_of as type_byte, kind_length, length_of, lookup, table}
 use Rattle.kinds.specs.declared.Kind.{Kind}
 use Rattle.fields.specs.Fields.{symbol_of, security_of, decoded}
+use Rattle.fields.specs.declared.Body.{Body}
 use Rattle.body.specs.Ranges.{security_ok}
 use Rattle.body.specs.Read.{judge_body, judged_number, message, read_body, good_body}
 use Rattle.body.specs.Editions.{IsUpdate}
@@ -120,6 +121,21 @@ pub retyped_own : (a : Asked) (b : List ℕ) → (is_update b ≡ true → get_o
 retyped_own a b h = by_update b (λ u. retyped_yes a b u ∙ ap (set b 20) (sym (h u)) ∙ set-get_or b 20 0) (λ u. retyped_no a b u)
 
 -- ---- a good body is a good body of the edition asked for, as the same message
+-- a message with another byte 20, which a Symbol Update alone has
+abbrev pub with_20 : Body → ℕ → Body
+with_20 (Body.SymbolUpdate m) y = Body.SymbolUpdate (record { nanos = m.nanos; symbol = m.symbol; security = y; test = m.test; reserved = m.reserved })
+with_20 (Body.SystemTime m) y = Body.SystemTime m
+with_20 (Body.SystemState m) y = Body.SystemState m
+with_20 (Body.TradingStatus m) y = Body.TradingStatus m
+with_20 (Body.SymbolClear m) y = Body.SymbolClear m
+with_20 (Body.Add m) y = Body.Add m
+with_20 (Body.Modify m) y = Body.Modify m
+with_20 (Body.Delete m) y = Body.Delete m
+with_20 (Body.Execution m) y = Body.Execution m
+with_20 (Body.Trade m) y = Body.Trade m
+with_20 (Body.TradeCancel m) y = Body.TradeCancel m
+with_20 (Body.Bad m) y = Body.Bad m
+
 -- the type of a good body is its kind's, so that `is_update` and the kind tell the same
 good_update : (ed : Edition) (b : List ℕ) → good_body ed b ≡ true → IsUpdate b → is_update b ≡ true
 unfolding is_update
@@ -172,14 +188,17 @@ module _ (from : Edition) (a : Asked) (b : List ℕ) (g : good_body from b ≡ t
   unfolding good_body
   newer_good = ap (λ (j : Result Kind Fault). eqb (judged_number j) 0) (newer_judged from a b g) ∙ g
 
+  -- byte 20 is the one asked for
+  byte_there : is_update b ≡ true → security_of (retyped a b) ≡ new_byte a b
+  byte_there u = ap security_of (retyped_yes a b u) ∙ get_or-set_same b 20 (new_byte a b) 0 (update_long from b g u)
+
   -- in 1.3 its letter is one that was asked for
   typed : a.to ≡ Edition.V13 → is_update b ≡ true → judge_body Edition.V13 (retyped a b) ≡ judge_body from b
   typed e u =
       let c = retyped a b in
-      let there : security_of c ≡ new_byte a b = ap security_of (retyped_yes a b u) ∙ get_or-set_same b 20 (new_byte a b) 0 (update_long from b g u) in
       let is : new_byte a b ≡ type_for a.all a.others b = ap (λ (ed : Edition). byte_in ed (type_for a.all a.others b)) e in
       let good : security_ok Edition.V13 (type_for a.all a.others b) ≡ true = type_good Edition.V13 a.all a.others b (ap (λ (ed : Edition). types_ok ed a.all a.others) (sym e) ∙ ok) in
-      lettered_alike c (record { update = update_kind c (update_kept a b ∙ u); letter = ap (security_ok Edition.V13) (there ∙ is) ∙ good }) ∙ newer_judged from a b g
+      lettered_alike c (record { update = update_kind c (update_kept a b ∙ u); letter = ap (security_ok Edition.V13) (byte_there u ∙ is) ∙ good }) ∙ newer_judged from a b g
 
   untyped : is_update b ≡ false → judge_body Edition.V13 (retyped a b) ≡ judge_body from b
   untyped u =
@@ -204,13 +223,38 @@ module _ (from : Edition) (a : Asked) (b : List ℕ) (g : good_body from b ≡ t
       go (good k e h z) = e ∙ ap Ok (subst (λ (r : Result Kind Fault). JudgedAs from r b) e (judge_sound from b)).0
       go (bad f e h w) = absurd (true≢false (sym g ∙ h))
 
-  -- the same message, with the same fields: of a Symbol Update those of `Symbol` (`symbol_same`), of any other message all, since it has the same bytes
-  pub retyped_read : read_body a.to (retyped a b) ≡ read_body from b
-  unfolding read_body message decoded
+  -- any other message keeps all of its bytes
+  decoded_kept : (k : Kind) → kind_of (get_or b 0 0) ≡ k → (k ≡ Kind.SymbolUpdate → ⊥) → decoded k (retyped a b) ≡ decoded k b
+  decoded_kept k e n = by_update b (λ u. absurd (n (sym e ∙ update_kind b u))) (λ u. ap (decoded k) (retyped_no a b u))
+
+  -- and of a Symbol Update no other field lies there
+  decoded_to : (k : Kind) → kind_of (get_or b 0 0) ≡ k → decoded k (retyped a b) ≡ with_20 (decoded k b) (new_byte a b)
+  unfolding decoded
+  decoded_to Kind.SymbolUpdate e =
+      let s = retyped_same a b in
+      λ i. Body.SymbolUpdate (record {
+        nanos = field_same (retyped a b) b 1 4 (λ k h m. s k (λ q. omega arith)) i;
+        symbol = symbol_same b (retyped a b) s i;
+        security = byte_there (good_update from b g e) i;
+        test = s 21 (λ q. omega arith) i;
+        reserved = s 22 (λ q. omega arith) i;
+      })
+  decoded_to Kind.SystemTime e = decoded_kept Kind.SystemTime e (λ q. cc)
+  decoded_to Kind.SystemState e = decoded_kept Kind.SystemState e (λ q. cc)
+  decoded_to Kind.TradingStatus e = decoded_kept Kind.TradingStatus e (λ q. cc)
+  decoded_to Kind.SymbolClear e = decoded_kept Kind.SymbolClear e (λ q. cc)
+  decoded_to Kind.Add e = decoded_kept Kind.Add e (λ q. cc)
+  decoded_to Kind.Modify e = decoded_kept Kind.Modify e (λ q. cc)
+  decoded_to Kind.Delete e = decoded_kept Kind.Delete e (λ q. cc)
+  decoded_to Kind.Execution e = decoded_kept Kind.Execution e (λ q. cc)
+  decoded_to Kind.Trade e = decoded_kept Kind.Trade e (λ q. cc)
+  decoded_to Kind.TradeCancel e = decoded_kept Kind.TradeCancel e (λ q. cc)
+  decoded_to Kind.Unknown e = decoded_kept Kind.Unknown e (λ q. cc)
+
+  -- the same message, with the same fields, but for byte 20 of a Symbol Update, which is the one asked for
+  pub retyped_read : read_body a.to (retyped a b) ≡ with_20 (read_body from b) (new_byte a b)
+  unfolding read_body message
   retyped_read =
-      by_update b
-      (λ u. ap (λ (j : Result Kind Fault). message j (retyped a b)) (retyped_judged ∙ as_kind u) ∙ sym (ap (λ (j : Result Kind Fault). message j b) (as_kind u)))
-      (λ u. (λ i. message (retyped_judged i) (retyped_no a b u i)))
-    where
-      as_kind : is_update b ≡ true → judge_body from b ≡ Ok Kind.SymbolUpdate
-      as_kind u = judged_good ∙ ap Ok (update_kind b u)
+      ap (λ (j : Result Kind Fault). message j (retyped a b)) (retyped_judged ∙ judged_good)
+      ∙ decoded_to (kind_of (get_or b 0 0)) refl
+      ∙ ap (λ (j : Result Kind Fault). with_20 (message j b) (new_byte a b)) (sym judged_good)
