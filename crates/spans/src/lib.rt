@@ -1,7 +1,7 @@
 // The words of a line, each with the place of its first byte (docs/TEXT.md).
 #![tactic(auto)]
 
-ghost use Rattle.std.specs.Prelude.{◌≡◌, ◌+◌, ◌≤◌, length, option_map};
+ghost use Rattle.std.specs.Prelude.{◌≡◌, ◌+◌, ◌≤◌, ◌==◌, length, option_map, position};
 ghost use Rattle.spans.specs.Spans.{blank, line_most};
 
 // The longest line.
@@ -13,6 +13,13 @@ pub fn is_blank(x: u8) -> bool
     ensures { result ≡ blank x }
 {
     matches!(x, b' ' | b'\t' | b'\r')
+}
+
+// The place of the first x.
+pub fn place_of(s: &[u8], x: u8) -> Option<usize>
+    ensures { result ≡ position (λ y. y == x) s.now }
+{
+    s.iter().position(|y| *y == x)
 }
 
 // A word, and the place of its first byte in the line.
