@@ -42,6 +42,15 @@ fn digit(x: u8) -> u8
     char::from(x).to_digit(16).unwrap() as u8
 }
 
+// The byte of two digits, the high one first.
+fn two_digits(x: u8, y: u8) -> u8
+    requires high { digit_value x < 16 }
+    requires low { digit_value y < 16 }
+    ensures { result ≡ 16 * digit_value x + digit_value y }
+{
+    16 * digit(x) + digit(y)
+}
+
 fn all_hex(s: &[u8]) -> bool
     ensures { result ≡ all_hex s.now }
 {
@@ -62,14 +71,14 @@ fn digits_in(s: &[u8], w: usize) -> Option<&[u8]>
     Some(digits)
 }
 
-// The bytes of digits, two of them a byte, the high one first.
+// The bytes of digits, two of them a byte.
 fn put_unhex(digits: &[u8], out: &mut [u8])
     requires many { length digits.now ≡ 2 * length out.old }
     requires good { all_hex digits.now ≡ true }
     ensures { out.new ≡ unhex digits.now }
 {
     for (i, x) in out.iter_mut().enumerate() {
-        *x = 16 * digit(digits[2 * i]) + digit(digits[2 * i + 1]);
+        *x = two_digits(digits[2 * i], digits[2 * i + 1]);
     }
 }
 

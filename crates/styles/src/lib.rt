@@ -2,7 +2,7 @@
 #![tactic(auto)]
 
 // The form of a field's value.
-#[derive(Clone, Copy)]
+#[derive(Clone, Copy, PartialEq, Eq, Debug)]
 pub enum Style {
     Number,
     Price,
