@@ -1,50 +1,12 @@
--- The code's tables by their rows, and the walk over the names: what a place of a table says, and how a search goes on from it.
+-- The code's rows and the definition's fields, place by place.
 -- Assumes nothing.
-use Prim.Native.Nat.{ℕ, ◌+◌, ◌≤◌, ◌<◌}
-use mathlib.Core.Path.{◌≡◌, refl}
-use mathlib.Core.Bool.{true, false}
-use mathlib.Core.List.{List, [], ◌∷◌, ◌++◌}
-use native.Mathlib.Numerals.{add-one}
-use lib.ListN.{length, get_or, take, drop, replicate, drop_of_length-le}
-use lib.Seq.{drop-cons}
-use Rattle.facts.specs.Pick.{pick}
-use Rattle.facts.specs.Same.{same_bytes}
-use Rattle.kinds.specs.declared.Kind.{Kind}
-use Rattle.keys.specs.Keys.{Entry, name_of, kind_named}
-use Rattle.keys.specs.declared.Row.{Row}
-use Rattle.styles.specs.declared.Style.{Style}
+use Rattle.std.proofs.Common.{◌≡◌, refl, ap, Bool, not, cond, List, [], ◌∷◌, map, ℕ, ◌+◌, position}
+use Rattle.std.specs.List.{prefix_len}
+use Rattle.std.proofs.lemmas.List.{length-map}
 
--- a field as the code's tables have it
-abbrev pub row_of : Entry → Row
-row_of f = (take 12 (f.key ++ replicate 12 32), f.form.at, f.form.width, f.form.style, f.form.needed)
+prefix_len-map : {A B : Type 0} (p : B → Bool) (f : A → B) (xs : List A) → prefix_len p (map f xs) ≡ prefix_len (λ x. p (f x)) xs
+prefix_len-map p f [] = refl
+prefix_len-map p f (x ∷ xs) = ap (λ (n : ℕ). cond (p (f x)) (1 + n) 0) (prefix_len-map p f xs)
 
--- what lies behind a table
-abbrev pub no_row : Row
-no_row = ([], 0, 0, Style.Number, false)
-
--- ---- names
--- the messages in the order in which their names are tried
-unfoldable pub kinds : List Kind
-kinds =
-    Kind.SystemTime ∷ Kind.SymbolUpdate ∷ Kind.SystemState ∷ Kind.TradingStatus ∷ Kind.SymbolClear ∷ Kind.Add ∷ Kind.Modify ∷ Kind.Delete ∷ Kind.Execution ∷ Kind.Trade ∷ Kind.TradeCancel ∷ []
-
-unfoldable pub named_of : List ℕ → List Kind → Kind
-named_of s [] = Kind.Unknown
-named_of s (k ∷ ks) = pick (same_bytes s (name_of k)) k (named_of s ks)
-
-pub named_all : (s : List ℕ) → kind_named s ≡ named_of s kinds
-unfolding kind_named named_of kinds
-named_all s = refl
-
-module _ (s : List ℕ) (l : List Kind) (i : ℕ) where
-  pub named_hit : (d : Kind) → i < length l → same_bytes s (name_of (get_or l i d)) ≡ true → named_of s (drop i l) ≡ get_or l i d
-  unfolding named_of pick
-  named_hit d h e = rw (drop-cons l i d h, e)
-
-  pub named_miss : (d : Kind) → i < length l → same_bytes s (name_of (get_or l i d)) ≡ false → named_of s (drop i l) ≡ named_of s (drop (i + 1) l)
-  unfolding named_of pick
-  named_miss d h e = rw (drop-cons l i d h, e, add-one i)
-
-  pub named_end : length l ≤ i → named_of s (drop i l) ≡ Kind.Unknown
-  unfolding named_of
-  named_end h = rw (drop_of_length-le l h)
+pub position-map : {A B : Type 0} (p : B → Bool) (f : A → B) (xs : List A) → position p (map f xs) ≡ position (λ x. p (f x)) xs
+position-map p f xs = rw (prefix_len-map (λ y. not (p y)) f xs, length-map xs f) refl
