@@ -1,3 +1,3 @@
 pub mod Every
-pub mod RowLaws
 pub mod Laws
+pub mod RowLaws

@@ -3,7 +3,8 @@
 use Rattle.std.proofs.Common.{arith, rules}
 use Rattle.text.proofs.Laws.{texts_none, texts_more, texts_all, wrote_as}
 use Rattle.line_out.specs.Lines.{field_text}
-use Rattle.line_out.proofs.Laws.{row_inside, text_is, rows_many}
+use Rattle.keys.proofs.RowLaws.{row_inside, rows_many}
+use Rattle.line_out.proofs.Laws.{text_is}
 use Rattle.line_out.proofs.put_fields.Goals as goal
 
 pub loop-row-init : goal.loop-row-init
