@@ -16,3 +16,4 @@ pub mod Runs
 pub mod Undefined
 pub mod Nanoseconds
 pub mod Places
+pub mod Named
