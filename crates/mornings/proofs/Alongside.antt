@@ -13,17 +13,13 @@ use Rattle.arbitration.specs.Receive as theory
 use Rattle.arbitration.specs.Lists.{Every, Bounded}
 use Rattle.arbitration.specs.Meaning.{Close, close, ToldAlike}
 use Rattle.arbitration.proofs.MeaningLaws.{run_close, told_close, zeroed_close}
+use Rattle.packet.specs.declared.Why.{Why}
 use Rattle.receiver.specs.Parts.{Parts, engine_of}
-use Rattle.receiver.specs.Receiver.{next_ok, account, refused_by, Receiver, handled, handled_by, fit, receives, receives_all}
+use Rattle.receiver.specs.Receiver.{next_ok, account, Receiver, handled, handled_by, fit, receives, receives_all}
 use Rattle.receiver.specs.Demand3.{Started}
-use Rattle.mornings.specs.Alongside.{Two, one_of, other_of, FramesAlike, both_bad, both_good, PacketsAlike, no_packets, one_more, AccountAlike, Refusing, by_number, by_place, both_accepted, both_refused, Alongside, HandledAlike}
+use Rattle.mornings.specs.Alongside.{Two, one_of, other_of, FramesAlike, both_bad, both_good, PacketsAlike, no_packets, one_more, AccountAlike, refusing, both_accepted, both_refused, Alongside, HandledAlike}
 use Rattle.std.specs.Prelude.{Err}
 use Rattle.receiver.proofs.PartsLaws.{PartsLaws}
-
--- a refused packet's answer is no account
-pub refusing : (w : Why) → Refusing (refused_by w)
-refusing (Why.Alone r) = by_number r
-refusing (Why.Placed f) = by_place f
 
 accounts : {t u : theory.Told} → ToldAlike t u → AccountAlike (account t) (account u)
 accounts a = record { counts_alike = a.counts_alike; next_same = a.next_same; applied_same = a.applied_same; highest_same = a.top_same; stop_same = a.stopped_same }
@@ -76,7 +72,7 @@ module _ (X : Two) (L : PartsLaws (one_of X)) (L' : PartsLaws (other_of X))
     where
       go : (t : Bool) → HandledAlike X (pick t (handled_by P (X.frame p) k) (handled P (Err (Why.Alone (refusal 6))) k)) (pick t (handled_by Q (X.frame' p') k') (handled Q (Err (Why.Alone (refusal 6))) k'))
       go true = framed k k' (L.bounded p) (L'.bounded p') f a
-      go false = record { answers_alike = both_refused (by_number (refusal 6)) (by_number (refusal 6)); still = a }
+      go false = record { answers_alike = both_refused (refusing (Why.Alone (refusal 6))) (refusing (Why.Alone (refusal 6))); still = a }
 
   -- ---- any number of calls
   pub calls_alongside : (k : Receiver P) (k' : Receiver Q) {ps ps' : List (List ℕ)} → PacketsAlike X ps ps' → Alongside X k k' → Alongside X (receives_all P ps k) (receives_all Q ps' k')

@@ -10,8 +10,8 @@ use Rattle.fields.specs.declared.Symbol.{Symbol}
 use Rattle.body.specs.Read.{read_body, good_body}
 use Rattle.symbols.specs.Entries.{id_of}
 use Rattle.book.specs.declared.Clock.{Clock}
-use Rattle.book.specs.declared.Plan.{Plan}
-use Rattle.book.specs.Plan.{Finds, plan_by}
+use Rattle.std.specs.Prelude.{Ok, Err}
+use Rattle.book.specs.Plan.{Plan, Finds, plan_by}
 use Rattle.book.specs.Book.{Book, book, effect, scans, planned, carried, applied}
 use Rattle.orders.specs.Work.{committed}
 use Rattle.retype.specs.Types.{types_ok}
@@ -50,8 +50,8 @@ module _ (from : Edition) (a : Asked) (b : List ℕ) (g : good_body from b ≡ t
 
   carried_to : (p : Plan) (k : Book) → carried p (retyped a b) (book_to a k) ≡ effect (carried p b k).rule (book_to a (carried p b k).after)
   unfolding carried
-  carried_to (Plan.Stop n) k = refl
-  carried_to (Plan.Go w) k = ap (λ (s : List ℕ). effect 0 (book (committed w.orders k.orders) s w.clock)) (entered_to a from b g w.symbols k.symbols)
+  carried_to (Err n) k = refl
+  carried_to (Ok w) k = ap (λ (s : List ℕ). effect 0 (book (committed w.orders k.orders) s w.clock)) (entered_to a from b g w.symbols k.symbols)
 
   pub applied_to : (n : ℕ) (k : Book) → applied a.to n (retyped a b) (book_to a k) ≡ effect (applied from n b k).rule (book_to a (applied from n b k).after)
   unfolding applied

@@ -33,7 +33,7 @@ use Rattle.retype.proofs.Laws.{retyped_good, retyped_no}
 use Rattle.conversion.specs.Kept.{Becomes, taken, refused, rec_to, recs_to}
 use Rattle.conversion.proofs.Passing.{becomes}
 use Rattle.mornings.specs.Mornings.{packet_to, packets_to}
-use Rattle.mornings.specs.Alongside.{AccountAlike, ReceivedAlike, both_accepted, both_refused, Refusing, by_number, by_place}
+use Rattle.mornings.specs.Alongside.{AccountAlike, ReceivedAlike, both_accepted, both_refused, refusing}
 use Rattle.mornings.proofs.Runs.{fresh_pair}
 use Rattle.mornings.proofs.Recordings.{same_answers}
 
@@ -116,10 +116,6 @@ account_is w y h d e =
       stop = h.stop_same i;
     }
 
-no_account : (u : Result Account Why) (x : Account) → Refusing u → u ≡ Ok x → ⊥
-no_account _ x (by_number r) e = cc
-no_account _ x (by_place f) e = cc
-
 -- to packets of true copies every number of the account is the same
 module _ (from : Edition) (a : Asked) (ok : types_ok a.to a.all a.others ≡ true) (ms : List (List ℕ)) (wf : WellFormed (good_body from) ms) (o s h' i i' : ℕ)
     (sizes : sizes_ok o s h' i ≡ true) (sizes' : sizes_ok o s h' i' ≡ true) (ps : List (List ℕ)) (p : List ℕ) (before : Copies ms (accepted (framing from) ps)) (now_copies : Copies ms (records_of (framing from p))) where
@@ -140,4 +136,4 @@ module _ (from : Edition) (a : Asked) (ok : types_ok a.to a.all a.others ≡ tru
       go _ _ f g (both_accepted {a = w} {b = y} h) =
           let w_is : w ≡ x = cc in
           ap Ok (account_is w y h (ap (λ (k : Account). k.counts.differing) w_is ∙ none_14 from ms wf o s h' i sizes ps p before now_copies x e) (differs y g) ∙ w_is)
-      go u v f g (both_refused r q) = absurd (no_account u x r f)
+      go _ v f g (both_refused (refusing w) q) = absurd (cc)

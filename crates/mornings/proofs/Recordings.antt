@@ -38,7 +38,7 @@ use Rattle.conversion.specs.Kept.{Becomes, taken, refused}
 use Rattle.conversion.proofs.Pieces.{not_whole, is_whole, passed_length, piece_none, piece_more}
 use Rattle.conversion.proofs.Passing.{becomes}
 use Rattle.mornings.specs.Mornings.{packet_to, packets_to, recording_to, SameMorning, whole_or_cut, lines_after, sheet_in}
-use Rattle.mornings.specs.Alongside.{FramesAlike, both_bad, both_good, ReceivedAlike, both_accepted, both_refused, Refusing, by_number, by_place}
+use Rattle.mornings.specs.Alongside.{FramesAlike, both_bad, both_good, ReceivedAlike, both_accepted, both_refused, Refusing, refusing}
 use Rattle.mornings.proofs.Runs.{two, meant_to, Pair, fresh_pair, call_pair, calls_pair, pair_same}
 use Rattle.mornings.proofs.Sheets.{lines_alike}
 
@@ -68,8 +68,7 @@ module _ (from : Edition) (a : Asked) (ok : types_ok a.to a.all a.others ≡ tru
 
   refusing_bad : (r : Result Account Why) (l : Lent) (x : Standing) → Refusing r → ((noted r l x).bad ≡ more x.bad 1) × ((noted r l x).lent ≡ l)
   unfolding noted
-  refusing_bad _ l x (by_number r) = (refl, refl)
-  refusing_bad _ l x (by_place f) = (refl, refl)
+  refusing_bad _ l x (refusing w) = (refl, refl)
 
   noted_beside : (r r' : Result Account Why) (l l' : Lent) (x y : Standing) → ReceivedAlike r r' → Pair from a ok l l' → y.bad ≡ x.bad → Beside (noted r l x) (noted r' l' y)
   unfolding noted

@@ -5,7 +5,6 @@ use mathlib.Core.Path.{◌≡◌, refl, sym, subst, ◌∙◌}
 use mathlib.Core.Bool.{Bool, true, false}
 use mathlib.Core.Logic.{◌⊎◌, inl, inr}
 use mathlib.Core.List.{List, [], ◌∷◌}
-use native.Mathlib.Omega.{arith}
 use Rattle.facts.specs.Pick.{pick, both}
 use Rattle.editions.specs.declared.Edition.{Edition}
 use Rattle.wire.specs.Records.{Rec, records}
@@ -33,10 +32,9 @@ use Rattle.retype.specs.Retyped.{Asked, retyped}
 use Rattle.conversion.specs.Kept.{Becomes, taken, refused, recs_to}
 use Rattle.conversion.proofs.Passing.{becomes}
 use Rattle.mornings.specs.Mornings.{packet_to, packets_to}
-use Rattle.mornings.specs.Alongside.{Refusing, by_number, by_place}
+use Rattle.mornings.specs.Alongside.{refusing}
 use Rattle.mornings.specs.Seconds.{both_empty, Kept, Firm, CountsTo, SomeMerged, AccountTo, ReceivedTo, accepted_to, refused_to}
 use Rattle.mornings.proofs.Runs.{two, meant_to, sized_to, Pair, fresh_pair, call_pair}
-use Rattle.mornings.proofs.Alongside.{refusing}
 use Rattle.mornings.proofs.Recordings.{all_good, frames_to}
 use Rattle.mornings.proofs.Seconds.{counts_to, counts_or_merged, run_to, said_to, retyped_short}
 
@@ -105,7 +103,7 @@ module _ (from : Edition) (a : Asked) (ok : types_ok a.to a.all a.others ≡ tru
       where
         go : (t : Bool) → HandledTo k.rx (records_of (framing from p)) (pick t (handled_by (plain from) (framing from p) k) (handled (plain from) (Err (Why.Alone (refusal 6))) k)) (pick t (handled_by (plain a.to) (framing a.to (packet_to from a p)) k') (handled (plain a.to) (Err (Why.Alone (refusal 6))) k'))
         go true = framed_to p
-        go false = record { answers = refused_to (by_number (refusal 6)) (by_number (refusal 6)); kept = d.kept }
+        go false = record { answers = refused_to (refusing (Why.Alone (refusal 6))) (refusing (Why.Alone (refusal 6))); kept = d.kept }
 
   -- ---- any calls, with an index or without
   pub record FirmPair (k k' : Lent) : Type 0 where
@@ -146,11 +144,7 @@ module _ (from : Edition) (a : Asked) (ok : types_ok a.to a.all a.others ≡ tru
       let w_is : w ≡ x = cc in
       let z_is : z ≡ y = cc in
       subst (λ (c : Account). AccountTo (retyped a) shelf_store E r cs c y) w_is (subst (AccountTo (retyped a) shelf_store E r cs w) z_is h)
-  account_of r cs u v x y e f (refused_to n q) = absurd (no_account u n e)
-    where
-      no_account : (u : Result Account Why) → Refusing u → u ≡ Ok x → ⊥
-      no_account _ (by_number r) e = cc
-      no_account _ (by_place f) e = cc
+  account_of r cs _ v x y e f (refused_to (refusing w) q) = absurd (cc)
 
   module _ (o s h i i' : ℕ) (sizes : sizes_ok o s h i ≡ true) (sizes' : sizes_ok o s h i' ≡ true) (ps : List (List ℕ)) (p : List ℕ) (x y : Account)
       (before : (received (received_all ps (fresh from o s h i)) p).answer ≡ Ok x)

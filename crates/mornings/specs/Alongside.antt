@@ -1,9 +1,8 @@
 -- Two receivers over different packets: packet by packet the same numbers, and bodies that mean the same to books that are alike (arbitration/Meaning), as where a recording of one
 -- edition is written anew in another. Their parts are any two with one kind of shelf.
-use Rattle.std.specs.Prelude.{ℕ, ◌≡◌, Bool, List, [], ◌∷◌, Result, Ok, Err}
+use Rattle.std.specs.Prelude.{◌≡◌, Bool, List, [], ◌∷◌, ℕ, Result, Ok, Err}
 use Rattle.wire.specs.Records.{Rec, Frames, bad, records}
-use Rattle.fields.specs.declared.Refusal.{Refusal}
-use Rattle.fields.specs.declared.Fault.{Fault}
+use Rattle.packet.specs.declared.Why.{Why}
 use Rattle.arbitration.specs.Engine.{Store}
 use Rattle.arbitration.specs.Meaning.{Meant, Close, CountsAlike}
 use Rattle.receiver.specs.Parts.{Rules, Parts, engine_of}
@@ -49,8 +48,7 @@ pub record AccountAlike (a b : Account) : Type 0 where
 
 -- an answer that is no account
 pub data Refusing : Result Account Why → Type 0 where
-  by_number : (r : Refusal) → Refusing (Err (Why.Alone r))
-  by_place : (f : Fault) → Refusing (Err (Why.Placed f))
+  refusing : (w : Why) → Refusing (Err w)
 
 -- both accept, or both refuse, by whichever numbers
 pub data ReceivedAlike : Result Account Why → Result Account Why → Type 0 where

@@ -7,6 +7,7 @@ use Rattle.arbitration.specs.Engine.{Engine, Store}
 use Rattle.arbitration.specs.Receive.{Answer, repeated, differing, Said, counts_of, State, slot_of, after}
 use Rattle.arbitration.specs.Meaning.{Close, CountsAlike}
 use Rattle.arbitration.specs.declared.Counts.{Counts}
+use Rattle.packet.specs.declared.Why.{Why}
 use Rattle.receiver.specs.declared.Account.{Account}
 use Rattle.retype.specs.Retyped.{is_update}
 use Rattle.mornings.specs.Alongside.{Refusing}
