@@ -63,6 +63,15 @@ fn security_at(e: Edition, symbols: &[u8], i: usize) -> Option<u8>
     body::security_in(e, symbols::entry_bytes(symbols, i))
 }
 
+// The lent tables that a sheet tells of, of good sizes, and what is counted of them.
+#[derive(Clone, Copy)]
+struct Tables<'a> {
+    orders: &'a [u64],
+    symbols: &'a [u8],
+    sizes: Sizes,
+    ghost counted: { AreSizes sizes orders.now symbols.now },
+}
+
 // The lent memory, and the place behind the text so far, which goes on behind the memory's end and so tells how long the whole is.
 #[derive(Drop)]
 struct Page<'a> {
@@ -163,12 +172,12 @@ impl Page<'_> {
     }
 
     // The levels of a symbol and side, under the side's key, for a caller that knows the symbol.
-    fn side_lines(&mut self, orders: &[u64], symbols: &[u8], id: u32, side: Side)
-        requires { view_fault id orders.now symbols.now ≡ 0 }
-        ensures { Printed self.old (text_of (side_lines side id (rows orders.now))) self.new }
+    fn side_lines(&mut self, t: &Tables<'_>, id: u32, side: Side)
+        requires { view_fault id t.now.orders.now t.now.symbols.now ≡ 0 }
+        ensures { Printed self.old (text_of (side_lines side id (rows t.now.orders.now))) self.new }
     {
         let mut run = [0u64; RUN_SIZE];
-        let n = views::ladder(orders, symbols, id, side, &mut run).unwrap();
+        let n = views::ladder(t.orders, t.symbols, id, side, &mut run).unwrap();
         self.levels(side_key(side), &run, n.min(LEVELS_SHOWN));
     }
 
@@ -190,13 +199,13 @@ impl Page<'_> {
     }
 
     // The spread and both sides of a symbol, for a caller that knows it.
-    fn book_lines(&mut self, orders: &[u64], symbols: &[u8], id: u32)
-        requires { view_fault id orders.now symbols.now ≡ 0 }
-        ensures { Printed self.old (text_of (book_lines id (rows orders.now))) self.new }
+    fn book_lines(&mut self, t: &Tables<'_>, id: u32)
+        requires { view_fault id t.now.orders.now t.now.symbols.now ≡ 0 }
+        ensures { Printed self.old (text_of (book_lines id (rows t.now.orders.now))) self.new }
     {
-        self.spread_line(views::spread(orders, symbols, id).unwrap());
-        self.side_lines(orders, symbols, id, Side::Buy);
-        self.side_lines(orders, symbols, id, Side::Sell);
+        self.spread_line(views::spread(t.orders, t.symbols, id).unwrap());
+        self.side_lines(t, id, Side::Buy);
+        self.side_lines(t, id, Side::Sell);
     }
 
     fn ticker_line(&mut self, t: [u8; 11])
@@ -228,42 +237,30 @@ impl Page<'_> {
     }
 
     // The lines of entry i; none where it is not in use.
-    fn entry_lines(&mut self, e: Edition, orders: &[u64], symbols: &[u8], i: usize)
-        requires { good_tables orders.now symbols.now ≡ true }
-        ensures { Printed self.old (text_of (entry_lines e (rows orders.now) (get_or (entries symbols.now) i []))) self.new }
+    fn entry_lines(&mut self, e: Edition, t: &Tables<'_>, i: usize)
+        ensures { Printed self.old (text_of (entry_lines e (rows t.now.orders.now) (get_or (entries t.now.symbols.now) i []))) self.new }
     {
-        if symbols::is_used_at(symbols, i) {
-            let s = symbols::entry_at(symbols, i);
-            self.symbol_lines(security_at(e, symbols, i), s);
-            self.book_lines(orders, symbols, s.id);
+        if symbols::is_used_at(t.symbols, i) {
+            let s = symbols::entry_at(t.symbols, i);
+            self.symbol_lines(security_at(e, t.symbols, i), s);
+            self.book_lines(t, s.id);
         }
     }
 
-    fn all_entries(&mut self, e: Edition, orders: &[u64], symbols: &[u8])
-        requires { good_tables orders.now symbols.now ≡ true }
-        ensures { Printed self.old (text_of (all_entries e orders.now symbols.now)) self.new }
+    fn all_entries(&mut self, e: Edition, t: &Tables<'_>)
+        ensures { Printed self.old (text_of (all_entries e t.now.orders.now t.now.symbols.now)) self.new }
     {
-        for i in 0..symbols::entry_count(symbols) {
-            self.entry_lines(e, orders, symbols, i);
+        for i in 0..symbols::entry_count(t.symbols) {
+            self.entry_lines(e, t, i);
         }
     }
 
-    // The sheet of tables of good sizes, with what they hold.
-    fn all_lines(
-        &mut self,
-        orders: &[u64],
-        symbols: &[u8],
-        state: State,
-        bad: u64,
-        word: Recording,
-        sizes: Sizes,
-    )
-        requires { AreSizes sizes orders.now symbols.now }
-        ensures { Printed self.old (sheet_of word bad state orders.now symbols.now) self.new × (state.stop < 2 ^ 8) × (state.clock.second < 2 ^ 32) }
+    fn all_lines(&mut self, t: &Tables<'_>, state: State, bad: u64, word: Recording)
+        ensures { Printed self.old (sheet_of word bad state t.now.orders.now t.now.symbols.now) self.new × (state.stop < 2 ^ 8) × (state.clock.second < 2 ^ 32) }
     {
         self.head(word, bad, state);
-        self.table_lines(state.clock.second, sizes);
-        self.all_entries(state.edition, orders, symbols);
+        self.table_lines(state.clock.second, t.sizes);
+        self.all_entries(state.edition, t);
     }
 }
 
@@ -282,7 +279,12 @@ pub fn sheet(
     if !receiver::next_ok(state.next) {
         return Err(Refusal { number: 6 });
     }
+    let tables = Tables {
+        orders,
+        symbols,
+        sizes,
+    };
     let mut page = Page { buf, at: 0 };
-    page.all_lines(orders, symbols, state, bad, word, sizes);
+    page.all_lines(&tables, state, bad, word);
     Ok(page.at)
 }

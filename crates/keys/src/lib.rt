@@ -10,7 +10,7 @@ use kinds::Kind;
 use styles::Style;
 
 // Where a field lies in its body, how its value is written, and whether it has to be.
-#[derive(Clone, Copy, PartialEq, Eq, Debug)]
+#[derive(Clone, Copy, PartialEq, Eq, Debug, Default)]
 pub struct Form {
     pub at: usize,
     pub width: usize,
@@ -19,7 +19,7 @@ pub struct Form {
 }
 
 // A field of a message: its key and its form.
-#[derive(Clone, Copy, PartialEq, Eq, Debug)]
+#[derive(Clone, Copy, PartialEq, Eq, Debug, Default)]
 pub struct Row {
     pub key: &'static str,
     pub form: Form,

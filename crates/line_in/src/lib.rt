@@ -57,13 +57,13 @@ fn slip_at(place: usize, expected: Expected) -> Slip
 }
 
 // A record so far: its message, its body of so many bytes, and of each field the column of its value, where that is written.
-#[derive(Clone, Copy)]
-struct Draft {
-    edition: Edition,
-    kind: Kind,
-    length: usize,
-    body: [u8; 42],
-    columns: [Option<usize>; 10],
+#[derive(Clone, Copy, PartialEq, Eq, Debug)]
+pub struct Draft {
+    pub edition: Edition,
+    pub kind: Kind,
+    pub length: usize,
+    pub body: [u8; 42],
+    pub columns: [Option<usize>; 10],
 }
 
 // A record whose fields are all left out.

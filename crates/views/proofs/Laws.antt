@@ -4,9 +4,10 @@ use mathlib.Core.Path.{◌≡◌, refl, sym, ap, ◌∙◌}
 use mathlib.Core.List.{List, [], ◌∷◌, map}
 use mathlib.Core.Bool.{Bool, true, false}
 use Rattle.std.specs.Prelude.{Option, Some, None}
-use Rattle.std.specs.List.{fold, reduce, filter_map, cons_option, range_with_len}
+use Rattle.std.specs.List.{fold, reduce, filter_map, cons_option}
+use Rattle.std.specs.Option.{option_map_or}
 use Rattle.std.proofs.lemmas.Option.{none-some}
-use Prim.Native.Nat.{ℕ, zero, suc, ◌+◌, ◌*◌, ◌-◌, ◌≤◌, ◌<◌, min}
+use Prim.Native.Nat.{ℕ, ◌+◌, ◌*◌, ◌-◌, ◌≤◌, ◌<◌, min}
 use native.Mathlib.Numerals.{add-one}
 use native.Mathlib.Omega.{arith}
 use lib.ListN.{length, get_or, drop, drop_of_length-le, length-map}
@@ -20,7 +21,7 @@ use Rattle.facts.proofs.Picks.{pick_ind, both_true}
 use Rattle.facts.proofs.SumLaws.{count_bound}
 use Rattle.rows.specs.declared.Row.{Row}
 use Rattle.rows.specs.Keys.{key_for, side_in}
-use Rattle.rows.specs.Rows.{rows, zero_row, live, good_rows}
+use Rattle.rows.specs.Rows.{rows, row_count, zero_row, live, good_rows}
 use Rattle.rows.specs.Find.{of_key}
 use Rattle.rows.proofs.Tables.{length_rows}
 use Rattle.rows.proofs.Judged.{live_ranges, key_is, good_rows_lem}
@@ -146,17 +147,44 @@ module _ (k low : ℕ) where
           ap Some q ∙ sym (rw (lt-ltb (least (r ∷ rs)) beyond l) refl)
       go rec None e = rec ∙ ap within (sym (least_none r rs e))
 
-  -- the rows read one by one
-  in_turn : (rs : List Row) (a n : ℕ) → a + n ≡ length rs → filter_map (λ i. place_from k low (get_or rs i zero_row)) (range_with_len a n) ≡ filter_map (place_from k low) (drop a rs)
-  in_turn rs a zero e = let l : length rs ≤ a = omega arith in rw (drop_of_length-le rs l) refl
-  in_turn rs a (suc n) e =
-      let l : a < length rs = omega arith in
-      rw (drop-cons rs a zero_row l) (ap (cons_option (place_from k low (get_or rs a zero_row))) (in_turn rs (a + 1) n (omega arith) ∙ rw (add-one a) refl))
+  -- the nearest of what was found so far and of what these rows have
+  unfoldable pub nearest_of : Option ℕ → List Row → Option ℕ
+  nearest_of None rs = reduce min (filter_map (place_from k low) rs)
+  nearest_of (Some b) rs = Some (fold min b (filter_map (place_from k low) rs))
+
+  pub scan_start : (rs : List Row) → nearest_of None rs ≡ nearest k low rs
+  unfolding nearest_of
+  scan_start rs = lowest rs
+
+  found : (o : Option ℕ) (r : Row) (rs : List Row) (d : ℕ) → place_from k low r ≡ Some d → nearest_of o (r ∷ rs) ≡ nearest_of (Some (option_map_or (λ b. min b d) o d)) rs
+  unfolding nearest_of
+  found None r rs d e = rw e
+  found (Some b) r rs d e = rw e
+
+  passed : (o : Option ℕ) (r : Row) (rs : List Row) → place_from k low r ≡ None → nearest_of o (r ∷ rs) ≡ nearest_of o rs
+  unfolding nearest_of
+  passed None r rs e = rw e
+  passed (Some b) r rs e = rw e
+
+  module _ (o : Option ℕ) (t : List ℕ) (i : ℕ) where
+    from_row : i < row_count t → drop i (rows t) ≡ get_or (rows t) i zero_row ∷ drop (i + 1) (rows t)
+    from_row h = let l : i < length (rows t) = rw length_rows h in drop-cons (rows t) i zero_row l ∙ ap (λ j. get_or (rows t) i zero_row ∷ drop j (rows t)) (sym (add-one i))
+
+    pub scan_found : (d : ℕ) → i < row_count t → place_from k low (get_or (rows t) i zero_row) ≡ Some d → nearest_of o (drop i (rows t)) ≡ nearest_of (Some (option_map_or (λ b. min b d) o d)) (drop (i + 1) (rows t))
+    scan_found d h e = ap (nearest_of o) (from_row h) ∙ found o (get_or (rows t) i zero_row) (drop (i + 1) (rows t)) d e
+
+    pub scan_passed : i < row_count t → place_from k low (get_or (rows t) i zero_row) ≡ None → nearest_of o (drop i (rows t)) ≡ nearest_of o (drop (i + 1) (rows t))
+    scan_passed h e = ap (nearest_of o) (from_row h) ∙ passed o (get_or (rows t) i zero_row) (drop (i + 1) (rows t)) e
+
+  pub scan_end : (o : Option ℕ) (t : List ℕ) (i : ℕ) → row_count t ≤ i → nearest_of o (drop i (rows t)) ≡ o
+  unfolding nearest_of
+  scan_end o t i h = let l : length (rows t) ≤ i = rw length_rows h in rw (drop_of_length-le (rows t) l) (go o)
+    where
+      go : (o : Option ℕ) → nearest_of o [] ≡ o
+      go None = refl
+      go (Some b) = refl
 
   module _ (rs : List Row) where
-    pub scanned : reduce min (filter_map (λ i. place_from k low (get_or rs i zero_row)) (range_with_len 0 (length rs))) ≡ nearest k low rs
-    scanned = ap (reduce min) (in_turn rs 0 (length rs) (omega arith)) ∙ lowest rs
-
     -- what is found is the least place, and where nothing is found every place is below
     pub place_found : (d : ℕ) → Some d ≡ nearest k low rs → (d ≡ least rs) × (d ≤ most_price)
     unfolding nearest within pick

@@ -69,9 +69,13 @@ fn place_from(r: Row, key: u64, low: u64) -> Option<u64>
 fn nearest(t: &[u64], key: u64, low: u64) -> Option<u64>
     ensures { result ≡ nearest key low (rows t.now) }
 {
-    (0..rows::row_count(t))
-        .filter_map(|i| place_from(rows::row_at(t, i), key, low))
-        .min()
+    let mut best = None;
+    for i in 0..rows::row_count(t) {
+        if let Some(d) = place_from(rows::row_at(t, i), key, low) {
+            best = Some(best.map_or(d, |b: u64| b.min(d)));
+        }
+    }
+    best
 }
 
 #[tactic(auto, unfolding(crate::specs::Ladder::at_price, facts::specs::Pick::both))]

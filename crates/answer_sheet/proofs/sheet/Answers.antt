@@ -21,9 +21,6 @@ returns-then-not-next_ok c =
     let g = sizes_good a.orders.now a.symbols.now _ (sym c.in_ok-sizes.was ∙ c.counts.ensures) in
     next_refused a.word a.bad a.state a.orders.now a.symbols.now a.buf.now g (sym c.next_ok.ensures ∙ not-true _ c.if-not-next_ok.true-raw)
 
-pub all_lines-requires : goal.all_lines-requires
-all_lines-requires c = sym c.in_ok-sizes.was ∙ c.counts.ensures
-
 pub returns : goal.returns
 returns c =
     let a = c.args in

@@ -18,5 +18,5 @@ loop-i-preserved c = printed_more _ c.loop-i.invariant c.entry_lines.ensures
 pub returns : goal.returns
 returns c =
     let a = c.args in
-    let n : c.loop-i.i ≡ length (entries a.symbols.now) = omega arith in
-    printed_as (entries_are a.e a.orders.now a.symbols.now _ n) c.loop-i.invariant
+    let n : c.loop-i.i ≡ length (entries a.t.now.symbols.now) = omega arith in
+    printed_as (entries_are a.e a.t.now.orders.now a.t.now.symbols.now _ n) c.loop-i.invariant

@@ -11,4 +11,4 @@ use Rattle.answer_sheet.specs.Sheet.{entry_lines}
 use Rattle.answer_sheet.proofs.Page.all_entries.Given as goal
 
 abbrev pub invariant-loop-i : goal.invariant-loop-i
-invariant-loop-i l = Printed l.initial.self (first_texts (λ j. text_of (entry_lines l.e (rows l.orders) (get_or (entries l.symbols) j []))) l.i) l.self
+invariant-loop-i l = Printed l.initial.self (first_texts (λ j. text_of (entry_lines l.e (rows l.t.orders.now) (get_or (entries l.t.symbols.now) j []))) l.i) l.self

@@ -20,14 +20,14 @@ use Rattle.answer_sheet.proofs.Page.book_lines.Goals as goal
 pub unwrap-requires : goal.unwrap-requires
 unwrap-requires c =
     let a = c.args in
-    rw (c.spread.ensures, ← spread_shown a.id a.orders.now a.symbols.now c.requires) (search rules)
+    rw (c.spread.ensures, ← spread_shown a.id a.t.now.orders.now a.t.now.symbols.now c.requires) (search rules)
 
 pub returns : goal.returns
 unfolding book_lines line_text plain
 returns c =
     let a = c.args in
-    let rs = rows a.orders.now in
-    let e : c.unwrap.result ≡ spread_of a.id rs = (let w = sym c.unwrap.ensures ∙ c.spread.ensures ∙ sym (spread_shown a.id a.orders.now a.symbols.now c.requires) in cc) in
+    let rs = rows a.t.now.orders.now in
+    let e : c.unwrap.result ≡ spread_of a.id rs = (let w = sym c.unwrap.ensures ∙ c.spread.ensures ∙ sym (spread_shown a.id a.t.now.orders.now a.t.now.symbols.now c.requires) in cc) in
     lines_first (plain spread_key (spread_word (spread_of a.id rs))) (side_lines Side.Buy a.id rs ++ side_lines Side.Sell a.id rs)
     (printed_as (ap (λ (x : Option ℤ). line_of spread_key (spread_word x)) e) c.spread_line.ensures)
     (lines_then (side_lines Side.Buy a.id rs) (side_lines Side.Sell a.id rs) c.side_lines.ensures c.side_lines-2.ensures)

@@ -11,10 +11,10 @@ use Rattle.answer_sheet.proofs.Page.side_lines.Goals as goal
 pub unwrap-n-requires : goal.unwrap-n-requires
 unwrap-n-requires c =
     let a = c.args in
-    rw (ladder_told a.side a.id a.orders.now a.symbols.now _ c.requires _ _ c.ladder.ensures) (search rules)
+    rw (ladder_told a.side a.id a.t.now.orders.now a.t.now.symbols.now _ c.requires _ _ c.ladder.ensures) (search rules)
 
 pub returns : goal.returns
 unfolding levels_shown
 returns c =
     let a = c.args in
-    printed_as (ladder_lines a.side a.id a.orders.now a.symbols.now _ c.requires _ _ c.ladder.ensures _ c.side_key.ensures _ _ c.unwrap-n.ensures refl (omega arith)) c.levels.ensures
+    printed_as (ladder_lines a.side a.id a.t.now.orders.now a.t.now.symbols.now _ c.requires _ _ c.ladder.ensures _ c.side_key.ensures _ _ c.unwrap-n.ensures refl (omega arith)) c.levels.ensures
