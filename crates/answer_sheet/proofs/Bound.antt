@@ -17,7 +17,8 @@ use Rattle.wire.proofs.Laws.{field_below, length_padded}
 use Rattle.editions.specs.declared.Edition.{Edition}
 use Rattle.fields.specs.Fields.{symbol_of}
 use Rattle.body.specs.Shown.{security_in}
-use Rattle.body.specs.declared.Security.{Security}
+use Rattle.std.specs.Prelude.{Option, Some, None}
+use Rattle.std.specs.Prelude.{ℤ}
 use Rattle.rows.specs.Rows.{rows, good_rows, live}
 use Rattle.rows.specs.Find.{count_live}
 use Rattle.rows.specs.declared.Row.{Row}
@@ -34,7 +35,6 @@ use Rattle.views.specs.Spread.{spread_of}
 use Rattle.views.specs.Views.{good_tables}
 use Rattle.views.specs.declared.Level.{Level}
 use Rattle.views.specs.declared.Side.{Side}
-use Rattle.views.specs.declared.SpreadAnswer.{SpreadAnswer}
 use Rattle.views.proofs.Laws.{shares_fit, orders_fit}
 use Rattle.views.proofs.Levels.{prices_low}
 use Rattle.views.proofs.Theorems.{spread_sides}
@@ -153,16 +153,15 @@ spread_short : (s : ℕ) (rs : List Row) → Short (plain spread_key (spread_wor
 unfolding spread_word spread_key none_word
 spread_short s rs = plain_short spread_key (spread_word (spread_of s rs)) (omega arith) (go (spread_of s rs) refl)
   where
-    go : (a : SpreadAnswer) → spread_of s rs ≡ a → length (spread_word a) ≤ 20
-    go (SpreadAnswer.Of z) e = omega (arith, spread_le z (spread_sides s rs z e).size)
-    go SpreadAnswer.Empty e = omega arith
-    go (SpreadAnswer.Refused r) e = omega arith
+    go : (a : Option ℤ) → spread_of s rs ≡ a → length (spread_word a) ≤ 20
+    go (Some z) e = omega (arith, spread_le z (spread_sides s rs z e).size)
+    go None e = omega arith
 
 -- ---- a symbol
-type_few : (y : Security) → Few 1 (type_lines y)
+type_few : (y : Option ℕ) → Few 1 (type_lines y)
 unfolding type_lines type_key
-type_few (Security.Type x) = record { count = omega arith; short = (plain_short type_key (shown_of x ∷ []) (omega arith) (omega arith), tt) }
-type_few Security.Reserved = record { count = omega arith; short = tt }
+type_few (Some x) = record { count = omega arith; short = (plain_short type_key (shown_of x ∷ []) (omega arith) (omega arith), tt) }
+type_few None = record { count = omega arith; short = tt }
 
 symbol_few : (ed : Edition) (e : List ℕ) → Bytes e → Few 4 (symbol_lines (security_in ed e) (symbol_of e))
 unfolding symbol_lines symbol_key ticker_key lot_key

@@ -15,13 +15,12 @@ use Rattle.symbols.specs.Entries.{entries}
 use Rattle.symbols.specs.Find.{count_used}
 use Rattle.views.specs.Views.{good_tables, counts_view}
 use Rattle.views.specs.declared.Sizes.{Sizes}
-use Rattle.views.specs.declared.CountsAnswer.{CountsAnswer}
+use Rattle.std.specs.Prelude.{Ok, Err}
 use Rattle.receiver.specs.Receiver.{next_ok}
 use Rattle.receiver.specs.declared.State.{State}
 use Rattle.text.specs.Text.{Wrote}
 use Rattle.text.proofs.Laws.{wrote_front}
 use Rattle.answer_sheet.specs.declared.Recording.{Recording}
-use Rattle.answer_sheet.specs.declared.SheetAnswer.{SheetAnswer}
 use Rattle.answer_sheet.specs.Lines.{text_of}
 use Rattle.answer_sheet.specs.Sheet.{table_lines, sheet_of, sheet_ok, sheet_and, stored, sheet_view, AreSizes}
 use Rattle.answer_sheet.proofs.Bound.{Machine, sheet_le}
@@ -36,9 +35,9 @@ module _ (orders symbols : List ℕ) where
   unfolding counts_view pick
   sizes_is z e = go (good_tables orders symbols) e
     where
-      go : (g : Bool) → CountsAnswer.Are z ≡ pick g (CountsAnswer.Are table_sizes) (CountsAnswer.Refused (refusal 6)) → (g ≡ true) × (z ≡ table_sizes)
+      go : (g : Bool) → Ok z ≡ pick g (Ok table_sizes) (Err (refusal 6)) → (g ≡ true) × (z ≡ table_sizes)
       go true e = (refl, cc)
-      go false e = let x : ◌≡◌ {A = ℕ} 0 1 = cc in absurd (omega arith)
+      go false e = cc
 
   pub sizes_good : (z : Sizes) → AreSizes z orders symbols → good_tables orders symbols ≡ true
   sizes_good z e = (sizes_is z e).0
@@ -46,27 +45,24 @@ module _ (orders symbols : List ℕ) where
   pub sizes_lines : (second : ℕ) (z : Sizes) → AreSizes z orders symbols → text_of (table_lines second z.symbols z.orders) ≡ text_of (table_lines second (count_used (entries symbols)) (count_live (rows orders)))
   sizes_lines second z e = ap (λ (x : Sizes). text_of (table_lines second x.symbols x.orders)) (sizes_is z e).1
 
-  pub sizes_bad : (r : Refusal) → CountsAnswer.Refused r ≡ counts_view orders symbols → good_tables orders symbols ≡ false
-  unfolding counts_view pick
-  sizes_bad r e = go (good_tables orders symbols) e
-    where
-      go : (g : Bool) → CountsAnswer.Refused r ≡ pick g (CountsAnswer.Are table_sizes) (CountsAnswer.Refused (refusal 6)) → g ≡ false
-      go true e = let x : ◌≡◌ {A = ℕ} 0 1 = cc in absurd (omega arith)
-      go false e = refl
-
 -- ---- the three exits
 module _ (word : Recording) (bad : ℕ) (s : State) (orders symbols b : List ℕ) where
-  pub sizes_refused : good_tables orders symbols ≡ false → sheet_and (SheetAnswer.Refused (refusal 6)) b ≡ sheet_view word bad s orders symbols b
-  unfolding sheet_view sheet_ok both pick
-  sizes_refused g = rw g
+  pub sizes_refused : (r : Refusal) → Err r ≡ counts_view orders symbols → sheet_and (Err r) b ≡ sheet_view word bad s orders symbols b
+  unfolding sheet_view sheet_ok counts_view both pick
+  sizes_refused r e = go (good_tables orders symbols) e
+    where
+      go : (g : Bool) → Err r ≡ pick g (Ok (table_sizes orders symbols)) (Err (refusal 6))
+          → sheet_and (Err r) b ≡ pick (both g (next_ok s.next)) (stored (sheet_of word bad s orders symbols) b) (sheet_and (Err (refusal 6)) b)
+      go true e = cc
+      go false e = let k : r ≡ refusal 6 = cc in ap (λ (x : Refusal). sheet_and (Err x) b) k
 
-  pub next_refused : good_tables orders symbols ≡ true → next_ok s.next ≡ false → sheet_and (SheetAnswer.Refused (refusal 6)) b ≡ sheet_view word bad s orders symbols b
+  pub next_refused : good_tables orders symbols ≡ true → next_ok s.next ≡ false → sheet_and (Err (refusal 6)) b ≡ sheet_view word bad s orders symbols b
   unfolding sheet_view sheet_ok both pick
   next_refused g n = rw (g, n)
 
   -- no sheet is so long that a machine's number does not tell it
   pub sheet_stored : good_tables orders symbols ≡ true → next_ok s.next ≡ true → Machine bad s symbols → (b' : List ℕ) (r : ℕ) → Wrote b 0 (sheet_of word bad s orders symbols) b' r
-      → sheet_and (SheetAnswer.Length r) b' ≡ sheet_view word bad s orders symbols b
+      → sheet_and (Ok r) b' ≡ sheet_view word bad s orders symbols b
   unfolding sheet_view sheet_ok stored both pick
   sheet_stored g n m b' r w =
       let ok : both (good_tables orders symbols) (next_ok s.next) ≡ true = rw (g, n) in

@@ -15,7 +15,7 @@ use Rattle.facts.proofs.Picks.{pick_ind, both_true}
 use Rattle.editions.specs.declared.Edition.{Edition}
 use Rattle.fields.specs.Fields.{symbol_of}
 use Rattle.body.specs.Shown.{security_in}
-use Rattle.body.specs.declared.Security.{Security}
+use Rattle.std.specs.Prelude.{Option, Some, None}
 use Rattle.fields.specs.declared.Symbol.{Symbol}
 use Rattle.rows.specs.Rows.{rows}
 use Rattle.rows.specs.Find.{count_live}
@@ -28,7 +28,6 @@ use Rattle.views.specs.Ladder.{key_of, ladder}
 use Rattle.views.specs.Spread.{spread_of}
 use Rattle.views.specs.declared.Level.{Level}
 use Rattle.views.specs.declared.Side.{Side}
-use Rattle.views.specs.declared.SpreadAnswer.{SpreadAnswer}
 use Rattle.receiver.specs.declared.State.{State}
 use Rattle.text.specs.Text.{decimal_of, signed_of, shown_of, ticker_of, line_of}
 use Rattle.text.proofs.DecimalLaws.{decimal_digits}
@@ -69,11 +68,10 @@ unfolding signed_of
 signed_visible (pos n) = digits_visible n
 signed_visible (negsuc k) = visible_cons 45 (decimal_of (suc k)) (omega arith) (digits_visible (suc k))
 
-spread_visible : (a : SpreadAnswer) → visible (spread_word a) ≡ true
+spread_visible : (a : Option ℤ) → visible (spread_word a) ≡ true
 unfolding spread_word none_word visible both
-spread_visible (SpreadAnswer.Of z) = signed_visible z
-spread_visible SpreadAnswer.Empty = refl
-spread_visible (SpreadAnswer.Refused r) = refl
+spread_visible (Some z) = signed_visible z
+spread_visible None = refl
 
 word_visible : (word : Recording) → visible (recording_word word) ≡ true
 unfolding recording_word whole_word cut_word visible both
@@ -112,12 +110,12 @@ side_one : (side : Side) (id : ℕ) (rs : List Row) → All OneFeed (side_lines 
 unfolding side_lines
 side_one side id rs = all_map OneFeed (level_line side id) (take levels_shown (ladder (key_of side id) rs)) (all_of (level_one side id) (take levels_shown (ladder (key_of side id) rs)))
 
-type_one : (y : Security) → All OneFeed (type_lines y)
+type_one : (y : Option ℕ) → All OneFeed (type_lines y)
 unfolding type_lines type_key visible both
-type_one (Security.Type x) = (plain_one type_key (shown_of x ∷ []) refl (visible_cons (shown_of x) [] (shown_range x).0 refl), tt)
-type_one Security.Reserved = tt
+type_one (Some x) = (plain_one type_key (shown_of x ∷ []) refl (visible_cons (shown_of x) [] (shown_range x).0 refl), tt)
+type_one None = tt
 
-symbol_one : (y : Security) (s : Symbol) → All OneFeed (symbol_lines y s)
+symbol_one : (y : Option ℕ) (s : Symbol) → All OneFeed (symbol_lines y s)
 unfolding symbol_lines symbol_key ticker_key lot_key visible both
 symbol_one y s = (
   number_one symbol_key s.id refl,

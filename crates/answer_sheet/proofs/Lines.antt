@@ -8,8 +8,10 @@ use lib.ListN.{length, get_or, take}
 use lib.Seq.{take-suc, take_all}
 use Rattle.facts.specs.Pieces.{join}
 use Rattle.views.specs.declared.Level.{Level}
-use Rattle.text.specs.Text.{Wrote, decimal_of, line_of, first_texts}
-use Rattle.text.proofs.Laws.{wrote_as, wrote_then}
+use Rattle.text.specs.Text.{decimal_of, line_of, first_texts}
+use Rattle.answer_sheet.specs.Page.{Printed}
+use Rattle.answer_sheet.specs.declared.Page.{Page}
+use Rattle.answer_sheet.proofs.Pages.{printed_then, printed_as}
 use Rattle.answer_sheet.specs.Lines.{Line, line_text, text_of}
 use Rattle.answer_sheet.specs.Sheet.{marked_of, level_value}
 
@@ -46,13 +48,13 @@ pub text_map : {A : Type 0} (f : A → Line) (xs : List A) → text_of (map f xs
 unfolding text_of
 text_map f xs = ap join (map-map line_text f xs)
 
--- lines written behind a line, and behind lines
-pub lines_first : (l : Line) (ls : List Line) {b b' b'' : List ℕ} {at r r' : ℕ} → Wrote b at (line_text l) b' r → Wrote b' r (text_of ls) b'' r' → Wrote b at (text_of (l ∷ ls)) b'' r'
+-- lines printed behind a line, and behind lines
+pub lines_first : (l : Line) (ls : List Line) {p q r : Page} → Printed p (line_text l) q → Printed q (text_of ls) r → Printed p (text_of (l ∷ ls)) r
 unfolding text_of join
-lines_first l ls p q = wrote_then p q
+lines_first l ls x y = printed_then x y
 
-pub lines_then : (a c : List Line) {b b' b'' : List ℕ} {at r r' : ℕ} → Wrote b at (text_of a) b' r → Wrote b' r (text_of c) b'' r' → Wrote b at (text_of (a ++ c)) b'' r'
-lines_then a c p q = wrote_as (sym (text_then a c)) (wrote_then p q)
+pub lines_then : (a c : List Line) {p q r : Page} → Printed p (text_of a) q → Printed q (text_of c) r → Printed p (text_of (a ++ c)) r
+lines_then a c x y = printed_as (sym (text_then a c)) (printed_then x y)
 
 -- two lines, then others, then one more
 pub lines_between : (a b c : Line) (ls : List Line) → line_text a ++ (line_text b ++ (text_of ls ++ line_text c)) ≡ text_of (a ∷ b ∷ (ls ++ (c ∷ [])))

@@ -16,13 +16,14 @@ use Rattle.views.specs.Ladder.{key_of}
 use Rattle.views.specs.declared.Side.{Side}
 use Rattle.receiver.specs.declared.State.{State}
 use Rattle.answer_sheet.specs.declared.Recording.{Recording}
-use Rattle.answer_sheet.specs.declared.SheetAnswer.{SheetAnswer}
+use Rattle.std.specs.Prelude.{Result, Ok}
+use Rattle.fields.specs.declared.Refusal.{Refusal}
 use Rattle.answer_sheet.specs.Sheet.{sheet_of, sheet_ok, sheet_most, Sheet, sheet_and, stored, sheet_view, sheet_number}
 use Rattle.answer_sheet.proofs.Bound.{Machine, sheet_le}
 
 -- a text that stands whole at the front of a buffer, with the rest as it was
-pub record Stands (t b : List ℕ) (a : SheetAnswer) (b' : List ℕ) : Type 0 where
-  pub answer_is : a ≡ SheetAnswer.Length (length t)
+pub record Stands (t b : List ℕ) (a : Result ℕ Refusal) (b' : List ℕ) : Type 0 where
+  pub answer_is : a ≡ Ok (length t)
   pub text_stands : take (length t) b' ≡ t
   pub rest_stands : drop (length t) b' ≡ drop (length t) b
 
@@ -37,7 +38,7 @@ module _ (word : Recording) (bad : ℕ) (s : State) (orders symbols b : List ℕ
   unfolding sheet_view pick
   refused_kept e = rw e
 
-  module _ (a : SheetAnswer) (b' : List ℕ) (e : sheet_and a b' ≡ sheet_view word bad s orders symbols b) where
+  module _ (a : Result ℕ Refusal) (b' : List ℕ) (e : sheet_and a b' ≡ sheet_view word bad s orders symbols b) where
     -- an accepted sheet tells how long it is, and stands as far as the buffer reaches
     sheet_told : sheet_ok s orders symbols ≡ true → sheet_and a b' ≡ stored (sheet_of word bad s orders symbols) b
     unfolding sheet_view pick
@@ -54,7 +55,7 @@ module _ (word : Recording) (bad : ℕ) (s : State) (orders symbols b : List ℕ
 
     -- of a longer one the buffer's whole length stands, and the answer tells that it did not fit
     pub sheet_cut : sheet_ok s orders symbols ≡ true → length b ≤ length (sheet_of word bad s orders symbols)
-        → (a ≡ SheetAnswer.Length (length (sheet_of word bad s orders symbols))) × (b' ≡ take (length b) (sheet_of word bad s orders symbols))
+        → (a ≡ Ok (length (sheet_of word bad s orders symbols))) × (b' ≡ take (length b) (sheet_of word bad s orders symbols))
     unfolding stored
     sheet_cut ok h =
         let x = sheet_of word bad s orders symbols in

@@ -12,7 +12,7 @@ use Rattle.editions.specs.declared.Edition.{Edition}
 use Rattle.fields.specs.Fields.{symbol_of, security_of}
 use Rattle.fields.specs.declared.Symbol.{Symbol}
 use Rattle.body.specs.Shown.{security_in}
-use Rattle.body.specs.declared.Security.{Security}
+use Rattle.std.specs.Prelude.{Some, None}
 use Rattle.rows.specs.Rows.{rows}
 use Rattle.rows.specs.Find.{count_live}
 use Rattle.rows.specs.declared.Row.{Row}
@@ -77,7 +77,7 @@ table_other : (second symbols orders : ℕ) → All Other (table_lines second sy
 unfolding table_lines is_type same_bytes both plain second_key symbols_key orders_key type_key
 table_other second symbols orders = (refl, (refl, (refl, tt)))
 
-symbol_untyped : (x : ℕ) (s : Symbol) → untyped (symbol_lines (Security.Type x) s) ≡ symbol_lines Security.Reserved s
+symbol_untyped : (x : ℕ) (s : Symbol) → untyped (symbol_lines (Some x) s) ≡ symbol_lines None s
 unfolding untyped symbol_lines type_lines is_type same_bytes both pick plain symbol_key ticker_key type_key lot_key
 symbol_untyped x s = refl
 

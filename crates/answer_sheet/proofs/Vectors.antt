@@ -21,7 +21,8 @@ use Rattle.receiver.specs.declared.State.{State}
 use Rattle.text.specs.Text.{digits_of, decimal_of, signed_of, trim_cons, trim_of, shown_of, ticker_of, line_of}
 use Rattle.answer_sheet.specs.declared.Recording.{Recording}
 use Rattle.answer_sheet.specs.Keys.{recording_key, bad_key, next_key, stop_key, second_key, symbols_key, orders_key, symbol_key, ticker_key, type_key, lot_key, spread_key, bid_key, ask_key, side_key, whole_word, none_word}
-use Rattle.answer_sheet.specs.Lines.{nothing, level, Line, plain, line_text, text_of}
+use Rattle.std.specs.Prelude.{Some, None}
+use Rattle.answer_sheet.specs.Lines.{level, Line, plain, line_text, text_of}
 use Rattle.answer_sheet.specs.Sheet.{recording_word, head_lines, table_lines, marked_of, level_value, level_line, levels_shown, side_lines, spread_word, type_lines, symbol_lines, book_lines, entry_lines, all_entries, lines_of, sheet_of}
 
 -- What the example's messages leave; that they do is `example_leaves` of exercises. "for numbers 1 to 5: second 34200; symbol 7, ABC, lot 100"
@@ -121,6 +122,6 @@ unfolding book_lines spread_word side_lines side_key levels_shown level_line lev
 empty_is = refl
 
 -- what those three lines are about: the spread is no level, and each level is known by symbol, side and price
-pub crossed_about : map (λ (l : Line). l.about) (book_lines 7 (rows (500 ∷ 14 ∷ 10020000 ∷ 100 ∷ 3 ∷ 501 ∷ 15 ∷ 10000000 ∷ 200 ∷ 4 ∷ []))) ≡ nothing ∷ level 7 Side.Buy 10020000 ∷ level 7 Side.Sell 10000000 ∷ []
+pub crossed_about : map (λ (l : Line). l.about) (book_lines 7 (rows (500 ∷ 14 ∷ 10020000 ∷ 100 ∷ 3 ∷ 501 ∷ 15 ∷ 10000000 ∷ 200 ∷ 4 ∷ []))) ≡ None ∷ Some (level 7 Side.Buy 10020000) ∷ Some (level 7 Side.Sell 10000000) ∷ []
 unfolding book_lines side_lines levels_shown level_line plain ladder level_of prices places_of far at_price key_of places ins sum_by only_if count_by of_key live rows row_of pieces cut pick both
 crossed_about = refl

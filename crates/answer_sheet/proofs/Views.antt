@@ -22,13 +22,14 @@ use Rattle.views.specs.Ladder.{key_of, ladder, three_of, written}
 use Rattle.views.specs.Views.{good_tables, view_fault, LadderOut, ladder_out, ladder_view}
 use Rattle.views.specs.declared.Level.{Level}
 use Rattle.views.specs.declared.Side.{Side}
-use Rattle.views.specs.declared.LadderAnswer.{LadderAnswer}
+use Rattle.std.specs.Prelude.{Result, Ok}
+use Rattle.fields.specs.declared.Refusal.{Refusal}
 use Rattle.views.proofs.Theorems.{level_stands, run_length}
 use Rattle.views.proofs.ViewLaws.{no_fault}
 use Rattle.text.specs.Text.{line_of, first_texts}
 use Rattle.answer_sheet.specs.Keys.{side_key}
 use Rattle.answer_sheet.specs.Lines.{line_text, text_of}
-use Rattle.answer_sheet.specs.Sheet.{level_value, level_line, levels_shown, side_lines, symbol_lines, book_lines, entry_lines, all_entries, level_count, level_at}
+use Rattle.answer_sheet.specs.Sheet.{level_value, level_line, levels_shown, side_lines, symbol_lines, book_lines, entry_lines, all_entries, level_at}
 use Rattle.answer_sheet.proofs.Lines.{texts_of, texts_of_all, text_join, text_map}
 
 -- no view of a used entry's symbol is refused
@@ -83,20 +84,27 @@ module _ (side : Side) (id : ℕ) (key : List ℕ) (k : key ≡ side_key side) w
       ∙ sym (text_map (level_line side id) (take 10 ls))
 
 -- ---- the ladder of a symbol whose views are not refused
-module _ (side : Side) (id : ℕ) (orders symbols o : List ℕ) (f : view_fault id orders symbols ≡ 0) (a : LadderAnswer) (u : List ℕ) (e : ladder_out a u ≡ ladder_view side id orders symbols o) where
-  told : ladder_out a u ≡ ladder_out (LadderAnswer.Levels (length (ladder (key_of side id) (rows orders)))) (written (ladder (key_of side id) (rows orders)) o)
+module _ (side : Side) (id : ℕ) (orders symbols o : List ℕ) (f : view_fault id orders symbols ≡ 0) (a : Result ℕ Refusal) (u : List ℕ) (e : ladder_out a u ≡ ladder_view side id orders symbols o) where
+  told : ladder_out a u ≡ ladder_out (Ok (length (ladder (key_of side id) (rows orders)))) (written (ladder (key_of side id) (rows orders)) o)
   unfolding ladder_view pick
   told = e ∙ rw (eq-eqb (view_fault id orders symbols) 0 f)
 
-  pub ladder_lines : (key : List ℕ) → key ≡ side_key side → (n : ℕ) → length o ≡ 30 → n ≡ min levels_shown (level_count a)
-      → first_texts (λ i. line_of key (level_value (level_at u i))) n ≡ text_of (side_lines side id (rows orders))
-  unfolding level_count side_lines
-  ladder_lines key k n l m =
-      ap (λ (x : LadderOut). first_texts (λ i. line_of key (level_value (level_at x.run i))) n) told
-      ∙ run_lines side id key k (ladder (key_of side id) (rows orders)) o n l (m ∙ ap (λ (x : LadderOut). min levels_shown (level_count x.answer)) told)
+  -- it is told how many levels there are
+  pub ladder_told : a ≡ Ok (length (ladder (key_of side id) (rows orders)))
+  ladder_told = ap (λ (x : LadderOut). x.answer) told
 
-  pub run_fits : (n : ℕ) → length o ≡ 30 → n ≡ min levels_shown (level_count a) → 3 * n ≤ length u
+  pub ladder_lines : (key : List ℕ) → key ≡ side_key side → (m n : ℕ) → a ≡ Ok m → length o ≡ 30 → n ≡ min levels_shown m
+      → first_texts (λ i. line_of key (level_value (level_at u i))) n ≡ text_of (side_lines side id (rows orders))
+  unfolding side_lines
+  ladder_lines key k m n q l h =
+      let ls = ladder (key_of side id) (rows orders) in
+      let c : m ≡ length ls = (let w = sym q ∙ ladder_told in cc) in
+      ap (λ (x : LadderOut). first_texts (λ i. line_of key (level_value (level_at x.run i))) n) told
+      ∙ run_lines side id key k ls o n l (h ∙ ap (λ (x : ℕ). min levels_shown x) c)
+
+  -- and the levels that are shown lie in the run
+  pub run_fits : (m n : ℕ) → a ≡ Ok m → length o ≡ 30 → n ≡ min levels_shown m → 3 * n ≤ length u
   unfolding levels_shown
-  run_fits n l m =
+  run_fits m n q l h =
       let r : length u ≡ 30 = ap (λ (x : LadderOut). length x.run) told ∙ (run_length (ladder (key_of side id) (rows orders)) o ∙ l) in
       omega arith

@@ -1,24 +1,28 @@
 -- A sheet as lines (document 01: "The sheet is key=value lines in a fixed order, each ended by one line feed").
-use Rattle.std.specs.Prelude.{ℕ, List, [], ◌∷◌, map, eqb}
+use Rattle.std.specs.Prelude.{ℕ, List, [], ◌∷◌, map, eqb, Option, None}
 use Rattle.facts.specs.Pick.{pick}
 use Rattle.facts.specs.Pieces.{join}
 use Rattle.views.specs.declared.Side.{Side}
 use Rattle.text.specs.Text.{line_of}
 
--- what a line tells of beside its key: a price level by its symbol, side and price, or nothing that has one
-pub data About : Type 0 where
-  nothing : About
-  level : ℕ → Side → ℕ → About
+-- a price level, known by its symbol, side and price
+pub record About : Type 0 where
+  pub symbol : ℕ
+  pub side : Side
+  pub price : ℕ
 
--- "key=value lines": a key with its equals sign, and its value
+abbrev pub level : ℕ → Side → ℕ → About
+level id side price = record { symbol = id; side = side; price = price }
+
+-- "key=value lines": a key with its equals sign, and its value; and the level that a line tells of, where it is a level's
 pub record Line : Type 0 where
   pub key : List ℕ
   pub value : List ℕ
-  pub about : About
+  pub about : Option About
 
 -- a line that is no level's
 unfoldable pub plain : List ℕ → List ℕ → Line
-plain k v = record { key = k; value = v; about = nothing }
+plain k v = record { key = k; value = v; about = None }
 
 -- "each ended by one line feed"
 unfoldable pub line_text : Line → List ℕ

@@ -1,12 +1,13 @@
 -- The sheet (document 01: "The sheet is key=value lines in a fixed order, each ended by one line feed, up to ten levels a side, bids first, symbols in table order").
-use Rattle.std.specs.Prelude.{ℕ, ◌+◌, ◌*◌, List, [], ◌∷◌, ◌++◌, map, Bool, ◌≡◌, length, get_or, take, drop}
+use Rattle.std.specs.Prelude.{ℕ, ◌+◌, ◌*◌, List, [], ◌∷◌, ◌++◌, map, Bool, ◌≡◌, length, get_or, take, drop, Option, Some, None, Result, Ok, Err}
 use Rattle.facts.specs.Pick.{pick, both}
 use Rattle.facts.specs.Pieces.{join}
 use Rattle.editions.specs.declared.Edition.{Edition}
 use Rattle.fields.specs.Fields.{symbol_of, refusal}
 use Rattle.fields.specs.declared.Symbol.{Symbol}
 use Rattle.body.specs.Shown.{security_in}
-use Rattle.body.specs.declared.Security.{Security}
+use Rattle.fields.specs.declared.Refusal.{Refusal}
+use Rattle.std.specs.Prelude.{ℤ}
 use Rattle.rows.specs.Rows.{rows}
 use Rattle.rows.specs.Find.{count_live}
 use Rattle.rows.specs.declared.Row.{Row}
@@ -17,15 +18,11 @@ use Rattle.views.specs.Spread.{spread_of}
 use Rattle.views.specs.Views.{good_tables, counts_view}
 use Rattle.views.specs.declared.Level.{Level}
 use Rattle.views.specs.declared.Side.{Side}
-use Rattle.views.specs.declared.LadderAnswer.{LadderAnswer}
-use Rattle.views.specs.declared.SpreadAnswer.{SpreadAnswer}
 use Rattle.views.specs.declared.Sizes.{Sizes}
-use Rattle.views.specs.declared.CountsAnswer.{CountsAnswer}
 use Rattle.receiver.specs.Receiver.{next_ok}
 use Rattle.receiver.specs.declared.State.{State}
 use Rattle.text.specs.Text.{decimal_of, signed_of, shown_of, ticker_of}
 use Rattle.answer_sheet.specs.declared.Recording.{Recording}
-use Rattle.answer_sheet.specs.declared.SheetAnswer.{SheetAnswer}
 use Rattle.answer_sheet.specs.Keys.{recording_key, bad_key, next_key, stop_key, second_key, symbols_key, orders_key, symbol_key, ticker_key, type_key, lot_key, spread_key, side_key, whole_word, cut_word, none_word}
 use Rattle.answer_sheet.specs.Lines.{level, Line, plain, text_of}
 
@@ -63,7 +60,7 @@ level_value l = marked_of l.price 32 ++ (marked_of l.shares 32 ++ decimal_of l.o
 
 -- "bid=10000000 150 2"
 unfoldable pub level_line : Side → ℕ → Level → Line
-level_line side id l = record { key = side_key side; value = level_value l; about = level id side l.price }
+level_line side id l = record { key = side_key side; value = level_value l; about = Some (level id side l.price) }
 
 -- "up to ten levels a side"
 unfoldable pub levels_shown : ℕ
@@ -74,19 +71,18 @@ unfoldable pub side_lines : Side → ℕ → List Row → List Line
 side_lines side id rs = map (level_line side id) (take levels_shown (ladder (key_of side id) rs))
 
 -- ---- a symbol
--- "with a side empty the answer is none": "spread=none"; a spread is refused only for an unknown symbol or tables of a bad size, so never on a sheet
-unfoldable pub spread_word : SpreadAnswer → List ℕ
-spread_word (SpreadAnswer.Of z) = signed_of z
-spread_word SpreadAnswer.Empty = none_word
-spread_word (SpreadAnswer.Refused r) = []
+-- "with a side empty the answer is none": "spread=none"
+unfoldable pub spread_word : Option ℤ → List ℕ
+spread_word (Some z) = signed_of z
+spread_word None = none_word
 
 -- "Only the 1.3 sheet shows it, as `type=` after `ticker=`" (request 10): the byte, as "other bytes outside 32 to 126 shown as a full stop"
-unfoldable pub type_lines : Security → List Line
-type_lines (Security.Type x) = plain type_key (shown_of x ∷ []) ∷ []
-type_lines Security.Reserved = []
+unfoldable pub type_lines : Option ℕ → List Line
+type_lines (Some x) = plain type_key (shown_of x ∷ []) ∷ []
+type_lines None = []
 
 -- "symbol=7", "ticker=ABC", "lot=100"
-unfoldable pub symbol_lines : Security → Symbol → List Line
+unfoldable pub symbol_lines : Option ℕ → Symbol → List Line
 symbol_lines y s =
     plain symbol_key (decimal_of s.id) ∷
     plain ticker_key (ticker_of s.ticker) ∷
@@ -124,35 +120,30 @@ sheet_ok s orders symbols = both (good_tables orders symbols) (next_ok s.next)
 
 -- an answer, and every byte of the lent buffer behind it
 pub record Sheet : Type 0 where
-  pub answer : SheetAnswer
+  pub answer : Result ℕ Refusal
   pub buf : List ℕ
 
-abbrev pub sheet_and : SheetAnswer → List ℕ → Sheet
+abbrev pub sheet_and : Result ℕ Refusal → List ℕ → Sheet
 sheet_and a b = record { answer = a; buf = b }
 
 -- how long the whole text is, written or not; as much of it as the buffer reaches, and the rest of the buffer untouched
 unfoldable pub stored : List ℕ → List ℕ → Sheet
-stored t b = sheet_and (SheetAnswer.Length (length t)) (take (length b) t ++ drop (length t) b)
+stored t b = sheet_and (Ok (length t)) (take (length b) t ++ drop (length t) b)
 
 -- "Each refusal returns its number alone; tables, output and state keep every byte"
 unfoldable pub sheet_view : Recording → ℕ → State → List ℕ → List ℕ → List ℕ → Sheet
 sheet_view word bad s orders symbols b =
-    pick (sheet_ok s orders symbols) (stored (sheet_of word bad s orders symbols) b) (sheet_and (SheetAnswer.Refused (refusal 6)) b)
+    pick (sheet_ok s orders symbols) (stored (sheet_of word bad s orders symbols) b) (sheet_and (Err (refusal 6)) b)
 
 -- document 01's number of each answer, 0 where nothing is refused
-unfoldable pub sheet_number : SheetAnswer → ℕ
-sheet_number (SheetAnswer.Length n) = 0
-sheet_number (SheetAnswer.Refused r) = r.number
+unfoldable pub sheet_number : Result ℕ Refusal → ℕ
+sheet_number (Ok n) = 0
+sheet_number (Err r) = r.number
 
 -- ---- inside the code's loops and calls
--- how many levels an answer tells of; none where it is refused
-unfoldable pub level_count : LadderAnswer → ℕ
-level_count (LadderAnswer.Levels n) = n
-level_count (LadderAnswer.Refused r) = 0
-
 -- what a view of good tables counted
 abbrev pub AreSizes : Sizes → List ℕ → List ℕ → Type 0
-AreSizes z orders symbols = CountsAnswer.Are z ≡ counts_view orders symbols
+AreSizes z orders symbols = Ok z ≡ counts_view orders symbols
 
 -- level i of a run of numbers, three to a level
 unfoldable pub level_at : List ℕ → ℕ → Level

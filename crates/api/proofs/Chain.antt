@@ -9,9 +9,11 @@ use Rattle.book.specs.Plan.{clock}
 use Rattle.receiver.specs.Lent.{real, state_numbers, Lent, lent, orders_of, symbols_of, shelf_of, index_of, state_of, Handled, received}
 use Rattle.receiver.specs.declared.State.{State}
 use Rattle.receiver.specs.declared.Account.{Account}
-use Rattle.receiver.specs.declared.Received.{Received}
+use Rattle.std.specs.Prelude.{Result, Ok, Err}
+use Rattle.packet.specs.declared.Why.{Why}
 use Rattle.receiver.proofs.Accounts.{refused_same}
-use Rattle.api.specs.Calls.{state_in, receive_call, state_received, account_received, received_code, receive_answer}
+use Rattle.api.specs.Told.{why_code, code_of, told}
+use Rattle.api.specs.Calls.{state_in, account_numbers, receive_call, receive_answer}
 
 -- a state that a machine holds: its second in 32 bits, its stop in 8
 pub record Held (q : State) : Type 0 where
@@ -37,17 +39,16 @@ module _ (k : Lent) (h : Held (state_of k)) (p m : List ℕ) where
   same_call : received (lent (orders_of k) (symbols_of k) (shelf_of k) (index_of k) (state_in numbers)) p ≡ received k p
   same_call = ap (λ (q : State). received (lent (orders_of k) (symbols_of k) (shelf_of k) (index_of k) q) p) (state_back (state_of k) h)
 
-  state_left : state_received (received k p).answer (state_of after) numbers ≡ state_numbers (state_of after)
+  state_left : told (λ (t : Account). state_numbers (state_of after)) (received k p).answer numbers ≡ state_numbers (state_of after)
   state_left = go (received k p).answer refl
     where
-      go : (a : Received) → (received k p).answer ≡ a → state_received a (state_of after) numbers ≡ state_numbers (state_of after)
-      go (Received.Accepted t) e = refl
-      go (Received.Refused r) e = ap (λ (x : Lent). state_numbers (state_of x)) (sym (refused_same (real k.edition) k p (λ (t : Account) q. let n : Received.Refused r ≡ Received.Accepted t = sym e ∙ q in let z : ◌≡◌ {A = ℕ} 0 1 = cc in absurd (omega arith))))
-      go (Received.Bad f) e = ap (λ (x : Lent). state_numbers (state_of x)) (sym (refused_same (real k.edition) k p (λ (t : Account) q. let n : Received.Bad f ≡ Received.Accepted t = sym e ∙ q in let z : ◌≡◌ {A = ℕ} 0 1 = cc in absurd (omega arith))))
+      go : (a : Result Account Why) → (received k p).answer ≡ a → told (λ (t : Account). state_numbers (state_of after)) a numbers ≡ state_numbers (state_of after)
+      go (Ok t) e = refl
+      go (Err w) e = ap (λ (x : Lent). state_numbers (state_of x)) (sym (refused_same (real k.edition) k p (λ (t : Account) q. let n : Err w ≡ Ok t = sym e ∙ q in cc)))
 
   pub next_call : receive_answer (received (lent (orders_of k) (symbols_of k) (shelf_of k) (index_of k) (state_in numbers)) p) numbers m
-      ≡ receive_call (received_code (received k p).answer) (state_numbers (state_of after)) (account_received (received k p).answer m) (orders_of after) (symbols_of after) (shelf_of after) (index_of after)
+      ≡ receive_call (code_of why_code (received k p).answer) (state_numbers (state_of after)) (told account_numbers (received k p).answer m) (orders_of after) (symbols_of after) (shelf_of after) (index_of after)
   unfolding receive_answer
   next_call =
       ap (λ (x : Handled). receive_answer x numbers m) same_call
-      ∙ ap (λ (l : List ℕ). receive_call (received_code (received k p).answer) l (account_received (received k p).answer m) (orders_of after) (symbols_of after) (shelf_of after) (index_of after)) state_left
+      ∙ ap (λ (l : List ℕ). receive_call (code_of why_code (received k p).answer) l (told account_numbers (received k p).answer m) (orders_of after) (symbols_of after) (shelf_of after) (index_of after)) state_left

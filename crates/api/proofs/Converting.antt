@@ -1,9 +1,8 @@
--- What is answered is handed on, case by case; an offset is one of reading, and small.
+-- An offset in what a conversion answers is one of reading, and small.
 -- Assumes nothing.
 use Prim.Native.Nat.{ℕ, ◌≤◌}
-use mathlib.Core.Path.{◌≡◌, refl, sym, ap, ◌∙◌}
+use mathlib.Core.Path.{◌≡◌, refl, ap, ◌∙◌}
 use mathlib.Core.List.{List}
-use native.Mathlib.Omega.{arith}
 use lib.ListN.{length}
 use Rattle.facts.specs.Limits.{packet_most}
 use Rattle.facts.proofs.Picks.{pick_ind}
@@ -11,51 +10,32 @@ use Rattle.editions.specs.declared.Edition.{Edition}
 use Rattle.wire.specs.Records.{bad, records}
 use Rattle.fields.specs.Fields.{refusal}
 use Rattle.fields.specs.declared.Fault.{Fault}
-use Rattle.body.specs.Read.{with_offset}
-use Rattle.packet.specs.Packet.{alone, placed, Framing, framing, told, read_packet}
-use Rattle.packet.specs.declared.Packet.{Packet}
+use Rattle.packet.specs.Packet.{Framing, framing, told, read_packet}
+use Rattle.std.specs.Prelude.{Err}
+use Rattle.packet.specs.declared.Why.{Why}
 use Rattle.packet.proofs.Places.{packet_small}
 use Rattle.retype.specs.Types.{whole_exceptions, types_ok}
 use Rattle.retype.specs.Retyped.{Asked}
-use Rattle.conversion.specs.declared.Converted.{Converted}
-use Rattle.conversion.specs.declared.Pieced.{Pieced}
 use Rattle.conversion.specs.Packet.{Conversion, conversion, converted_by, judged_first, converted}
-use Rattle.conversion.specs.Piece.{Turned, turned, pieced_number}
-use Rattle.api.specs.Conversions.{convert_call, convert_code, updates_given, convert_answer, counts_given, piece_answer}
 
--- ---- a packet
 Small : Conversion → Type 0
-Small x = (f : Fault) → x.answer ≡ Converted.Bad f → f.at ≤ packet_most
+Small x = (f : Fault) → x.answer ≡ Err (Why.Placed f) → f.at ≤ packet_most
 
-refused_small : (n : ℕ) (p : List ℕ) → Small (conversion (Converted.Refused (refusal n)) p)
+refused_small : (n : ℕ) (p : List ℕ) → Small (conversion (Err (Why.Alone (refusal n))) p)
 unfolding Small
-refused_small n p f e = let z : ◌≡◌ {A = ℕ} 0 1 = cc in absurd (omega arith)
+refused_small n p f e = cc
 
 by_small : (from : Edition) (a : Asked) (p : List ℕ) (x : Framing) → framing from p ≡ x → Small (converted_by a x p)
 unfolding Small converted_by read_packet told
-by_small from a p (bad (alone r)) h f e = let z : ◌≡◌ {A = ℕ} 0 1 = cc in absurd (omega arith)
-by_small from a p (bad (placed g)) h f e =
+by_small from a p (bad (Why.Alone r)) h f e = cc
+by_small from a p (bad (Why.Placed g)) h f e =
     let same : g ≡ f = cc in
-    packet_small from p f (ap told h ∙ ap Packet.Bad same)
-by_small from a p (records cs) h f e = let z : ◌≡◌ {A = ℕ} 0 1 = cc in absurd (omega arith)
+    packet_small from p f (ap told h ∙ ap (λ q. Err (Why.Placed q)) same)
+by_small from a p (records cs) h f e = cc
 
-pub convert_small : (from : Edition) (a : Asked) (p : List ℕ) (f : Fault) → (converted from a p).answer ≡ Converted.Bad f → f.at ≤ packet_most
+pub convert_small : (from : Edition) (a : Asked) (p : List ℕ) (f : Fault) → (converted from a p).answer ≡ Err (Why.Placed f) → f.at ≤ packet_most
 unfolding converted judged_first Small
 convert_small from a p =
     pick_ind Small (whole_exceptions (length a.others)) _ _
     (λ _. pick_ind Small (types_ok a.to a.all a.others) _ _ (λ _. by_small from a p (framing from p) refl) (λ _. refused_small 4 p))
     (λ _. refused_small 6 p)
-
--- r is what the library answered, which is k, and q the packet after it
-pub convert_told : (r k : Converted) (q : List ℕ) (v : Conversion) → r ≡ k → conversion r q ≡ v → (l : List ℕ) → convert_call (convert_code k) q (updates_given k l) ≡ convert_answer v l
-unfolding convert_answer
-convert_told r k q v e h l = ap (λ (x : Converted). convert_call (convert_code x) q (updates_given x l)) (sym e) ∙ ap (λ (x : Conversion). convert_answer x l) h
-
--- the number is what the call that makes it told of a fault
-pub convert_bad : (r : Converted) (f : Fault) (q : List ℕ) (v : Conversion) → r ≡ Converted.Bad f → conversion r q ≡ v → (l : List ℕ) (n : ℕ) → n ≡ with_offset f → convert_call n q l ≡ convert_answer v l
-convert_bad r f q v e h l n g = ap (λ (y : ℕ). convert_call y q l) g ∙ convert_told r (Converted.Bad f) q v e h l
-
--- ---- a piece
-pub piece_told : (r k : Pieced) (q : List ℕ) (v : Turned) → r ≡ k → turned r q ≡ v → (l : List ℕ) → convert_call (pieced_number k) q (counts_given k l) ≡ piece_answer v l
-unfolding piece_answer
-piece_told r k q v e h l = ap (λ (x : Pieced). convert_call (pieced_number x) q (counts_given x l)) (sym e) ∙ ap (λ (x : Turned). piece_answer x l) h

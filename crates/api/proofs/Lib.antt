@@ -1,5 +1,6 @@
 pub mod Bits
-pub mod Handing
+pub mod Telling
+pub mod Bodies
 pub mod Chain
 pub mod Streams
 pub mod Codes

@@ -1,5 +1,4 @@
--- What `feed` answered decides what the boundary hands on; and calls from C, one after another, are `feed` after `feed`: the fourteen numbers that a call leaves give the
--- next one the same stream back.
+-- Calls from C, one after another, are `feed` after `feed`: the fourteen numbers that a call leaves give the next one the same stream back.
 -- Assumes nothing.
 use Prim.Native.Nat.{ℕ, ◌%◌, ◌^◌, ◌<◌}
 use mathlib.Core.Path.{◌≡◌, ap, ◌∙◌}
@@ -9,27 +8,12 @@ use Rattle.fields.specs.Fields.{bad_at}
 use Rattle.receiver.specs.declared.State.{State}
 use Rattle.receiver.specs.Lent.{state_numbers}
 use Rattle.recording.specs.declared.Stream.{Stream}
-use Rattle.recording.specs.declared.Fed.{Fed}
+use Rattle.std.specs.Prelude.{Ok}
 use Rattle.recording.specs.Stream.{opened, cut, Feeding, feeding, fed, fed_number}
 use Rattle.recording.specs.Whole.{fed_on}
 use Rattle.api.specs.Calls.{state_in, call}
 use Rattle.api.specs.Streams.{stream_numbers, stream_from, open_answer, feed_call, feed_answer}
-use Rattle.api.proofs.Handing.{handed}
 use Rattle.api.proofs.Chain.{Held, state_back}
-
--- n is what the call that copies a stream told of k
-pub open_handed : (k v : Stream) → k ≡ v → (n : List ℕ) → n ≡ stream_numbers k → call 0 n ≡ open_answer v
-unfolding open_answer
-open_handed k v e n f = ap (λ (y : List ℕ). call 0 y) f ∙ ap open_answer e
-
--- ---- a chunk
-module _ (x : Fed) (o s h ix w : List ℕ) (v : Feeding) (e : feeding x o s h ix w ≡ v) (l : List ℕ) where
-  pub feed_handed : (k : Fed) → x ≡ k → feed_answer (feeding k o s h ix w) l ≡ feed_answer v l
-  feed_handed k q = handed (λ y. feed_answer y l) (λ y. feeding y o s h ix w) x k v q e
-
-  pub feed_took : (k : Stream) → x ≡ Fed.Took k → (n : List ℕ) → n ≡ stream_numbers k → feed_call 0 n o s h ix w ≡ feed_answer v l
-  unfolding feed_answer fed_number
-  feed_took k q n f = ap (λ (y : List ℕ). feed_call 0 y o s h ix w) f ∙ feed_handed (Fed.Took k) q
 
 -- ---- one call after another
 -- a stream that a machine holds: its receiver's state, and the last bad packet's number in 8 bits
@@ -52,13 +36,13 @@ next_open q h = ap (λ (x : State). open_answer (opened x)) (state_back q h)
 -- speaks, where none is refused
 module _ (k : Stream) (held : HeldStream k) (o s h ix w : List ℕ) where
   abbrev left : Feeding
-  left = feeding (Fed.Took k) o s h ix w
+  left = feeding (Ok k) o s h ix w
 
   pub next_feed : (c : List ℕ) → feed_answer (fed (stream_from (stream_numbers k)) o s h ix w c) (stream_numbers k) ≡ feed_answer (fed_on c left) (stream_numbers k)
   unfolding fed_on
   next_feed c = ap (λ (x : Stream). feed_answer (fed x o s h ix w c) (stream_numbers k)) (stream_back k held)
 
-  pub next_took : (c : List ℕ) (k' : Stream) (o' s' h' ix' w' : List ℕ) → fed_on c left ≡ feeding (Fed.Took k') o' s' h' ix' w'
+  pub next_took : (c : List ℕ) (k' : Stream) (o' s' h' ix' w' : List ℕ) → fed_on c left ≡ feeding (Ok k') o' s' h' ix' w'
       → feed_answer (fed (stream_from (stream_numbers k)) o s h ix w c) (stream_numbers k) ≡ feed_call 0 (stream_numbers k') o' s' h' ix' w'
   unfolding feed_answer fed_number
   next_took c k' o' s' h' ix' w' e = next_feed c ∙ ap (λ (x : Feeding). feed_answer x (stream_numbers k)) e

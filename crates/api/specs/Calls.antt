@@ -1,26 +1,24 @@
 -- What each call of the C boundary answers: a number, and the lent memory after it. The meaning is that of the library's own definitions;
 -- "tables, output and state keep every byte" (document 01), so that a refusal's offset comes in the number (request 5).
-use Rattle.std.specs.Prelude.{ℕ, ◌%◌, ◌-◌, Bool, true, false, List, [], ◌∷◌, get_or, ℤ, pos, nat_abs}
+use Rattle.std.specs.Prelude.{ℕ, ◌%◌, ◌-◌, Bool, true, false, List, [], ◌∷◌, get_or, ℤ, pos, nat_abs, Option, Some, None, Result}
 use Rattle.std.specs.Int.Signed.{lt_z}
 use Rattle.facts.specs.Pick.{pick}
 use Rattle.editions.specs.Editions.{edition_of}
 use Rattle.receiver.specs.declared.State.{State}
 use Rattle.receiver.specs.declared.Account.{Account}
-use Rattle.receiver.specs.declared.Received.{Received}
-use Rattle.receiver.specs.declared.Started.{Started}
+use Rattle.packet.specs.declared.Why.{Why}
+use Rattle.fields.specs.declared.Fault.{Fault}
+use Rattle.fields.specs.declared.Refusal.{Refusal}
+use Rattle.packet.specs.declared.Head.{Head}
+use Rattle.views.specs.declared.Sizes.{Sizes}
 use Rattle.book.specs.Plan.{clock}
 use Rattle.receiver.specs.Lent.{state_numbers, Begun, Handled, start_number, orders_of, symbols_of, shelf_of, index_of, state_of}
 use Rattle.views.specs.declared.Side.{Side}
-use Rattle.views.specs.declared.LadderAnswer.{LadderAnswer}
-use Rattle.views.specs.declared.SpreadAnswer.{SpreadAnswer}
-use Rattle.views.specs.declared.CountsAnswer.{CountsAnswer}
 use Rattle.views.specs.Views.{LadderOut, ladder_number, spread_number, counts_number}
 use Rattle.answer_sheet.specs.declared.Recording.{Recording}
-use Rattle.answer_sheet.specs.declared.SheetAnswer.{SheetAnswer}
 use Rattle.answer_sheet.specs.Sheet.{Sheet, sheet_number}
-use Rattle.packet.specs.declared.Packet.{Packet}
-use Rattle.packet.specs.declared.Record.{Record}
 use Rattle.body.specs.Read.{with_offset}
+use Rattle.api.specs.Told.{why_code, code_of, told}
 
 -- a receiver's state in four lent numbers (`state_numbers` of receiver): the second is the low 32 bits of its number, the stop the low 8, and any number but 1 stands for 1.3.a and 1.3.b
 abbrev pub state_in : List ℕ → State
@@ -45,13 +43,8 @@ pub record StartCall : Type 0 where
 abbrev pub start_call : ℕ → List ℕ → List ℕ → List ℕ → List ℕ → List ℕ → StartCall
 start_call n l o s h ix = record { number = n; state = l; orders = o; symbols = s; shelf = h; index = ix }
 
--- a refusal leaves the lent state as it is
-abbrev pub state_started : Started → List ℕ → List ℕ
-state_started (Started.Ready q) l = state_numbers q
-state_started (Started.Refused r) l = l
-
 unfoldable pub start_answer : Begun → List ℕ → StartCall
-start_answer b l = start_call (start_number b.answer) (state_started b.answer l) b.orders b.symbols b.shelf b.index
+start_answer b l = start_call (start_number b.answer) (told state_numbers b.answer l) b.orders b.symbols b.shelf b.index
 
 -- ---- a packet to a receiver
 -- its number, the state and the account lent for it, the tables and the index
@@ -67,26 +60,9 @@ pub record ReceiveCall : Type 0 where
 abbrev pub receive_call : ℕ → List ℕ → List ℕ → List ℕ → List ℕ → List ℕ → List ℕ → ReceiveCall
 receive_call n l a o s h ix = record { number = n; state = l; account = a; orders = o; symbols = s; shelf = h; index = ix }
 
--- the lent state: that of the receiver after an accepted packet
-abbrev pub state_received : Received → State → List ℕ → List ℕ
-state_received (Received.Accepted a) q l = state_numbers q
-state_received (Received.Refused r) q l = l
-state_received (Received.Bad f) q l = l
-
-abbrev pub account_received : Received → List ℕ → List ℕ
-account_received (Received.Accepted a) l = account_numbers a
-account_received (Received.Refused r) l = l
-account_received (Received.Bad f) l = l
-
--- 0, the number alone, or number and offset
-abbrev pub received_code : Received → ℕ
-received_code (Received.Accepted a) = 0
-received_code (Received.Refused r) = r.number
-received_code (Received.Bad f) = with_offset f
-
 unfoldable pub receive_answer : Handled → List ℕ → List ℕ → ReceiveCall
 receive_answer u l a =
-    receive_call (received_code u.answer) (state_received u.answer (state_of u.after) l) (account_received u.answer a)
+    receive_call (code_of why_code u.answer) (told (λ _. state_numbers (state_of u.after)) u.answer l) (told account_numbers u.answer a)
     (orders_of u.after) (symbols_of u.after) (shelf_of u.after) (index_of u.after)
 
 -- ---- views
@@ -103,13 +79,9 @@ pub record FillCall : Type 0 where
 abbrev pub fill_call : ℕ → List ℕ → List ℕ → FillCall
 fill_call n l o = record { number = n; told = l; filled = o }
 
--- the number of all levels
-abbrev pub levels_told : LadderAnswer → List ℕ → List ℕ
-levels_told (LadderAnswer.Levels n) l = n ∷ []
-levels_told (LadderAnswer.Refused r) l = l
-
+-- the number of all levels, and the run; a refusal leaves the lent number as it is
 unfoldable pub ladder_answer : LadderOut → List ℕ → FillCall
-ladder_answer v l = fill_call (ladder_number v.answer) (levels_told v.answer l) v.run
+ladder_answer v l = fill_call (ladder_number v.answer) (told (λ n. n ∷ []) v.answer l) v.run
 
 -- a number, and the one thing lent for writing
 pub record Call : Type 0 where
@@ -124,48 +96,31 @@ unfoldable pub bits_of : ℤ → ℕ
 bits_of z = pick (lt_z z (pos 0)) (18446744073709551616 - nat_abs z) (nat_abs z)
 
 -- 1 and the spread as its bits, or two zeros where a side is empty
-abbrev pub spread_numbers : SpreadAnswer → List ℕ → List ℕ
-spread_numbers (SpreadAnswer.Of z) l = 1 ∷ bits_of z ∷ []
-spread_numbers SpreadAnswer.Empty l = 0 ∷ 0 ∷ []
-spread_numbers (SpreadAnswer.Refused r) l = l
+abbrev pub spread_numbers : Option ℤ → List ℕ
+spread_numbers (Some z) = 1 ∷ bits_of z ∷ []
+spread_numbers None = 0 ∷ 0 ∷ []
 
-unfoldable pub spread_answer : SpreadAnswer → List ℕ → Call
-spread_answer a l = call (spread_number a) (spread_numbers a l)
+unfoldable pub spread_answer : Result (Option ℤ) Refusal → List ℕ → Call
+spread_answer a l = call (spread_number a) (told spread_numbers a l)
 
 -- live orders, used entries
-abbrev pub counts_numbers : CountsAnswer → List ℕ → List ℕ
-counts_numbers (CountsAnswer.Are n) l = n.orders ∷ n.symbols ∷ []
-counts_numbers (CountsAnswer.Refused r) l = l
+abbrev pub counts_numbers : Sizes → List ℕ
+counts_numbers n = n.orders ∷ n.symbols ∷ []
 
-unfoldable pub counts_answer : CountsAnswer → List ℕ → Call
-counts_answer a l = call (counts_number a) (counts_numbers a l)
+unfoldable pub counts_answer : Result Sizes Refusal → List ℕ → Call
+counts_answer a l = call (counts_number a) (told counts_numbers a l)
 
 -- ---- packets and records
 -- the number of a packet's records
-abbrev pub packet_numbers : Packet → List ℕ → List ℕ
-packet_numbers (Packet.Good n) l = n ∷ []
-packet_numbers (Packet.Refused r) l = l
-packet_numbers (Packet.Bad f) l = l
-
-abbrev pub packet_code : Packet → ℕ
-packet_code (Packet.Good n) = 0
-packet_code (Packet.Refused r) = r.number
-packet_code (Packet.Bad f) = with_offset f
-
-unfoldable pub packet_answer : Packet → List ℕ → Call
-packet_answer a l = call (packet_code a) (packet_numbers a l)
+unfoldable pub packet_answer : Result ℕ Why → List ℕ → Call
+packet_answer a l = call (code_of why_code a) (told (λ n. n ∷ []) a l)
 
 -- a record's number, and the length of its body
-abbrev pub record_numbers : Record → List ℕ → List ℕ
-record_numbers (Record.Good h) l = h.number ∷ h.len ∷ []
-record_numbers (Record.Bad f) l = l
+abbrev pub record_numbers : Head → List ℕ
+record_numbers h = h.number ∷ h.len ∷ []
 
-abbrev pub record_code : Record → ℕ
-record_code (Record.Good h) = 0
-record_code (Record.Bad f) = with_offset f
-
-unfoldable pub record_answer : Record → List ℕ → Call
-record_answer a l = call (record_code a) (record_numbers a l)
+unfoldable pub record_answer : Result Head Fault → List ℕ → Call
+record_answer a l = call (code_of with_offset a) (told record_numbers a l)
 
 -- ---- the sheet
 abbrev pub word_of : Bool → Recording
@@ -173,9 +128,8 @@ word_of true = Recording.Cut
 word_of false = Recording.Whole
 
 -- how long the whole sheet is
-abbrev pub sheet_length : SheetAnswer → List ℕ → List ℕ
-sheet_length (SheetAnswer.Length n) l = n ∷ []
-sheet_length (SheetAnswer.Refused r) l = l
+abbrev pub sheet_length : Result ℕ Refusal → List ℕ → List ℕ
+sheet_length = told (λ n. n ∷ [])
 
 unfoldable pub sheet_answer : Sheet → List ℕ → FillCall
 sheet_answer v l = fill_call (sheet_number v.answer) (sheet_length v.answer l) v.buf

@@ -1,10 +1,9 @@
 -- What the two calls that convert answer: a number, the packet or piece after it, and the counts (docs/CONVERT.md).
 use Rattle.std.specs.Prelude.{ℕ, List, [], ◌∷◌}
-use Rattle.body.specs.Read.{with_offset}
-use Rattle.conversion.specs.declared.Converted.{Converted}
-use Rattle.conversion.specs.declared.Pieced.{Pieced}
+use Rattle.conversion.specs.declared.Tally.{Tally}
 use Rattle.conversion.specs.Packet.{Conversion}
 use Rattle.conversion.specs.Piece.{Turned, pieced_number}
+use Rattle.api.specs.Told.{why_code, code_of, told}
 
 -- its number, with the offset above it where reading has one, the bytes that were converted in place, and the counts lent for it
 pub record ConvertCall : Type 0 where
@@ -16,25 +15,14 @@ abbrev pub convert_call : ℕ → List ℕ → List ℕ → ConvertCall
 convert_call n b l = record { number = n; bytes = b; counts = l }
 
 -- ---- a packet
-abbrev pub convert_code : Converted → ℕ
-convert_code (Converted.Updates n) = 0
-convert_code (Converted.Refused r) = r.number
-convert_code (Converted.Bad f) = with_offset f
-
 -- Symbol Updates rewritten; a refusal leaves the lent number as it is
-abbrev pub updates_given : Converted → List ℕ → List ℕ
-updates_given (Converted.Updates n) l = n ∷ []
-updates_given (Converted.Refused r) l = l
-updates_given (Converted.Bad f) l = l
-
 unfoldable pub convert_answer : Conversion → List ℕ → ConvertCall
-convert_answer x l = convert_call (convert_code x.answer) x.packet (updates_given x.answer l)
+convert_answer x l = convert_call (code_of why_code x.answer) x.packet (told (λ n. n ∷ []) x.answer l)
 
 -- ---- a piece
 -- the bytes of whole packets, Symbol Updates rewritten, packets passed on unread, packets barred
-abbrev pub counts_given : Pieced → List ℕ → List ℕ
-counts_given (Pieced.Done n t) l = n ∷ t.updates ∷ t.unread ∷ t.barred ∷ []
-counts_given (Pieced.Refused r) l = l
+abbrev pub piece_numbers : ℕ × Tally → List ℕ
+piece_numbers (n, t) = n ∷ t.updates ∷ t.unread ∷ t.barred ∷ []
 
 unfoldable pub piece_answer : Turned → List ℕ → ConvertCall
-piece_answer x l = convert_call (pieced_number x.answer) x.bytes (counts_given x.answer l)
+piece_answer x l = convert_call (pieced_number x.answer) x.bytes (told piece_numbers x.answer l)

@@ -3,8 +3,8 @@ use Rattle.std.specs.Prelude.{ℕ, ◌%◌, List, [], ◌∷◌, ◌++◌, get_o
 use Rattle.receiver.specs.Lent.{state_numbers}
 use Rattle.fields.specs.Fields.{bad_at}
 use Rattle.recording.specs.declared.Stream.{Stream}
-use Rattle.recording.specs.declared.Fed.{Fed}
 use Rattle.recording.specs.Stream.{Feeding, fed_number}
+use Rattle.api.specs.Told.{told}
 use Rattle.api.specs.Calls.{state_in, Call, call}
 
 -- the receiver's state; bytes held, bytes to pass over, bad packets; records taken, old, too far, repeated, differing over all accepted packets; number and offset of the last bad packet
@@ -46,10 +46,5 @@ pub record FeedCall : Type 0 where
 abbrev pub feed_call : ℕ → List ℕ → List ℕ → List ℕ → List ℕ → List ℕ → List ℕ → FeedCall
 feed_call n l o s h ix w = record { number = n; stream = l; orders = o; symbols = s; shelf = h; index = ix; hold = w }
 
--- a refusal leaves the lent stream as it is
-abbrev pub stream_fed : Fed → List ℕ → List ℕ
-stream_fed (Fed.Took k) l = stream_numbers k
-stream_fed (Fed.Refused r) l = l
-
 unfoldable pub feed_answer : Feeding → List ℕ → FeedCall
-feed_answer f l = feed_call (fed_number f.answer) (stream_fed f.answer l) f.orders f.symbols f.shelf f.index f.hold
+feed_answer f l = feed_call (fed_number f.answer) (told stream_numbers f.answer l) f.orders f.symbols f.shelf f.index f.hold

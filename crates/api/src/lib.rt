@@ -3,7 +3,7 @@
 // bodies are read, the answer has the offset of the first byte at fault above the number's 8 bits.
 #![tactic(auto)]
 
-ghost use Rattle.std.specs.Prelude.{◌≡◌, ◌<◌};
+ghost use Rattle.std.specs.Prelude.{ℕ, List, [], ◌∷◌, ◌≡◌, ◌<◌, IfErr};
 ghost use Rattle.editions.specs.Editions.{edition_of};
 ghost use Rattle.receiver.specs.Lent.{state_numbers, lent, received, started};
 ghost use Rattle.views.specs.Views.{ladder_view, spread_view, counts_view};
@@ -17,39 +17,181 @@ ghost use Rattle.retype.specs.Retyped.{asked};
 ghost use Rattle.conversion.specs.Packet.{converted};
 ghost use Rattle.conversion.specs.Piece.{turned_to};
 ghost use Rattle.writer.specs.Append.{numbers_appended, packet_appended};
-ghost use Rattle.api.specs.Writing.{wrote_code, length_told, write_answer, Small};
-ghost use Rattle.api.specs.Conversions.{convert_call, convert_answer, piece_answer};
-ghost use Rattle.api.specs.Calls.{state_in, account_numbers, side_asked, start_call, start_answer, receive_call, receive_answer, fill_call, ladder_answer, call, bits_of, spread_answer, counts_answer, packet_answer, record_answer, word_of, sheet_answer};
+ghost use Rattle.api.specs.Told.{why_code, code_of, told, done_of, Small};
+ghost use Rattle.api.specs.Writing.{write_answer};
+ghost use Rattle.api.specs.Conversions.{convert_call, convert_answer, piece_numbers, piece_answer};
+ghost use Rattle.api.specs.Calls.{state_in, account_numbers, side_asked, start_call, start_answer, receive_call, receive_answer, fill_call, ladder_answer, call, spread_numbers, spread_answer, counts_numbers, counts_answer, packet_answer, record_numbers, record_answer, word_of, sheet_answer};
 ghost use Rattle.api.specs.Streams.{stream_numbers, stream_from, open_answer, feed_call, feed_answer};
 ghost use Rattle.api.specs.Messages.{body_answer};
 
-use answer_sheet::{Recording, SheetAnswer};
+use answer_sheet::Recording;
 use arbitration::Counts;
-use body::Judged;
 use book::Clock;
-use conversion::{Converted, Pieced};
-use fields::Fault;
-use packet::{Packet, Record};
-use receiver::{Account, Received, Started, State};
-use recording::{Fed, Stream};
-use views::{CountsAnswer, LadderAnswer, Side, SpreadAnswer};
-use writer::Wrote;
+use conversion::Tally;
+use editions::Edition;
+use fields::{Fault, Refusal};
+use packet::{Head, Why};
+use receiver::{Account, State};
+use recording::Stream;
+use retype::Asked;
+use views::{Side, Sizes};
 
-// A receiver's state as four numbers.
-fn state_numbers(s: State) -> [u64; 4]
-    ensures { result ≡ state_numbers s }
+// What C is told as so many numbers.
+trait Numbers<const N: usize>: Sized {
+    ghost numbers: { Self → List ℕ };
+
+    fn numbers(self) -> [u64; N]
+        ensures { result ≡ numbers self };
+}
+
+// How much there is.
+impl Numbers<1> for usize {
+    ghost numbers = { λ n. n ∷ [] };
+
+    fn numbers(self) -> [u64; 1] {
+        [self as u64]
+    }
+}
+
+impl Numbers<2> for Head {
+    ghost numbers = { record_numbers };
+
+    fn numbers(self) -> [u64; 2] {
+        [self.number, self.len as u64]
+    }
+}
+
+impl Numbers<2> for Sizes {
+    ghost numbers = { counts_numbers };
+
+    fn numbers(self) -> [u64; 2] {
+        [self.orders as u64, self.symbols as u64]
+    }
+}
+
+// 1 and a spread as the 64 bits that hold it, or two zeros where a side is empty.
+impl Numbers<2> for Option<i64> {
+    ghost numbers = { spread_numbers };
+
+    fn numbers(self) -> [u64; 2] {
+        match self {
+            Some(z) => [1, z.cast_unsigned()],
+            None => [0, 0],
+        }
+    }
+}
+
+// The bytes of whole packets, and what was counted of them.
+impl Numbers<4> for (usize, Tally) {
+    ghost numbers = { piece_numbers };
+
+    fn numbers(self) -> [u64; 4] {
+        let (n, t) = self;
+        [n as u64, t.updates as u64, t.unread as u64, t.barred as u64]
+    }
+}
+
+impl Numbers<4> for State {
+    ghost numbers = { state_numbers };
+
+    fn numbers(self) -> [u64; 4] {
+        [
+            self.next,
+            self.clock.second as u64,
+            self.stop as u64,
+            u64::from(self.edition),
+        ]
+    }
+}
+
+impl Numbers<9> for Account {
+    ghost numbers = { account_numbers };
+
+    fn numbers(self) -> [u64; 9] {
+        let t = self.counts;
+        [
+            t.taken,
+            t.old,
+            t.far,
+            t.repeated,
+            t.differing,
+            self.next,
+            self.applied,
+            self.highest,
+            self.stop as u64,
+        ]
+    }
+}
+
+impl Numbers<14> for Stream {
+    ghost numbers = { stream_numbers };
+
+    fn numbers(self) -> [u64; 14] {
+        let [next, second, stop, edition]: [u64; 4] = self.receiver.numbers();
+        let t = self.totals;
+        [
+            next,
+            second,
+            stop,
+            edition,
+            self.held as u64,
+            self.skip as u64,
+            self.bad,
+            t.taken,
+            t.old,
+            t.far,
+            t.repeated,
+            t.differing,
+            self.last.number as u64,
+            self.last.at as u64,
+        ]
+    }
+}
+
+// Stores the numbers of an answer; a refusal leaves the lent ones as they are.
+fn store<T: Numbers<N>, E, const N: usize>(
+    answer: Result<T, E>,
+    out: &mut [u64; N],
+) -> Result<(), E>
+    ensures lent { out.new ≡ told T.numbers answer out.old }
+    ensures done { result ≡ done_of answer }
 {
-    let clock = s.clock;
-    let e = s.edition;
-    [
-        s.next,
-        clock.second as u64,
-        s.stop as u64,
-        editions::number_of(e),
-    ]
+    *out = answer?.numbers();
+    Ok(())
+}
+
+// 0, or the number of a refusal.
+fn number(done: Result<(), Refusal>) -> u8
+    ensures { result ≡ code_of (λ r. r.number) done }
+{
+    match done {
+        Ok(()) => 0,
+        Err(r) => r.number,
+    }
+}
+
+// Number and offset in one number; no offset in a packet, a record or a body is large.
+fn with_offset(f: Fault) -> u32
+    requires { f.at < 65536 }
+    ensures { result ≡ with_offset f }
+{
+    (f.number as u32) + 256 * (f.at as u32)
+}
+
+// 0, the number of a refusal alone, or number and offset.
+fn code(done: Result<(), Why>) -> u32
+    requires { IfErr done Small }
+    ensures { result ≡ code_of why_code done }
+{
+    match done {
+        Ok(()) => 0,
+        Err(Why::Alone(r)) => r.number as u32,
+        Err(Why::Placed(f)) => with_offset(f),
+    }
 }
 
 // Starts a receiver of an edition: the tables are zeroed, the index is made if one is lent, and state becomes next 1, second 0, stop 0 and the edition's number.
+#[tactic(auto, using(crate::proofs::Telling::code_told), unfolding(crate::specs::Calls::start_answer))]
 pub fn rimeheath_start(
     edition: u64,
     orders: &mut [u64],
@@ -60,13 +202,8 @@ pub fn rimeheath_start(
 ) -> u8
     ensures { start_call result state.new orders.new symbols.new shelf.new index.new ≡ start_answer (started (edition_of edition) orders.old symbols.old shelf.old index.old) state.old }
 {
-    match receiver::start(editions::edition_of(edition), orders, symbols, shelf, index) {
-        Started::Refused(r) => r.number,
-        Started::Ready(s) => {
-            *state = state_numbers(s);
-            0
-        }
-    }
+    let started = receiver::start(Edition::from(edition), orders, symbols, shelf, index);
+    number(store(started, state))
 }
 
 // A receiver's state of four lent numbers.
@@ -79,37 +216,12 @@ fn state_in(l: &[u64; 4]) -> State
             second: (l[1] % 4294967296) as u32,
         },
         stop: (l[2] % 256) as u8,
-        edition: editions::edition_of(l[3]),
+        edition: Edition::from(l[3]),
     }
 }
 
-// A packet's answer as nine numbers.
-fn account_numbers(a: Account) -> [u64; 9]
-    ensures { result ≡ account_numbers a }
-{
-    let t = a.counts;
-    [
-        t.taken,
-        t.old,
-        t.far,
-        t.repeated,
-        t.differing,
-        a.next,
-        a.applied,
-        a.highest,
-        a.stop as u64,
-    ]
-}
-
-// Number and offset in one number; no offset in a packet, a record or a body is large.
-fn with_offset(f: Fault) -> u32
-    requires { f.at < 65536 }
-    ensures { result ≡ with_offset f }
-{
-    (f.number as u32) + 256 * (f.at as u32)
-}
-
 // Gives a packet to a receiver: state and account become what they are after it.
+#[tactic(auto, using(crate::proofs::Telling::code_told), unfolding(crate::specs::Calls::receive_answer))]
 pub fn rimeheath_receive(
     orders: &mut [u64],
     symbols: &mut [u8],
@@ -122,17 +234,11 @@ pub fn rimeheath_receive(
     ensures { receive_call result state.new account.new orders.new symbols.new shelf.new index.new ≡ receive_answer (received (lent orders.old symbols.old shelf.old index.old (state_in state.old)) p.now) state.old account.old }
 {
     let r = receiver::receive(orders, symbols, shelf, index, state_in(state), p);
-    let s = r.state;
-    let answer = r.answer;
-    match answer {
-        Received::Refused(e) => e.number as u32,
-        Received::Bad(f) => with_offset(f),
-        Received::Accepted(a) => {
-            *state = state_numbers(s);
-            *account = account_numbers(a);
-            0
-        }
+    let done = store(r.answer, account);
+    if done.is_ok() {
+        *state = r.state.numbers();
     }
+    code(done)
 }
 
 // A stream of fourteen lent numbers.
@@ -162,41 +268,17 @@ fn stream_from(l: &[u64; 14]) -> Stream
     }
 }
 
-// A stream as fourteen numbers.
-fn stream_numbers(k: Stream) -> [u64; 14]
-    ensures { result ≡ stream_numbers k }
-{
-    let head = state_numbers(k.receiver);
-    let t = k.totals;
-    let last = k.last;
-    [
-        head[0],
-        head[1],
-        head[2],
-        head[3],
-        k.held as u64,
-        k.skip as u64,
-        k.bad,
-        t.taken,
-        t.old,
-        t.far,
-        t.repeated,
-        t.differing,
-        last.number as u64,
-        last.at as u64,
-    ]
-}
-
 // Opens a stream over a receiver, before the first chunk of a recording.
+#[tactic(auto, unfolding(crate::specs::Streams::open_answer))]
 pub fn rimeheath_open(state: &[u64; 4], stream: &mut [u64; 14]) -> u8
     ensures { call result stream.new ≡ open_answer (opened (state_in state.now)) }
 {
-    let k = recording::open(state_in(state));
-    *stream = stream_numbers(k);
+    *stream = recording::open(state_in(state)).numbers();
     0
 }
 
 // Gives the next chunk of a recording: the stream, the tables and the buffer become what they are after it.
+#[tactic(auto, using(crate::proofs::Telling::code_told), unfolding(crate::specs::Streams::feed_answer, recording::specs::Stream::fed_number))]
 pub fn rimeheath_feed(
     orders: &mut [u64],
     symbols: &mut [u8],
@@ -208,21 +290,9 @@ pub fn rimeheath_feed(
 ) -> u8
     ensures { feed_call result stream.new orders.new symbols.new shelf.new index.new hold.new ≡ feed_answer (fed (stream_from stream.old) orders.old symbols.old shelf.old index.old hold.old chunk.now) stream.old }
 {
-    match recording::feed(
-        orders,
-        symbols,
-        shelf,
-        index,
-        hold,
-        stream_from(stream),
-        chunk,
-    ) {
-        Fed::Refused(r) => r.number,
-        Fed::Took(k) => {
-            *stream = stream_numbers(k);
-            0
-        }
-    }
+    let from = stream_from(stream);
+    let fed = recording::feed(orders, symbols, shelf, index, hold, from, chunk);
+    number(store(fed, stream))
 }
 
 // Whether a recording that ends here ends inside a length or packet.
@@ -239,6 +309,7 @@ fn side_asked(sell: bool) -> Side
 }
 
 // The ladder of a symbol and side: the levels that fit into the run, and the number of all.
+#[tactic(auto, using(crate::proofs::Telling::code_told), unfolding(crate::specs::Calls::ladder_answer, views::specs::Views::ladder_number))]
 pub fn rimeheath_ladder(
     orders: &[u64],
     symbols: &[u8],
@@ -249,80 +320,42 @@ pub fn rimeheath_ladder(
 ) -> u8
     ensures { fill_call result levels.new run.new ≡ ladder_answer (ladder_view (side_asked sell) symbol orders.now symbols.now run.old) levels.old }
 {
-    match views::ladder(orders, symbols, symbol, side_asked(sell), run) {
-        LadderAnswer::Refused(r) => r.number,
-        LadderAnswer::Levels(n) => {
-            *levels = [n as u64];
-            0
-        }
-    }
-}
-
-// A signed number as the 64 bits that hold it: two's complement.
-fn bits_of(n: i64) -> u64
-    ensures { result ≡ bits_of n }
-{
-    let m = text::magnitude(n);
-    if n < 0 {
-        return 18446744073709551615 - (m - 1);
-    }
-    m
+    let ladder = views::ladder(orders, symbols, symbol, side_asked(sell), run);
+    number(store(ladder, levels))
 }
 
 // The spread of a symbol: 1 and the signed number as 64 bits, or two zeros where a side is empty.
+#[tactic(auto, using(crate::proofs::Telling::code_told, crate::proofs::Telling::spread_code), unfolding(crate::specs::Calls::spread_answer))]
 pub fn rimeheath_spread(orders: &[u64], symbols: &[u8], symbol: u32, answer: &mut [u64; 2]) -> u8
     ensures { call result answer.new ≡ spread_answer (spread_view symbol orders.now symbols.now) answer.old }
 {
-    match views::spread(orders, symbols, symbol) {
-        SpreadAnswer::Refused(r) => r.number,
-        SpreadAnswer::Empty => {
-            *answer = [0, 0];
-            0
-        }
-        SpreadAnswer::Of(z) => {
-            *answer = [1, bits_of(z)];
-            0
-        }
-    }
+    number(store(views::spread(orders, symbols, symbol), answer))
 }
 
 // Live orders and used entries.
+#[tactic(auto, using(crate::proofs::Telling::code_told), unfolding(crate::specs::Calls::counts_answer, views::specs::Views::counts_number))]
 pub fn rimeheath_counts(orders: &[u64], symbols: &[u8], counts: &mut [u64; 2]) -> u8
     ensures { call result counts.new ≡ counts_answer (counts_view orders.now symbols.now) counts.old }
 {
-    match views::counts(orders, symbols) {
-        CountsAnswer::Refused(r) => r.number,
-        CountsAnswer::Are(n) => {
-            *counts = [n.orders as u64, n.symbols as u64];
-            0
-        }
-    }
+    number(store(views::counts(orders, symbols), counts))
 }
 
 // Judges a packet of an edition: the number of its records.
+#[tactic(auto, using(crate::proofs::Telling::code_told), unfolding(crate::specs::Calls::packet_answer))]
 pub fn rimeheath_packet(edition: u64, p: &[u8], records: &mut [u64; 1]) -> u32
     ensures { call result records.new ≡ packet_answer (read_packet (edition_of edition) p.now) records.old }
 {
-    match packet::read_packet(editions::edition_of(edition), p) {
-        Packet::Refused(r) => r.number as u32,
-        Packet::Bad(f) => with_offset(f),
-        Packet::Good(n) => {
-            *records = [n as u64];
-            0
-        }
-    }
+    code(store(packet::read_packet(Edition::from(edition), p), records))
 }
 
 // Judges the first record of what is left of a packet of an edition: its number, and the length of its body.
+#[tactic(auto, using(crate::proofs::Telling::code_told), unfolding(crate::specs::Calls::record_answer))]
 pub fn rimeheath_record(edition: u64, rest: &[u8], head: &mut [u64; 2]) -> u32
     ensures { call result head.new ≡ record_answer (read_record (edition_of edition) rest.now) head.old }
 {
-    match packet::read_record(editions::edition_of(edition), rest) {
-        Record::Bad(f) => with_offset(f),
-        Record::Good(h) => {
-            *head = [h.number, h.len as u64];
-            0
-        }
+    match store(packet::read_record(Edition::from(edition), rest), head) {
+        Ok(()) => 0,
+        Err(f) => with_offset(f),
     }
 }
 
@@ -330,14 +363,14 @@ pub fn rimeheath_record(edition: u64, rest: &[u8], head: &mut [u64; 2]) -> u32
 pub fn rimeheath_body(edition: u64, b: &[u8], fields: &mut [u64; 8], text: &mut [u8; 28]) -> u32
     ensures { fill_call result fields.new text.new ≡ body_answer (edition_of edition) (judge_body (edition_of edition) b.now) (read_body (edition_of edition) b.now) b.now fields.old text.old }
 {
-    let e = editions::edition_of(edition);
+    let e = Edition::from(edition);
     match body::judge_body(e, b) {
-        Judged::Bad(f) => with_offset(f),
-        Judged::Good(k) => {
+        Ok(k) => {
             *fields = numbers::fields_of(e, k, b);
             *text = numbers::text_of(e, k, b);
             0
         }
+        Err(f) => with_offset(f),
     }
 }
 
@@ -352,6 +385,7 @@ fn word_of(cut: bool) -> Recording
 }
 
 // The answer sheet, as far as the buffer reaches, and how long the whole of it is.
+#[tactic(auto, using(crate::proofs::Telling::code_told), unfolding(crate::specs::Calls::sheet_answer, answer_sheet::specs::Sheet::sheet_number))]
 pub fn rimeheath_sheet(
     buf: &mut [u8],
     orders: &[u64],
@@ -363,17 +397,12 @@ pub fn rimeheath_sheet(
 ) -> u8
     ensures { fill_call result length.new buf.new ≡ sheet_answer (sheet_view (word_of cut) bad (state_in state.now) orders.now symbols.now buf.old) length.old }
 {
-    let s = state_in(state);
-    match answer_sheet::sheet(buf, orders, symbols, s, bad, word_of(cut)) {
-        SheetAnswer::Refused(r) => r.number,
-        SheetAnswer::Length(n) => {
-            *length = [n as u64];
-            0
-        }
-    }
+    let sheet = answer_sheet::sheet(buf, orders, symbols, state_in(state), bad, word_of(cut));
+    number(store(sheet, length))
 }
 
 // Makes a packet of one edition one of another, in place: how many Symbol Updates it has.
+#[tactic(auto, using(crate::proofs::Telling::code_told), unfolding(crate::specs::Conversions::convert_answer))]
 pub fn rimeheath_convert(
     from: u64,
     to: u64,
@@ -384,19 +413,17 @@ pub fn rimeheath_convert(
 ) -> u32
     ensures { convert_call result p.new updates.new ≡ convert_answer (converted (edition_of from) (asked (edition_of to) kind others.now) p.old) updates.old }
 {
-    let f = editions::edition_of(from);
-    let t = editions::edition_of(to);
-    match conversion::convert(f, t, kind, others, p) {
-        Converted::Refused(r) => r.number as u32,
-        Converted::Bad(f) => with_offset(f),
-        Converted::Updates(n) => {
-            *updates = [n as u64];
-            0
-        }
-    }
+    let asked = Asked {
+        to: Edition::from(to),
+        all: kind,
+        others,
+    };
+    let converted = conversion::convert(Edition::from(from), &asked, p);
+    code(store(converted, updates))
 }
 
 // The same of the whole packets at the front of a piece of a recording: their bytes, and what was counted of them.
+#[tactic(auto, using(crate::proofs::Telling::code_told, crate::proofs::Telling::piece_code), unfolding(crate::specs::Conversions::piece_answer))]
 pub fn rimeheath_convert_piece(
     from: u64,
     to: u64,
@@ -407,33 +434,17 @@ pub fn rimeheath_convert_piece(
 ) -> u8
     ensures { convert_call result b.new counts.new ≡ piece_answer (turned_to (edition_of from) (asked (edition_of to) kind others.now) b.old) counts.old }
 {
-    let f = editions::edition_of(from);
-    let t = editions::edition_of(to);
-    match conversion::convert_piece(f, t, kind, others, b) {
-        Pieced::Refused(r) => r.number,
-        Pieced::Done(n, c) => {
-            *counts = [n as u64, c.updates as u64, c.unread as u64, c.barred as u64];
-            0
-        }
-    }
-}
-
-// What was written, as C is told it: the new length, or a refusal, with its offset where reading has one.
-fn length_told(w: Wrote, length: &mut [u64; 1]) -> u32
-    requires { Small w }
-    ensures { call result length.new ≡ call (wrote_code w) (length_told w length.old) }
-{
-    match w {
-        Wrote::Refused(r) => r.number as u32,
-        Wrote::Bad(f) => with_offset(f),
-        Wrote::Length(n) => {
-            *length = [n as u64];
-            0
-        }
-    }
+    let asked = Asked {
+        to: Edition::from(to),
+        all: kind,
+        others,
+    };
+    let turned = conversion::convert_piece(Edition::from(from), &asked, b);
+    number(store(turned, counts))
 }
 
 // Writes a record behind the packet so far, from the numbers and the text in which rimeheath_body gives a message: the packet's new length.
+#[tactic(auto, using(crate::proofs::Telling::code_told), unfolding(crate::specs::Writing::write_answer))]
 pub fn rimeheath_append(
     edition: u64,
     memory: &mut [u8],
@@ -445,12 +456,13 @@ pub fn rimeheath_append(
 ) -> u32
     ensures { fill_call result length.new memory.new ≡ write_answer (numbers_appended (edition_of edition) memory.old used number fields.now text.now) length.old }
 {
-    let e = editions::edition_of(edition);
-    let w = writer::append_numbers(e, memory, used, number, fields, text);
-    length_told(w, length)
+    let e = Edition::from(edition);
+    let written = writer::append_numbers(e, memory, used, number, fields, text);
+    code(store(written, length))
 }
 
 // Writes a packet, behind its length, behind the recording so far: the recording's new length.
+#[tactic(auto, using(crate::proofs::Telling::code_told), unfolding(crate::specs::Writing::write_answer))]
 pub fn rimeheath_append_packet(
     edition: u64,
     memory: &mut [u8],
@@ -460,7 +472,7 @@ pub fn rimeheath_append_packet(
 ) -> u32
     ensures { fill_call result length.new memory.new ≡ write_answer (packet_appended (edition_of edition) memory.old used p.now) length.old }
 {
-    let e = editions::edition_of(edition);
-    let w = writer::append_packet(e, memory, used, p);
-    length_told(w, length)
+    let e = Edition::from(edition);
+    let written = writer::append_packet(e, memory, used, p);
+    code(store(written, length))
 }

@@ -1,5 +1,5 @@
 -- What one turn of the drain and one record of a packet leave, in the form that the loops of a receiver's code keep. No public contract speaks of these.
-use Rattle.std.specs.Prelude.{ℕ, ◌+◌, Bool, true, false, List, [], ◌∷◌}
+use Rattle.std.specs.Prelude.{ℕ, ◌+◌, ◌≡◌, Bool, true, false, List, [], ◌∷◌}
 use Rattle.wire.specs.Records.{Rec}
 use Rattle.arbitration.specs.Engine.{Engine, Store}
 use Rattle.arbitration.specs.Receive.{Answer, taken, old, too_far, repeated, differing, nothing, stuck, goes, State, try, turned, judged, after}
@@ -24,6 +24,11 @@ module _ (S : Store) (E : Engine) where
 
   unfoldable pub goes_on : State S E → Bool
   goes_on r = elim (try S E r) [ nothing ↦ false | stuck q ↦ false | goes b ↦ true ]
+
+  -- one turn, from r to r'; on: whether it applied a message
+  pub record Turned (r r' : State S E) (on : Bool) : Type 0 where
+    pub to : r' ≡ turn_to r
+    pub on_is : on ≡ goes_on r
 
   -- the state and the counts in one value, so that a loop over records has one equation: `work (what is left) now ≡ end`
   pub record Working : Type 0 where

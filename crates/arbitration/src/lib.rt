@@ -2,7 +2,7 @@
 #![tactic(auto)]
 
 // How many records got each answer, 10 to 14: of a packet, or of all packets so far.
-#[derive(Clone, Copy)]
+#[derive(Clone, Copy, Debug, Default, PartialEq, Eq)]
 pub struct Counts {
     pub taken: u64,
     pub old: u64,

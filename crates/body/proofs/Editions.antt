@@ -25,7 +25,8 @@ use Rattle.body.specs.Ranges.{nanos_ok, security_ok, test_ok, market_ok}
 use Rattle.body.specs.Faults.{Tests, tests, fault_from, fault_of}
 use Rattle.body.specs.Read.{framed, ranged, judge_body, judged_number, message, read_body, good_body}
 use Rattle.body.specs.Editions.{IsUpdate, Lettered, Unlettered, OnlyRight, WrongType}
-use Rattle.body.specs.declared.Judged.{Judged}
+use Rattle.std.specs.Prelude.{Result, Ok, Err}
+use Rattle.fields.specs.declared.Fault.{Fault}
 use Rattle.body.proofs.Laws.{judge_framed, framed_is, good_framed}
 
 -- ---- the one test
@@ -87,7 +88,7 @@ by_fault : (r w : Edition) (b : List ℕ) → fault_of r (kind_of (get_or b 0 0)
 unfolding judge_body ranged
 by_fault r w b e =
     let k : Kind = kind_of (get_or b 0 0) in
-    ap (λ (n : ℕ). pick (framed b) (pick (eqb n 0) (Judged.Good k) (Judged.Bad (bad_at 4 n))) (Judged.Bad (bad_at 3 0))) e
+    ap (λ (n : ℕ). pick (framed b) (pick (eqb n 0) (Ok k) (Err (bad_at 4 n))) (Err (bad_at 3 0))) e
 
 -- a good body has no fault
 good_fault : (ed : Edition) (b : List ℕ) → good_body ed b ≡ true → fault_of ed (kind_of (get_or b 0 0)) b ≡ 0
@@ -95,9 +96,9 @@ unfolding good_body ranged
 good_fault ed b g =
     let k : Kind = kind_of (get_or b 0 0) in
     let f : ℕ = fault_of ed k b in
-    let judged : judge_body ed b ≡ pick (eqb f 0) (Judged.Good k) (Judged.Bad (bad_at 4 f)) = judge_framed ed k b (framed_is b (good_framed ed b g)) in
-    let z : eqb (judged_number (pick (eqb f 0) (Judged.Good k) (Judged.Bad (bad_at 4 f)))) 0 ≡ true = ap (λ (j : Judged). eqb (judged_number j) 0) (sym judged) ∙ g in
-    pick_ind (λ (j : Judged). eqb (judged_number j) 0 ≡ true → f ≡ 0) (eqb f 0) (Judged.Good k) (Judged.Bad (bad_at 4 f)) (λ e _. eqb-true f 0 e) (λ _ q. absurd (true≢false (sym q))) z
+    let judged : judge_body ed b ≡ pick (eqb f 0) (Ok k) (Err (bad_at 4 f)) = judge_framed ed k b (framed_is b (good_framed ed b g)) in
+    let z : eqb (judged_number (pick (eqb f 0) (Ok k) (Err (bad_at 4 f)))) 0 ≡ true = ap (λ (j : Result Kind Fault). eqb (judged_number j) 0) (sym judged) ∙ g in
+    pick_ind (λ (j : Result Kind Fault). eqb (judged_number j) 0 ≡ true → f ≡ 0) (eqb f 0) (Ok k) (Err (bad_at 4 f)) (λ e _. eqb-true f 0 e) (λ _ q. absurd (true≢false (sym q))) z
 
 -- in 1.3 a good Symbol Update has its letter
 pub good_lettered : (b : List ℕ) → good_body Edition.V13 b ≡ true → IsUpdate b → Lettered b
@@ -149,7 +150,7 @@ module _ (b : List ℕ) (x : ℕ) (u : IsUpdate b) where
       ∙ (update_fault_lem Edition.V13b c ∙ reserved_fault ∙ sym (update_fault_lem Edition.V13b b))
       ∙ ap (λ (k : Kind). fault_of Edition.V13b k b) (sym u) in
       let size : length c ≡ length b = length-set b 20 x in
-      λ i. pick (both (ltb 0 (size i)) (eqb (size i) (length_of (first i)))) (pick (eqb (fault i) 0) (Judged.Good (kind i)) (Judged.Bad (bad_at 4 (fault i)))) (Judged.Bad (bad_at 3 0))
+      λ i. pick (both (ltb 0 (size i)) (eqb (size i) (length_of (first i)))) (pick (eqb (fault i) 0) (Ok (kind i)) (Err (bad_at 4 (fault i)))) (Err (bad_at 3 0))
 
 -- ---- a recording of 1.3, read by 1.3.b
 pub older_alike : (b : List ℕ) → good_body Edition.V13 b ≡ true → judge_body Edition.V13b b ≡ judge_body Edition.V13 b
@@ -164,11 +165,11 @@ pub older_right : (b : List ℕ) → good_body Edition.V13 b ≡ true → OnlyRi
 unfolding good_body read_body
 older_right b g =
     let e = older_alike b g in
-    record { taken = ap (λ (j : Judged). eqb (judged_number j) 0) e ∙ g; same_message = ap (λ (j : Judged). message j b) e; type_right = λ u. inl refl }
+    record { taken = ap (λ (j : Result Kind Fault). eqb (judged_number j) 0) e ∙ g; same_message = ap (λ (j : Result Kind Fault). message j b) e; type_right = λ u. inl refl }
 
 -- ---- a recording of 1.3.b, read by 1.3
 -- "Under 1.3 any other byte is refused with 4": at that byte, behind a good Timestamp, whatever the other letters are
-pub untyped_refused : (b : List ℕ) → framed b ≡ true → Unlettered b → nanos_ok (field b 1 4) ≡ true → judge_body Edition.V13 b ≡ Judged.Bad (bad_at 4 20)
+pub untyped_refused : (b : List ℕ) → framed b ≡ true → Unlettered b → nanos_ok (field b 1 4) ≡ true → judge_body Edition.V13 b ≡ Err (bad_at 4 20)
 unfolding ranged pick
 untyped_refused b f l n =
     let at_20 : fault_of Edition.V13 (kind_of (get_or b 0 0)) b ≡ 20 =
@@ -179,7 +180,7 @@ untyped_refused b f l n =
     judge_framed Edition.V13 (kind_of (get_or b 0 0)) b (framed_is b f) ∙ rw at_20 refl
 
 -- so a Symbol Update that is good in 1.3.b and has no letter is refused, at that byte
-pub unlettered_refused : (b : List ℕ) → good_body Edition.V13b b ≡ true → Unlettered b → judge_body Edition.V13 b ≡ Judged.Bad (bad_at 4 20)
+pub unlettered_refused : (b : List ℕ) → good_body Edition.V13b b ≡ true → Unlettered b → judge_body Edition.V13 b ≡ Err (bad_at 4 20)
 unfolding security_ok
 unlettered_refused b g l =
     let none : update_fault true b ≡ 0 = sym (update_fault_lem Edition.V13b b) ∙ ap (λ (k : Kind). fault_of Edition.V13b k b) (sym l.update) ∙ good_fault Edition.V13b b g in
@@ -190,14 +191,14 @@ pub newer_right : (b : List ℕ) → good_body Edition.V13b b ≡ true → (IsUp
 unfolding good_body read_body
 newer_right b g n =
     let e = no_update_alike Edition.V13 Edition.V13b b n in
-    record { taken = ap (λ (j : Judged). eqb (judged_number j) 0) e ∙ g; same_message = ap (λ (j : Judged). message j b) e; type_right = λ u. absurd (n u) }
+    record { taken = ap (λ (j : Result Kind Fault). eqb (judged_number j) 0) e ∙ g; same_message = ap (λ (j : Result Kind Fault). message j b) e; type_right = λ u. absurd (n u) }
 
 -- without the premise: of a Symbol Update with a letter in its reserved byte the Security Type is shown, and it alone is wrong
 pub lettered_wrong : (b : List ℕ) → good_body Edition.V13b b ≡ true → Lettered b → WrongType b
 unfolding good_body read_body
 lettered_wrong b g l =
     let e = lettered_alike b l in
-    record { taken = ap (λ (j : Judged). eqb (judged_number j) 0) e ∙ g; same_message = ap (λ (j : Judged). message j b) e; shown = refl; not_there = refl }
+    record { taken = ap (λ (j : Result Kind Fault). eqb (judged_number j) 0) e ∙ g; same_message = ap (λ (j : Result Kind Fault). message j b) e; shown = refl; not_there = refl }
 
 -- a Symbol Update has a letter or has none
 pub update_cases : (b : List ℕ) → (IsUpdate b → ⊥) ⊎ (Lettered b ⊎ Unlettered b)
@@ -212,13 +213,13 @@ update_cases b = go (is_update (kind_of (get_or b 0 0)))
     go (no n) = inl n
 
 -- "Given the other edition's recording, a reader shows only right fields or refuses, if no reserved byte 20 is `E` or `F`": r reads what is good in w
-pub right_or_refused : (r w : Edition) (b : List ℕ) → good_body w b ≡ true → (w ≡ Edition.V13b → Lettered b → ⊥) → OnlyRight r w b ⊎ (judge_body r b ≡ Judged.Bad (bad_at 4 20))
+pub right_or_refused : (r w : Edition) (b : List ℕ) → good_body w b ≡ true → (w ≡ Edition.V13b → Lettered b → ⊥) → OnlyRight r w b ⊎ (judge_body r b ≡ Err (bad_at 4 20))
 right_or_refused Edition.V13 Edition.V13 b g n = inl (record { taken = g; same_message = refl; type_right = λ u. inr refl })
 right_or_refused Edition.V13b Edition.V13b b g n = inl (record { taken = g; same_message = refl; type_right = λ u. inr refl })
 right_or_refused Edition.V13b Edition.V13 b g n = inl (older_right b g)
 right_or_refused Edition.V13 Edition.V13b b g n = go (update_cases b)
   where
-    go : (IsUpdate b → ⊥) ⊎ (Lettered b ⊎ Unlettered b) → OnlyRight Edition.V13 Edition.V13b b ⊎ (judge_body Edition.V13 b ≡ Judged.Bad (bad_at 4 20))
+    go : (IsUpdate b → ⊥) ⊎ (Lettered b ⊎ Unlettered b) → OnlyRight Edition.V13 Edition.V13b b ⊎ (judge_body Edition.V13 b ≡ Err (bad_at 4 20))
     go (inl u) = inl (newer_right b g u)
     go (inr (inl l)) = absurd (n refl l)
     go (inr (inr l)) = inr (unlettered_refused b g l)

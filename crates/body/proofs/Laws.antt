@@ -19,15 +19,15 @@ use Rattle.layout.specs.Message.{read_as}
 use Rattle.kinds.specs.Table.{table, lookup, length_of, kind_of, type_of, kind_length, refusal_of}
 use Rattle.kinds.specs.declared.Kind.{Kind}
 use Rattle.kinds.proofs.Laws.{Lengths, lengths, no_length, type_kind}
-use Rattle.fields.specs.Fields.{status_of, clear_of, add_of, modify_of, delete_of, execution_of, trade_of, cancel_of, bad_at, decoded, body_number}
-use Rattle.fields.specs.Messages.{system_time, symbol_update, system_state}
+use Rattle.fields.specs.Fields.{status_of, clear_of, add_of, modify_of, delete_of, execution_of, trade_of, cancel_of, update_of, state_of, bad_at, decoded, body_number}
+use Rattle.fields.specs.Messages.{system_time}
 use Rattle.fields.specs.declared.Body.{Body}
 use Rattle.body.specs.Ranges.{nanos_ok, one_of, side_ok, price_ok, size_ok, security_ok, test_ok, market_ok}
 use Rattle.body.specs.Faults.{Tests, tests, fault_from, fault_of}
 use Rattle.fields.specs.declared.Fault.{Fault}
 use Rattle.body.specs.Read.{framed, ranged, judge_body, judged_number, message, read_body, good_body}
 use Rattle.body.specs.Places.{FirstBad, BadBody}
-use Rattle.body.specs.declared.Judged.{Judged}
+use Rattle.std.specs.Prelude.{Result, Ok, Err}
 
 -- every test of a run holds
 abbrev pub AllHold : (ss : List Shape) → Tests ss → Values ss → Type 0
@@ -86,8 +86,8 @@ pub record Framed (k : Kind) (b : List ℕ) : Type 0 where
 -- what an answer says: the body is framed, the message is what its layout reads there, and the fields that it shows are in range
 abbrev pub Sound : (ed : Edition) → Body → List ℕ → Type 0
 Sound ed (Body.SystemTime n) b = Framed Kind.SystemTime b × (n ≡ read_as system_time b)
-Sound ed Body.SymbolUpdate b = Framed Kind.SymbolUpdate b × (test_ok (read_as symbol_update b).test ≡ true) × (market_ok (read_as symbol_update b).symbol.market ≡ true) × ((read_as symbol_update b).nanos ≤ most_nanos) × (security_ok ed (read_as symbol_update b).security ≡ true)
-Sound ed Body.SystemState b = Framed Kind.SystemState b × ((read_as system_state b).nanos ≤ most_nanos)
+Sound ed (Body.SymbolUpdate m) b = Framed Kind.SymbolUpdate b × (m ≡ update_of b) × (test_ok m.test ≡ true) × (market_ok m.symbol.market ≡ true) × (m.nanos ≤ most_nanos) × (security_ok ed m.security ≡ true)
+Sound ed (Body.SystemState m) b = Framed Kind.SystemState b × (m ≡ state_of b) × (m.nanos ≤ most_nanos)
 Sound ed (Body.TradingStatus m) b = Framed Kind.TradingStatus b × (m ≡ status_of b) × (m.nanos ≤ most_nanos)
 Sound ed (Body.SymbolClear m) b = Framed Kind.SymbolClear b × (m ≡ clear_of b) × (m.nanos ≤ most_nanos)
 Sound ed (Body.Add m) b = Framed Kind.Add b × (m ≡ add_of b) × (side_ok m.side ≡ true) × Deal m.price m.size × (m.nanos ≤ most_nanos)
@@ -111,8 +111,8 @@ no_kind b w = let e : length b ≡ 0 = w.length_is in omega (arith, w.some)
 decoded_sound : (ed : Edition) (k : Kind) (b : List ℕ) → Framed k b → AllHold (shapes k) (tests ed k) (fields_in k b) → Sound ed (decoded k b) b
 unfolding decoded
 decoded_sound ed Kind.SystemTime b w h = (w, refl)
-decoded_sound ed Kind.SymbolUpdate b w h = (w, h.1.1.1.1.0, h.1.1.1.1.1.1.1.1.1.0, in_time (read_as symbol_update b).nanos h.0, h.1.1.1.0)
-decoded_sound ed Kind.SystemState b w h = (w, in_time (read_as system_state b).nanos h.0)
+decoded_sound ed Kind.SymbolUpdate b w h = (w, refl, h.1.1.1.1.0, h.1.1.1.1.1.1.1.1.1.0, in_time (update_of b).nanos h.0, h.1.1.1.0)
+decoded_sound ed Kind.SystemState b w h = (w, refl, in_time (state_of b).nanos h.0)
 decoded_sound ed Kind.TradingStatus b w h = (w, refl, in_time (status_of b).nanos h.0)
 decoded_sound ed Kind.SymbolClear b w h = (w, refl, in_time (clear_of b).nanos h.0)
 decoded_sound ed Kind.Add b w h = (w, refl, h.1.1.1.0, deal (add_of b).price (add_of b).size h.1.1.1.1.0 h.1.1.1.1.1.0, in_time (add_of b).nanos h.0)
@@ -152,27 +152,27 @@ judged ed k b = pick (eqb (fault_of ed k b) 0) (decoded k b) (Body.Bad (bad_at 4
 pub read_framed : (ed : Edition) (k : Kind) (b : List ℕ) → Framed k b → read_body ed b ≡ judged ed k b
 unfolding read_body message ranged
 read_framed ed k b w =
-    ap (λ (x : Judged). message x b) (judge_framed ed k b w)
-    ∙ pick_map (λ (x : Judged). message x b) (eqb (fault_of ed k b) 0) (Judged.Good k) (Judged.Bad (bad_at 4 (fault_of ed k b)))
+    ap (λ (x : Result Kind Fault). message x b) (judge_framed ed k b w)
+    ∙ pick_map (λ (x : Result Kind Fault). message x b) (eqb (fault_of ed k b) 0) (Ok k) (Err (bad_at 4 (fault_of ed k b)))
 
 -- so two bodies of a kind with the same fault are judged alike, by number and offset
 pub judge_by_fault : (ed : Edition) (k : Kind) (b c : List ℕ) → Framed k b → Framed k c → fault_of ed k c ≡ fault_of ed k b → judge_body ed c ≡ judge_body ed b
 unfolding ranged
-judge_by_fault ed k b c w v e = judge_framed ed k c v ∙ (ap (λ (n : ℕ). pick (eqb n 0) (Judged.Good k) (Judged.Bad (bad_at 4 n))) e ∙ sym (judge_framed ed k b w))
+judge_by_fault ed k b c w v e = judge_framed ed k c v ∙ (ap (λ (n : ℕ). pick (eqb n 0) (Ok k) (Err (bad_at 4 n))) e ∙ sym (judge_framed ed k b w))
 
 -- ---- what was judged
 -- a good body is of the kind that its type byte decides, and its fields are all in range; a bad one is bad where it is said to be
-abbrev pub JudgedAs : (ed : Edition) → Judged → List ℕ → Type 0
-JudgedAs ed (Judged.Good k) b = (k ≡ kind_of (get_or b 0 0)) × Framed k b × AllHold (shapes k) (tests ed k) (fields_in k b)
-JudgedAs ed (Judged.Bad f) b = BadBody ed b f
+abbrev pub JudgedAs : (ed : Edition) → Result Kind Fault → List ℕ → Type 0
+JudgedAs ed (Ok k) b = (k ≡ kind_of (get_or b 0 0)) × Framed k b × AllHold (shapes k) (tests ed k) (fields_in k b)
+JudgedAs ed (Err f) b = BadBody ed b f
 
 pub judge_sound : (ed : Edition) (b : List ℕ) → JudgedAs ed (judge_body ed b) b
 unfolding judge_body ranged fault_of
 judge_sound ed b =
     let k : Kind = kind_of (get_or b 0 0) in
-    pick_ind (λ r. JudgedAs ed r b) (framed b) (ranged ed k b) (Judged.Bad (bad_at 3 0))
+    pick_ind (λ r. JudgedAs ed r b) (framed b) (ranged ed k b) (Err (bad_at 3 0))
     (λ e.
-    pick_ind (λ r. JudgedAs ed r b) (eqb (fault_of ed k b) 0) (Judged.Good k) (Judged.Bad (bad_at 4 (fault_of ed k b)))
+    pick_ind (λ r. JudgedAs ed r b) (eqb (fault_of ed k b) 0) (Ok k) (Err (bad_at 4 (fault_of ed k b)))
     (λ z. (refl, framed_is b e, held ed k b (eqb-true (fault_of ed k b) 0 z)))
     (λ z. inr (refl, record { whole = e; first = fault_first (shapes k) (tests ed k) (fields_in k b) 1 (eqb-false (fault_of ed k b) 0 z) })))
     (λ e. inl (refl, refl, e))
@@ -182,9 +182,9 @@ pub read_sound : (ed : Edition) (b : List ℕ) → Sound ed (read_body ed b) b
 unfolding read_body message
 read_sound ed b = go (judge_body ed b) (judge_sound ed b)
   where
-    go : (r : Judged) → JudgedAs ed r b → Sound ed (message r b) b
-    go (Judged.Good k) h = decoded_sound ed k b h.1 h.2
-    go (Judged.Bad f) h = h
+    go : (r : Result Kind Fault) → JudgedAs ed r b → Sound ed (message r b) b
+    go (Ok k) h = decoded_sound ed k b h.1 h.2
+    go (Err f) h = h
 
 -- what is decoded of a framed body is no refusal
 decoded_none : (k : Kind) (b : List ℕ) → Framed k b → body_number (decoded k b) ≡ 0
@@ -207,9 +207,9 @@ pub judge_number : (ed : Edition) (b : List ℕ) → judged_number (judge_body e
 unfolding read_body message
 judge_number ed b = go (judge_body ed b) (judge_sound ed b)
   where
-    go : (r : Judged) → JudgedAs ed r b → judged_number r ≡ body_number (message r b)
-    go (Judged.Good k) h = sym (decoded_none k b h.1)
-    go (Judged.Bad f) h = refl
+    go : (r : Result Kind Fault) → JudgedAs ed r b → judged_number r ≡ body_number (message r b)
+    go (Ok k) h = sym (decoded_none k b h.1)
+    go (Err f) h = refl
 
 -- a length that is above 0 and 0 is none
 no_such : (n : ℕ) → both (ltb 0 n) (eqb n 0) ≡ false
@@ -234,10 +234,10 @@ unfolding framed both kind_length
 is_framed k b w = rw (lt-ltb 0 (length b) w.some, w.type_is, eq-eqb (length b) (length_of (type_of k)) w.length_is)
 
 -- a body that is not refused is framed
-good_judged : (ed : Edition) (r : Judged) (b : List ℕ) → JudgedAs ed r b → judged_number r ≡ 0 → framed b ≡ true
-good_judged ed (Judged.Good k) b h z = is_framed k b h.1
-good_judged ed (Judged.Bad f) b (inl h) z = absurd (omega (arith, h.0))
-good_judged ed (Judged.Bad f) b (inr h) z = absurd (omega (arith, h.0))
+good_judged : (ed : Edition) (r : Result Kind Fault) (b : List ℕ) → JudgedAs ed r b → judged_number r ≡ 0 → framed b ≡ true
+good_judged ed (Ok k) b h z = is_framed k b h.1
+good_judged ed (Err f) b (inl h) z = absurd (omega (arith, h.0))
+good_judged ed (Err f) b (inr h) z = absurd (omega (arith, h.0))
 
 pub good_framed : (ed : Edition) (b : List ℕ) → good_body ed b ≡ true → framed b ≡ true
 unfolding good_body
@@ -256,17 +256,17 @@ good_fits ed b h =
 
 -- what is judged is good, or bad by 3 or 4
 pub data Judgement (ed : Edition) (b : List ℕ) : Type 0 where
-  good : (k : Kind) → judge_body ed b ≡ Judged.Good k → good_body ed b ≡ true → body_number (read_body ed b) ≡ 0 → Judgement ed b
-  bad : (f : Fault) → judge_body ed b ≡ Judged.Bad f → good_body ed b ≡ false → BadBody ed b f → Judgement ed b
+  good : (k : Kind) → judge_body ed b ≡ Ok k → good_body ed b ≡ true → body_number (read_body ed b) ≡ 0 → Judgement ed b
+  bad : (f : Fault) → judge_body ed b ≡ Err f → good_body ed b ≡ false → BadBody ed b f → Judgement ed b
 
 pub judgement : (ed : Edition) (b : List ℕ) → Judgement ed b
 unfolding good_body
 judgement ed b = go (judge_body ed b) refl (judge_sound ed b)
   where
-    go : (r : Judged) → judge_body ed b ≡ r → JudgedAs ed r b → Judgement ed b
-    go (Judged.Good k) e h = good k e (rw e refl) (sym (judge_number ed b) ∙ ap judged_number e)
-    go (Judged.Bad f) e (inl h) = bad f e (rw (e, h.0) refl) (inl h)
-    go (Judged.Bad f) e (inr h) = bad f e (rw (e, h.0) refl) (inr h)
+    go : (r : Result Kind Fault) → judge_body ed b ≡ r → JudgedAs ed r b → Judgement ed b
+    go (Ok k) e h = good k e (rw e refl) (sym (judge_number ed b) ∙ ap judged_number e)
+    go (Err f) e (inl h) = bad f e (rw (e, h.0) refl) (inl h)
+    go (Err f) e (inr h) = bad f e (rw (e, h.0) refl) (inr h)
 
 pub number_good : (ed : Edition) (b : List ℕ) → body_number (read_body ed b) ≡ 0 → good_body ed b ≡ true
 unfolding good_body

@@ -22,7 +22,8 @@ use Rattle.fields.specs.declared.Body.{Body}
 use Rattle.body.specs.Ranges.{nanos_ok}
 use Rattle.body.specs.Faults.{Tests, tests, fault_from, fault_of}
 use Rattle.body.specs.Read.{framed, ranged, judge_body, judged_number, message, read_body, good_body}
-use Rattle.body.specs.declared.Judged.{Judged}
+use Rattle.std.specs.Prelude.{Result, Err}
+use Rattle.fields.specs.declared.Fault.{Fault}
 use Rattle.body.specs.Nanoseconds.{carries_stamp, stamped, stamp_of, PastSecond, Restamped}
 use Rattle.body.proofs.Laws.{Framed, framed_is, judge_framed, judge_by_fault, good_framed}
 
@@ -60,7 +61,7 @@ unfolding fault_of
 earliest ed k b c l = first_fault (shapes k) (tests ed k) (stamp_of_lem ed k c) b l
 
 -- "Larger is refused with 4 and its offset"
-pub past_judged : (ed : Edition) (b : List ℕ) → PastSecond b → judge_body ed b ≡ Judged.Bad (bad_at 4 1)
+pub past_judged : (ed : Edition) (b : List ℕ) → PastSecond b → judge_body ed b ≡ Err (bad_at 4 1)
 unfolding ranged pick
 past_judged ed b p =
     let k : Kind = kind_of (get_or b 0 0) in
@@ -68,7 +69,7 @@ past_judged ed b p =
 
 pub past_refused : (ed : Edition) (b : List ℕ) → PastSecond b → read_body ed b ≡ Body.Bad (bad_at 4 1)
 unfolding read_body message
-past_refused ed b p = ap (λ (r : Judged). message r b) (past_judged ed b p)
+past_refused ed b p = ap (λ (r : Result Kind Fault). message r b) (past_judged ed b p)
 
 -- and so it is no good body
 pub past_bad : (ed : Edition) (b : List ℕ) → PastSecond b → good_body ed b ≡ false
@@ -100,7 +101,7 @@ module _ (ed : Edition) (b c : List ℕ) (r : Restamped b c) where
       let w : Framed k b = framed_is b (good_framed ed b g) in
       let v : Framed k c = subst (λ (x : Kind). Framed x c) kind_kept (framed_is c (framed_kept ∙ good_framed ed b g)) in
       let same : fault_of ed k c ≡ fault_of ed k b = rest_decides (shapes k) (tests ed k) (stamp_of_lem ed k s) b c (largest ed b g s) l r.behind_kept in
-      ap (λ (r : Judged). eqb (judged_number r) 0) (judge_by_fault ed k b c w v same) ∙ g
+      ap (λ (r : Result Kind Fault). eqb (judged_number r) 0) (judge_by_fault ed k b c w v same) ∙ g
 
 -- and every value up to it is good: with another Timestamp a good message is good exactly where that is in range
 pub stamp_alone : (ed : Edition) (b c : List ℕ) → good_body ed b ≡ true → stamped b ≡ true → Restamped b c → good_body ed c ≡ nanos_ok (stamp_of c)

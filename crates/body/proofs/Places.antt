@@ -22,7 +22,7 @@ use Rattle.fields.specs.declared.Fault.{Fault}
 use Rattle.body.specs.Faults.{Tests, tests}
 use Rattle.body.specs.Read.{judge_body}
 use Rattle.body.specs.Places.{FirstBad, BadField, BadBody}
-use Rattle.body.specs.declared.Judged.{Judged}
+use Rattle.std.specs.Prelude.{Result, Err}
 use Rattle.body.proofs.Laws.{Framed, framed_is, JudgedAs, judge_sound}
 
 -- no field is empty
@@ -71,8 +71,8 @@ pub body_small : (ed : Edition) (b : List ℕ) (f : Fault) → BadBody ed b f �
 body_small ed b f (inl h) = omega (arith, h.1)
 body_small ed b f (inr h) = omega (arith, (field_within ed b f.at h.1).1, (framed_is b h.1.whole).most)
 
-pub judged_within : (ed : Edition) (b : List ℕ) (f : Fault) → Judged.Bad f ≡ judge_body ed b → f.at ≤ length b
-judged_within ed b f e = body_within ed b f (subst (λ (r : Judged). JudgedAs ed r b) (sym e) (judge_sound ed b))
+pub judged_within : (ed : Edition) (b : List ℕ) (f : Fault) → Err f ≡ judge_body ed b → f.at ≤ length b
+judged_within ed b f e = body_within ed b f (subst (λ (r : Result Kind Fault). JudgedAs ed r b) (sym e) (judge_sound ed b))
 
-pub judged_small : (ed : Edition) (b : List ℕ) (f : Fault) → Judged.Bad f ≡ judge_body ed b → f.at ≤ entry_size
-judged_small ed b f e = body_small ed b f (subst (λ (r : Judged). JudgedAs ed r b) (sym e) (judge_sound ed b))
+pub judged_small : (ed : Edition) (b : List ℕ) (f : Fault) → Err f ≡ judge_body ed b → f.at ≤ entry_size
+judged_small ed b f e = body_small ed b f (subst (λ (r : Result Kind Fault). JudgedAs ed r b) (sym e) (judge_sound ed b))

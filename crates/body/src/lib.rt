@@ -1,50 +1,41 @@
 // Judges one message body and reads it, in two calls: the table frames it and the ranges of its edition judge it; a good one is decoded.
 #![tactic(auto)]
 
-ghost use Rattle.std.specs.Prelude.{◌≡◌, ◌+◌, leb};
+ghost use Rattle.std.specs.Prelude.{◌≡◌, ◌≤◌, ◌+◌, leb, Err};
 ghost use Rattle.facts.specs.Pick.{pick, both};
 ghost use Rattle.wire.specs.Le.{field};
 ghost use Rattle.body.specs.Ranges.{nanos_ok, side_ok, price_ok, size_ok, security_ok, test_ok, market_ok};
-ghost use Rattle.body.specs.Faults.{fault_of};
-ghost use Rattle.body.specs.Read.{judged_code, judge_body, read_body};
+ghost use Rattle.fields.specs.Fields.{bad_at};
+ghost use Rattle.body.specs.Read.{tested, judge_fields, judge_body, judged, read_body};
 ghost use Rattle.body.specs.Shown.{security_in};
 
 use editions::Edition;
 use fields::{Body, Fault};
 use kinds::Kind;
+use wire::Number;
 
-// What byte 20 of a Symbol Update is in an edition: its Security Type, or reserved.
-#[derive(Clone, Copy)]
-pub enum Security {
-    Type(u8),
-    Reserved,
-}
-
-// A good body of a kind, or why and where it is bad.
-#[derive(Clone, Copy)]
-pub enum Judged {
-    Good(Kind),
-    Bad(Fault),
-}
-
+#[tactic(auto, unfolding(crate::specs::Ranges::nanos_ok))]
 pub fn nanos_ok(n: u32) -> bool
     ensures { result ≡ nanos_ok n }
 {
     n <= facts::MOST_NANOS
 }
 
+#[tactic(auto, unfolding(crate::specs::Ranges::side_ok, crate::specs::Ranges::one_of, facts::specs::Pick::either))]
 pub fn side_ok(x: u8) -> bool
     ensures { result ≡ side_ok x }
 {
-    x == b'B' || x == b'S'
+    matches!(x, b'B' | b'S')
 }
 
+#[tactic(auto, unfolding(crate::specs::Ranges::price_ok, facts::specs::Pick::both))]
 pub fn price_ok(n: u64) -> bool
     ensures { result ≡ price_ok n }
 {
     1 <= n && n <= facts::MOST_PRICE
 }
 
+#[tactic(auto, unfolding(crate::specs::Ranges::size_ok))]
 pub fn size_ok(n: u32) -> bool
     ensures { result ≡ size_ok n }
 {
@@ -52,153 +43,141 @@ pub fn size_ok(n: u32) -> bool
 }
 
 // In 1.3 byte 20 of a Symbol Update is judged; from 1.3.a on it is reserved.
+#[tactic(auto, unfolding(crate::specs::Ranges::security_ok, crate::specs::Ranges::one_of, facts::specs::Pick::either))]
 pub fn security_ok(e: Edition, x: u8) -> bool
     ensures { result ≡ security_ok e x }
 {
     match e {
-        Edition::V13 => x == b'E' || x == b'F',
+        Edition::V13 => matches!(x, b'E' | b'F'),
         Edition::V13b => true,
     }
 }
 
+#[tactic(auto, unfolding(crate::specs::Ranges::test_ok, crate::specs::Ranges::one_of, facts::specs::Pick::either))]
 pub fn test_ok(x: u8) -> bool
     ensures { result ≡ test_ok x }
 {
-    x == b'Y' || x == b'N'
+    matches!(x, b'Y' | b'N')
 }
 
-// Whether x is one of the letters from first to last.
-fn in_range(x: u8, first: u8, last: u8) -> bool
-    ensures { result ≡ both (leb first x) (leb x last) }
-{
-    first <= x && x <= last
-}
-
-// The eighteen market letters stand in four ranges of the alphabet, none asked before another.
+// The eighteen market letters stand in four ranges of the alphabet.
+#[tactic(auto, using(crate::proofs::Markets::a_to_c, crate::proofs::Markets::h_to_n, crate::proofs::Markets::p_to_q, crate::proofs::Markets::u_to_z, crate::proofs::Markets::no_letter))]
 pub fn market_ok(x: u8) -> bool
     ensures { result ≡ market_ok x }
 {
-    in_range(x, b'A', b'C')
-        | in_range(x, b'H', b'N')
-        | in_range(x, b'P', b'Q')
-        | in_range(x, b'U', b'Z')
+    matches!(x, b'A'..=b'C' | b'H'..=b'N' | b'P'..=b'Q' | b'U'..=b'Z')
 }
 
-// The place of a field whose test fails, else what is found behind it.
-fn fault_at(ok: bool, at: usize, behind: usize) -> usize
-    ensures { result ≡ pick ok behind at }
+// Refuses a body by 4 at a field whose test fails.
+#[tactic(auto, unfolding(facts::specs::Pick::pick))]
+fn judge_field(at: usize, ok: bool) -> Result<(), Fault>
+    ensures { result ≡ tested ok at }
 {
-    if ok { behind } else { at }
+    if ok {
+        Ok(())
+    } else {
+        Err(Fault { number: 4, at })
+    }
 }
 
-// The Timestamp, which lies behind the type byte of every message that carries one, then what is found behind it.
-fn stamp_fault(b: &[u8], behind: usize) -> usize
-    ensures { result ≡ pick (nanos_ok (field b.now 1 4)) behind 1 }
+// The Timestamp, which lies behind the type byte of every message that carries one.
+fn judge_stamp(b: &[u8]) -> Result<(), Fault>
+    ensures { result ≡ tested (nanos_ok (field b.now 1 4)) 1 }
 {
-    fault_at(nanos_ok(wire::u32_at(b, 1)), 1, behind)
+    judge_field(1, nanos_ok(u32::at(b, 1)))
 }
 
-// Price and size, which stand side by side in every message that has them; no range stands behind them.
-fn deal_fault(b: &[u8], at: u8) -> usize
-    ensures { result ≡ pick (price_ok (field b.now at 8)) (pick (size_ok (field b.now (at + 8) 4)) 0 (at + 8)) at }
+// Price and size, which stand side by side in every message that has them.
+fn judge_deal(b: &[u8], at: usize) -> Result<(), Fault>
+    requires { at ≤ 42 }
+    ensures { result ≡ pick (price_ok (field b.now at 8)) (tested (size_ok (field b.now (at + 8) 4)) (at + 8)) (Err (bad_at 4 at)) }
 {
-    let i = at as usize;
-    let j = i + 8;
-    let size = fault_at(size_ok(wire::u32_at(b, j)), j, 0);
-    fault_at(price_ok(wire::u64_at(b, i)), i, size)
+    judge_field(at, price_ok(u64::at(b, at)))?;
+    judge_field(at + 8, size_ok(u32::at(b, at + 8)))
 }
 
-fn symbol_fault(e: Edition, b: &[u8]) -> usize
-    ensures { result ≡ fault_of e Kind.SymbolUpdate b.now }
+fn judge_update(e: Edition, b: &[u8]) -> Result<(), Fault>
+    ensures { result ≡ judge_fields e Kind.SymbolUpdate b.now }
 {
-    let security = security_ok(e, wire::u8_at(b, 20));
-    let test = test_ok(wire::u8_at(b, 21));
-    let market = market_ok(wire::u8_at(b, 41));
-    let behind = fault_at(test, 21, fault_at(market, 41, 0));
-    stamp_fault(b, fault_at(security, 20, behind))
+    judge_stamp(b)?;
+    judge_field(20, security_ok(e, u8::at(b, 20)))?;
+    judge_field(21, test_ok(u8::at(b, 21)))?;
+    judge_field(41, market_ok(u8::at(b, 41)))
 }
 
 // An Add is judged alike in every edition.
-fn add_fault(b: &[u8]) -> usize
-    ensures { (e : Edition) → result ≡ fault_of e Kind.Add b.now }
+fn judge_add(b: &[u8]) -> Result<(), Fault>
+    ensures { (e : Edition) → result ≡ judge_fields e Kind.Add b.now }
 {
-    let side = side_ok(wire::u8_at(b, 17));
-    stamp_fault(b, fault_at(side, 17, deal_fault(b, 18)))
+    judge_stamp(b)?;
+    judge_field(17, side_ok(u8::at(b, 17)))?;
+    judge_deal(b, 18)
 }
 
 // A message in which Timestamp, price and size are all that is judged.
-fn stamped_deal_fault(b: &[u8], at: u8) -> usize
-    ensures { result ≡ pick (nanos_ok (field b.now 1 4)) (pick (price_ok (field b.now at 8)) (pick (size_ok (field b.now (at + 8) 4)) 0 (at + 8)) at) 1 }
+fn judge_stamped_deal(b: &[u8], at: usize) -> Result<(), Fault>
+    requires { at ≤ 42 }
+    ensures { result ≡ pick (nanos_ok (field b.now 1 4)) (pick (price_ok (field b.now at 8)) (tested (size_ok (field b.now (at + 8) 4)) (at + 8)) (Err (bad_at 4 at))) (Err (bad_at 4 1)) }
 {
-    stamp_fault(b, deal_fault(b, at))
+    judge_stamp(b)?;
+    judge_deal(b, at)
 }
 
-// The first byte of the earliest field out of range, 0 for none (no field starts at 0).
-fn fault(e: Edition, k: Kind, b: &[u8]) -> usize
-    ensures { result ≡ fault_of e k b.now }
+// The fields of a kind in their order: 4 at the earliest one out of range.
+#[tactic(auto, using(crate::proofs::Tests::none_judged, crate::proofs::Tests::stamp_judged, crate::proofs::Tests::modify_judged, crate::proofs::Tests::trade_judged, crate::proofs::Tests::execution_judged))]
+fn judge_fields(e: Edition, k: Kind, b: &[u8]) -> Result<(), Fault>
+    ensures { result ≡ judge_fields e k b.now }
 {
     match k {
-        Kind::SystemTime => 0,
-        Kind::SymbolUpdate => symbol_fault(e, b),
-        Kind::SystemState => stamp_fault(b, 0),
-        Kind::TradingStatus => stamp_fault(b, 0),
-        Kind::SymbolClear => stamp_fault(b, 0),
-        Kind::Add => add_fault(b),
-        Kind::Modify => stamped_deal_fault(b, 17),
-        Kind::Delete => stamp_fault(b, 0),
-        Kind::Execution => stamped_deal_fault(b, 25),
-        Kind::Trade => stamped_deal_fault(b, 18),
-        Kind::TradeCancel => stamped_deal_fault(b, 18),
-        Kind::Unknown => 0,
+        Kind::SystemTime | Kind::Unknown => Ok(()),
+        Kind::SystemState | Kind::TradingStatus | Kind::SymbolClear | Kind::Delete => judge_stamp(
+            b,
+        ),
+        Kind::SymbolUpdate => judge_update(e, b),
+        Kind::Add => judge_add(b),
+        Kind::Modify => judge_stamped_deal(b, 17),
+        Kind::Trade | Kind::TradeCancel => judge_stamped_deal(b, 18),
+        Kind::Execution => judge_stamped_deal(b, 25),
     }
 }
 
-// Judges a body of an edition, and decodes nothing: 3 at its start, then 4 at the earliest field out of range; number and offset in one number, 0 for
-// a good body. Whoever asks for no more than this has it in a register.
-pub fn judge(e: Edition, b: &[u8]) -> usize
-    ensures { result ≡ judged_code (judge_body e b.now) }
-{
-    if b.len() == 0 {
-        return 3;
-    }
-    let t = b[0];
-    if b.len() != kinds::length_of(t) {
-        return 3;
-    }
-    let at = fault(e, kinds::kind_of(t), b);
-    if at == 0 { 0 } else { 4 + 256 * at }
-}
-
-// The same by cases, and the kind of a good body.
-pub fn judge_body(e: Edition, b: &[u8]) -> Judged
+// Judges a body of an edition, and decodes nothing: 3 at its start, then 4 at the earliest field out of range. A good body's kind is told.
+pub fn judge_body(e: Edition, b: &[u8]) -> Result<Kind, Fault>
     ensures { result ≡ judge_body e b.now }
 {
-    let c = judge(e, b);
-    if c == 0 {
-        return Judged::Good(kinds::kind_of(wire::u8_at(b, 0)));
+    if b.is_empty() || b.len() != kinds::length_of(b[0]) {
+        return Err(Fault { number: 3, at: 0 });
     }
-    Judged::Bad(Fault {
-        number: (c % 256) as u8,
-        at: c / 256,
-    })
+    let k = Kind::from(b[0]);
+    judge_fields(e, k, b)?;
+    Ok(k)
+}
+
+// The same for whoever asks no more than whether a body is good.
+pub fn judge(e: Edition, b: &[u8]) -> Result<(), Fault>
+    ensures { result ≡ judged (judge_body e b.now) }
+{
+    judge_body(e, b)?;
+    Ok(())
 }
 
 // The message that a good body says, or why and where it is bad.
+#[tactic(auto, unfolding(crate::specs::Read::read_body, crate::specs::Read::message))]
 pub fn read_body(e: Edition, b: &[u8]) -> Body
     ensures { result ≡ read_body e b.now }
 {
     match judge_body(e, b) {
-        Judged::Bad(f) => Body::Bad(f),
-        Judged::Good(k) => fields::decode(k, b),
+        Err(f) => Body::Bad(f),
+        Ok(k) => fields::decode(k, b),
     }
 }
 
 // What the fields of a Symbol Update show of byte 20 in an edition, whether in range or not.
-pub fn security_in(e: Edition, b: &[u8]) -> Security
+pub fn security_in(e: Edition, b: &[u8]) -> Option<u8>
     ensures { result ≡ security_in e b.now }
 {
     match e {
-        Edition::V13 => Security::Type(fields::security_of(b)),
-        Edition::V13b => Security::Reserved,
+        Edition::V13 => Some(fields::security_of(b)),
+        Edition::V13b => None,
     }
 }

@@ -9,15 +9,13 @@ use native.Mathlib.Omega.{arith}
 use lib.Dec.{eqb}
 use borrow.Author.Tests.{eqb-true}
 use Rattle.facts.specs.Pick.{pick}
-use Rattle.facts.specs.declared.Found.TheVariants.{At}
+use Rattle.std.specs.Prelude.{Option, Some, None}
 use Rattle.editions.specs.declared.Edition.{Edition}
 use Rattle.wire.specs.Le.{Bytes}
 use Rattle.fields.specs.declared.Body.{Body}
 use Rattle.body.specs.Read.{read_body}
 use Rattle.body.proofs.Laws.{read_sound}
 use Rattle.rows.specs.declared.Row.{Row}
-use Rattle.rows.specs.declared.Held.{Held}
-use Rattle.rows.specs.declared.Held.TheVariants.{Live, Nowhere}
 use Rattle.rows.specs.Rows.{rows, live}
 use Rattle.rows.specs.Find.{find_order, held_at}
 use Rattle.rows.specs.Shares.{live_shares, under}
@@ -40,20 +38,20 @@ abbrev pub moved : ℕ → ℕ → ℕ → Moved
 moved c e w = record { came = c; executed = e; withdrawn = w }
 
 -- growth and shrinkage by Modify, and what a Delete withdraws
-unfoldable pub resized : Held → ℕ → Moved
-resized Nowhere size = moved 0 0 0
-resized (Live i r) size = moved (size - r.size) 0 (r.size - size)
+unfoldable pub resized : Option (ℕ × Row) → ℕ → Moved
+resized None size = moved 0 0 0
+resized (Some (i, r)) size = moved (size - r.size) 0 (r.size - size)
 
 -- "shares that came (Adds, and growth by Modify), shares executed (Order Executions alone), shares withdrawn (Deletes, Clears, and shrinkage by Modify)"
-unfoldable pub moved_by : Body → Held → ℕ → Moved
+unfoldable pub moved_by : Body → Option (ℕ × Row) → ℕ → Moved
 moved_by (Body.Add m) order shares = moved m.size 0 0
 moved_by (Body.Modify m) order shares = resized order m.size
 moved_by (Body.Delete m) order shares = resized order 0
 moved_by (Body.Execution m) order shares = moved 0 m.size 0
 moved_by (Body.SymbolClear m) order shares = moved 0 0 shares
 moved_by (Body.SystemTime s) order shares = moved 0 0 0
-moved_by Body.SymbolUpdate order shares = moved 0 0 0
-moved_by Body.SystemState order shares = moved 0 0 0
+moved_by (Body.SymbolUpdate m) order shares = moved 0 0 0
+moved_by (Body.SystemState m) order shares = moved 0 0 0
 moved_by (Body.TradingStatus m) order shares = moved 0 0 0
 moved_by (Body.Trade m) order shares = moved 0 0 0
 moved_by (Body.TradeCancel m) order shares = moved 0 0 0
@@ -67,8 +65,8 @@ order_of (Body.Delete m) = m.order
 order_of (Body.Execution m) = m.order
 order_of (Body.SymbolClear m) = 0
 order_of (Body.SystemTime s) = 0
-order_of Body.SymbolUpdate = 0
-order_of Body.SystemState = 0
+order_of (Body.SymbolUpdate m) = 0
+order_of (Body.SystemState m) = 0
 order_of (Body.TradingStatus m) = 0
 order_of (Body.Trade m) = 0
 order_of (Body.TradeCancel m) = 0
@@ -94,7 +92,7 @@ gone_balanced s own x y a b c p e = go (eqb own s) e
     go true e = omega arith
     go false e = omega arith
 
-resized_balanced : (s own x y : ℕ) (i : ℕ) (r : Row) (size : ℕ) → y + under s own r.size ≡ x + under s own size → Balanced s own x y (resized (Live i r) size)
+resized_balanced : (s own x y : ℕ) (i : ℕ) (r : Row) (size : ℕ) → y + under s own r.size ≡ x + under s own size → Balanced s own x y (resized (Some (i, r)) size)
 unfolding under pick resized
 resized_balanced s own x y i r size e = go (eqb own s) e
   where
@@ -102,7 +100,7 @@ resized_balanced s own x y i r size e = go (eqb own s) e
     go true e = omega arith
     go false e = omega arith
 
-held_is : (order : ℕ) (t : List ℕ) (i : ℕ) → find_order order (rows t) ≡ At i → order_in order t ≡ Live i (row t i)
+held_is : (order : ℕ) (t : List ℕ) (i : ℕ) → find_order order (rows t) ≡ Some i → order_in order t ≡ Some (i, (row t i))
 unfolding held_at
 held_is order t i e = rw e
 

@@ -10,14 +10,13 @@ use native.Mathlib.Omega.{arith}
 use lib.ListN.{length, get_or}
 use lib.Dec.{eqb}
 use Rattle.facts.proofs.Picks.{upheld, pick_ind}
-use Rattle.facts.specs.declared.Found.{Found}
+use Rattle.std.specs.Prelude.{Option, Some, Ok, Err}
 use Rattle.editions.specs.declared.Edition.{Edition}
 use Rattle.fields.specs.declared.Body.{Body}
 use Rattle.fields.specs.declared.AddOrder.{AddOrder}
 use Rattle.body.specs.Read.{read_body, good_body}
 use Rattle.body.proofs.Laws.{bad_number}
 use Rattle.rows.specs.declared.Row.{Row}
-use Rattle.rows.specs.declared.Held.TheVariants.{Live}
 use Rattle.rows.specs.Rows.{rows, zero_row, free, live}
 use Rattle.rows.specs.Find.{held_at, find_order, find_free}
 use Rattle.rows.specs.Tidy.{Unique}
@@ -38,26 +37,25 @@ use Rattle.engines.proofs.Found.{order_same, free_same, entry_same}
 use Rattle.engines.proofs.Noted.{Proper, nothing, comes, goes, stays, clears, noted_indexed, hinted_indexed}
 use Rattle.engines.proofs.Lengths.{noted_length, hinted_length}
 use Rattle.book.specs.declared.Works.{Works}
-use Rattle.book.specs.declared.Plan.{Plan}
-use Rattle.book.specs.declared.Plan.TheVariants.{Stop, Go}
-use Rattle.book.specs.Plan.{row_for, room_for, target, upon, modify_at, delete_at, execute_at, add_plan, modify_plan, delete_plan, execution_plan, clear_plan, plan_by}
+use Rattle.book.specs.declared.Rule.TheVariants.{NoBody}
+use Rattle.book.specs.Plan.{Plan, row_for, room_for, target, upon, modify_at, delete_at, execute_at, add_plan, modify_plan, delete_plan, execution_plan, clear_plan, plan_by}
 use Rattle.book.specs.Book.{Book, order_in, scans, planned, carried, applied}
 use Rattle.book.specs.Ledger.{Ledger, ledger, Posting, posting, looks, devised, index_after, posts, posted}
 use Rattle.book.proofs.Laws.{Agree, plan_same, devised_by, posted_by}
 use Rattle.book.proofs.Plans.{never_goes, goes_known, goes_owned, held_live, goes_room, goes_execute, goes_update}
-use Rattle.book.proofs.Steps.{Numbered, carried_broken, carried_orders, carried_symbols, carried_numbers, group_of, group_ruled, group_bad}
+use Rattle.book.proofs.Steps.{Numbered, carried_broken, carried_orders, carried_symbols, carried_numbers, group_of, group_bad}
 use Rattle.book.proofs.Theorems.{entries_kept, unique_kept}
 
 -- ---- for any tables and any index
 index_length : (p : Plan) (b : List ℕ) (l : Ledger) → length (index_after p b l) ≡ length l.index
 unfolding index_after
-index_length (Stop n) b l = refl
-index_length (Go w) b l = hinted_length w.symbols b (noted w.orders (rows l.plain.orders) l.index) ∙ noted_length w.orders (rows l.plain.orders) l.index
+index_length (Err n) b l = refl
+index_length (Ok w) b l = hinted_length w.symbols b (noted w.orders (rows l.plain.orders) l.index) ∙ noted_length w.orders (rows l.plain.orders) l.index
 
 index_broken : (p : Plan) (b : List ℕ) (l : Ledger) → ((carried p b l.plain).rule ≡ 0 → ⊥) → index_after p b l ≡ l.index
 unfolding index_after carried
-index_broken (Stop n) b l h = refl
-index_broken (Go w) b l h = absurd (h refl)
+index_broken (Err n) b l h = refl
+index_broken (Ok w) b l h = absurd (h refl)
 
 pub record Lengths (l m : Ledger) : Type 0 where
   pub orders : length m.plain.orders ≡ length l.plain.orders
@@ -80,14 +78,14 @@ module _ (ed : Edition) (n : ℕ) (b : List ℕ) (l : Ledger) where
 
   -- 0, or one of 20 to 27
   pub post_rules : Numbered (posted ed n b l).rule
-  unfolding posted devised
-  post_rules = carried_numbers b l.plain (group_ruled n b l.plain.clock (looks l) (group_of (read_body ed b)))
+  unfolding posted
+  post_rules = carried_numbers b l.plain (devised ed n b l)
 
   -- "no good body stops with 27"
   pub post_bad : good_body ed b ≡ false → (posted ed n b l).rule ≡ 27
   unfolding carried
   post_bad h =
-      ap (λ (o : Posting). o.rule) (sym (posted_by ed (Stop 27) n b l
+      ap (λ (o : Posting). o.rule) (sym (posted_by ed (Err NoBody) n b l
       (sym (devised_by ed (read_body ed b) n b l refl) ∙ group_bad n b l.plain.clock (looks l) (group_of (read_body ed b)) (bad_number ed b h))))
 
   pub post_good : (posted ed n b l).rule ≡ 0 → good_body ed b ≡ true
@@ -121,16 +119,16 @@ module _ (n : ℕ) (b : List ℕ) (k : Book) (ranked : 1 ≤ n) where
   rs = rows k.orders
 
   -- the order found: live, and in its place
-  found : (id i : ℕ) (r : Row) → order_in id k.orders ≡ Live i r → (i < length rs) × (live (get_or rs i zero_row) ≡ true) × (r ≡ get_or rs i zero_row)
+  found : (id i : ℕ) (r : Row) → order_in id k.orders ≡ Some (i, r) → (i < length rs) × (live (get_or rs i zero_row) ≡ true) × (r ≡ get_or rs i zero_row)
   found id i r e =
       let h = held_live (find_order id rs) rs i r e in
       let w = order_below id k.orders i h.0 in
       (rw length_rows w.0, (order_is id (get_or rs i zero_row) w.1).1, h.1)
 
-  proper_plan : (m : Body) (w : Works) → plan_by m n b k.clock (scans k) ≡ Go w → Proper rs w.orders
+  proper_plan : (m : Body) (w : Works) → plan_by m n b k.clock (scans k) ≡ Ok w → Proper rs w.orders
   unfolding plan_by add_plan modify_plan delete_plan execution_plan clear_plan
   proper_plan (Body.SystemTime s) w e = let q : RowWork.Keep ≡ w.orders = cc in subst (Proper rs) q nothing
-  proper_plan Body.SymbolUpdate w e =
+  proper_plan (Body.SymbolUpdate m) w e =
       let u = goes_update k.clock (place_for (id_of b) (entries k.symbols)) w e in
       subst (Proper rs) (ap (λ (x : Works). x.orders) u.2) nothing
   proper_plan (Body.Add m) w e =
@@ -160,10 +158,10 @@ module _ (n : ℕ) (b : List ℕ) (k : Book) (ranked : 1 ≤ n) where
       let q : RowWork.Put o.place (reduced m.size (get_or rs o.place zero_row)) ≡ w.orders = ap (λ (r : Row). RowWork.Put o.place (reduced m.size r)) (sym f.2) ∙ ap (λ (y : Works). y.orders) x.1 in
       subst (Proper rs) q (reduced_proper rs o.place m.size f.0 f.1)
   proper_plan (Body.SymbolClear m) w e =
-      let g = goes_known _ (λ i. Go _) w e in
+      let g = goes_known _ (λ i. Ok _) w e in
       let q : RowWork.Clear m.symbol ≡ w.orders = cc g.2 in
       subst (Proper rs) q (clears m.symbol)
-  proper_plan Body.SystemState w e = let q : RowWork.Keep ≡ w.orders = cc in subst (Proper rs) q nothing
+  proper_plan (Body.SystemState m) w e = let q : RowWork.Keep ≡ w.orders = cc in subst (Proper rs) q nothing
   proper_plan (Body.TradingStatus m) w e = let q : RowWork.Keep ≡ w.orders = cc in subst (Proper rs) q nothing
   proper_plan (Body.Trade m) w e = let q : RowWork.Keep ≡ w.orders = cc in subst (Proper rs) q nothing
   proper_plan (Body.TradeCancel m) w e = let q : RowWork.Keep ≡ w.orders = cc in subst (Proper rs) q nothing
@@ -184,7 +182,7 @@ module _ (l : Ledger) (a : Agree (looks l) (scans l.plain)) (ed : Edition) (n : 
 pub none_agree : (l : Ledger) → length l.index ≡ 0 → Agree (looks l) (scans l.plain)
 none_agree l z =
     record {
-      order = λ id. ap (λ (f : Found). held_at f (rows l.plain.orders)) (order_walk l.index (rows l.plain.orders) id z);
+      order = λ id. ap (λ (f : Option ℕ). held_at f (rows l.plain.orders)) (order_walk l.index (rows l.plain.orders) id z);
       free_row = free_walk l.index (rows l.plain.orders) z;
       entry = λ id. entry_walk l.index id (entries l.plain.symbols) z;
       room = λ id. refl;
@@ -214,7 +212,7 @@ module _ (l : Ledger) (u : Sure l) where
       go (inl z) = none_agree l z
       go (inr x) =
           record {
-            order = λ id. ap (λ (f : Found). held_at f (rows l.plain.orders)) (order_same l.index (rows l.plain.orders) x u.unique id);
+            order = λ id. ap (λ (f : Option ℕ). held_at f (rows l.plain.orders)) (order_same l.index (rows l.plain.orders) x u.unique id);
             free_row = free_same l.index (rows l.plain.orders) x;
             entry = λ id. entry_same l.index id (entries l.plain.symbols) u.distinct;
             room = λ id. refl;
@@ -232,9 +230,9 @@ module _ (l : Ledger) (u : Sure l) where
     index_kept : 1 ≤ n → (p : Plan) → planned ed n b l.plain ≡ p → (length l.index ≡ 0) ⊎ Indexed l.index (rows l.plain.orders)
         → (length (index_after p b l) ≡ 0) ⊎ Indexed (index_after p b l) (rows (carried p b l.plain).after.orders)
     unfolding index_after carried planned
-    index_kept h (Stop q) e f = f
-    index_kept h (Go w) e (inl z) = inl (index_length (Go w) b l ∙ z)
-    index_kept h (Go w) e (inr x) =
+    index_kept h (Err q) e f = f
+    index_kept h (Ok w) e (inl z) = inl (index_length (Ok w) b l ∙ z)
+    index_kept h (Ok w) e (inr x) =
         inr (hinted_indexed (noted w.orders (rows l.plain.orders) l.index) _
         (noted_indexed l.plain.orders l.index x w.orders (proper_plan n b l.plain h (read_body ed b) w e)) w.symbols b)
 

@@ -24,8 +24,8 @@ use Rattle.book.proofs.Theorems.{row_live, add_entered, modify_done, modify_live
 module _ (ed : Edition) (n : ℕ) (b : List ℕ) (k : Book) (ranked : 1 ≤ n) (bytes : Bytes b) where
   sane_by : (m : Body) (s : ℕ) → Names m s → read_body ed b ≡ m → (applied ed n b k).rule ≡ 0 → (j : ℕ) → Sane (row k.orders j) → Sane (row (applied ed n b k).after.orders j)
   sane_by (Body.SystemTime _) s x e z j h = elim x [ ]
-  sane_by Body.SymbolUpdate s x e z j h = elim x [ ]
-  sane_by Body.SystemState s x e z j h = elim x [ ]
+  sane_by (Body.SymbolUpdate _) s x e z j h = elim x [ ]
+  sane_by (Body.SystemState _) s x e z j h = elim x [ ]
   sane_by (Body.TradingStatus _) s x e z j h = elim x [ ]
   sane_by (Body.Trade _) s x e z j h = elim x [ ]
   sane_by (Body.TradeCancel _) s x e z j h = elim x [ ]

@@ -10,7 +10,7 @@ use native.Mathlib.Omega.{arith}
 use native.Mathlib.Decide.{ℕ_discrete}
 use lib.ListN.{set}
 use borrow.Author.Tests.{eq-eqb, ne_eqb}
-use Rattle.facts.specs.declared.Found.TheVariants.{At, Nothing}
+use Rattle.std.specs.Prelude.{Some, None, Ok}
 use Rattle.editions.specs.declared.Edition.{Edition}
 use Rattle.wire.specs.Le.{Bytes}
 use Rattle.wire.proofs.Laws.{field_below}
@@ -20,6 +20,7 @@ use Rattle.fields.specs.declared.AddOrder.{AddOrder}
 use Rattle.fields.specs.declared.ModifyOrder.{ModifyOrder}
 use Rattle.fields.specs.declared.DeleteOrder.{DeleteOrder}
 use Rattle.fields.specs.declared.OrderExecution.{OrderExecution}
+use Rattle.fields.specs.declared.SymbolUpdate.{SymbolUpdate}
 use Rattle.body.specs.Read.{read_body}
 use Rattle.body.proofs.Laws.{Sound, read_sound}
 use Rattle.rows.specs.declared.Row.{Row}
@@ -28,7 +29,6 @@ use Rattle.rows.specs.Find.{find_order, find_free, held_at, of_symbol}
 use Rattle.rows.specs.Tidy.{Unique}
 use Rattle.rows.proofs.Keys.{side_small}
 use Rattle.rows.proofs.Judged.{ranges_live}
-use Rattle.symbols.specs.declared.EntryWork.{EntryWork}
 use Rattle.symbols.specs.Entries.{entries, entry_of, put_entry, used, id_of}
 use Rattle.symbols.specs.Find.{find_symbol, known_symbol, place_for}
 use Rattle.symbols.specs.Work.{entered}
@@ -43,9 +43,7 @@ use Rattle.orders.proofs.Unique.{add_unique, modify_unique, delete_unique, execu
 use Rattle.orders.proofs.Shares.{remade_live}
 use Rattle.orders.proofs.Again.{all_executed, part_executed, gone_free, gone_nowhere, room_again}
 use Rattle.book.specs.declared.Works.{Works}
-use Rattle.book.specs.declared.Plan.{Plan}
-use Rattle.book.specs.declared.Plan.TheVariants.{Go}
-use Rattle.book.specs.Plan.{works, on_rows, of_known, target, upon, row_for, room_for, add_plan, modify_at, modify_plan, delete_at, delete_plan, execute_at, execution_plan, clear_plan, plan_by}
+use Rattle.book.specs.Plan.{Plan, works, on_rows, of_known, target, upon, row_for, room_for, add_plan, modify_at, modify_plan, delete_at, delete_plan, execute_at, execution_plan, clear_plan, plan_by}
 use Rattle.book.specs.Book.{Book, order_in, scans, planned, carried, applied}
 use Rattle.book.proofs.Laws.{planned_by, carried_by}
 use Rattle.book.proofs.Plans.{goes_known, Owned, goes_owned, held_live, held_nowhere, goes_room, goes_execute, goes_update}
@@ -54,7 +52,7 @@ use Rattle.book.proofs.Steps.{went, broken_keeps, Names, orders_named, symbols_u
 -- ---- a message that applied, by the case of its body: its plan, and the tables after it
 record Done (ed : Edition) (m : Body) (n : ℕ) (b : List ℕ) (k : Book) : Type 0 where
   does : Works
-  plan_is : plan_by m n b k.clock (scans k) ≡ Go does
+  plan_is : plan_by m n b k.clock (scans k) ≡ Ok does
   orders_are : (applied ed n b k).after.orders ≡ committed does.orders k.orders
   symbols_are : (applied ed n b k).after.symbols ≡ entered does.symbols b k.symbols
 
@@ -63,16 +61,16 @@ done ed m n b k e z =
     let w = went ed n b k z in
     record { does = w.0; plan_is = planned_by ed m n b k e ∙ w.1; orders_are = ap (λ x. x.orders) w.2; symbols_are = ap (λ x. x.symbols) w.2 }
 
-same_go : {v w : Works} → Go v ≡ Go w → v ≡ w
+same_go : {v w : Works} → ◌≡◌ {A = Plan} (Ok v) (Ok w) → v ≡ w
 same_go e = cc
 
 -- a row put by a message that names an order
 owner : (order symbol : ℕ) (k : Book) (p : Plan) (f : ℕ → Row → Plan) (x : Owned (order_in order k.orders) symbol p f)
-    → (find_order order (rows k.orders) ≡ At x.place) × (x.held ≡ row k.orders x.place)
+    → (find_order order (rows k.orders) ≡ Some x.place) × (x.held ≡ row k.orders x.place)
 owner order symbol k p f x = held_live (find_order order (rows k.orders)) (rows k.orders) x.place x.held x.order_found
 
 named_by : (order symbol : ℕ) (g : Row → Row) (t u : List ℕ) (w : RowWork) (i : ℕ) (r : Row)
-    → find_order order (rows t) ≡ At i → r ≡ row t i → symbol_of r ≡ symbol → RowWork.Put i (g r) ≡ w → u ≡ committed w t → Named order symbol g t u
+    → find_order order (rows t) ≡ Some i → r ≡ row t i → symbol_of r ≡ symbol → RowWork.Put i (g r) ≡ w → u ≡ committed w t → Named order symbol g t u
 unfolding committed
 named_by order symbol g t u w i r f q s p e =
     subst (Named order symbol g t)
@@ -80,7 +78,7 @@ named_by order symbol g t u w i r f q s p e =
     (put_named order symbol g t i f (ap symbol_of (sym q) ∙ s))
 
 -- a message that names an order: what its plan puts, and what that plan tried of the order
-named_done : (ed : Edition) (m : Body) (order symbol : ℕ) (f : ℕ → Row → Plan) (g : Row → Row) (P : Row → Type 0) → ((i : ℕ) (r : Row) (w : Works) → f i r ≡ Go w → P r × (RowWork.Put i (g r) ≡ w.orders))
+named_done : (ed : Edition) (m : Body) (order symbol : ℕ) (f : ℕ → Row → Plan) (g : Row → Row) (P : Row → Type 0) → ((i : ℕ) (r : Row) (w : Works) → f i r ≡ Ok w → P r × (RowWork.Put i (g r) ≡ w.orders))
     → (n : ℕ) (b : List ℕ) (k : Book) → read_body ed b ≡ m → (applied ed n b k).rule ≡ 0
     → plan_by m n b k.clock (scans k) ≡ of_known (find_symbol symbol (entries k.symbols)) (λ e. upon (target (order_in order k.orders) symbol) f)
     → (d : Named order symbol g k.orders (applied ed n b k).after.orders) × P (row k.orders d.place)
@@ -89,7 +87,7 @@ named_done ed m order symbol f g P puts n b k e z plan =
     let d = done ed m n b k e z in
     let known = goes_known (find_symbol symbol (entries k.symbols)) (λ e. upon (target (order_in order t) symbol) f) d.does (sym plan ∙ d.plan_is) in
     let x = goes_owned (order_in order t) symbol f d.does known.2 in
-    let q = owner order symbol k (Go d.does) f x in
+    let q = owner order symbol k (Ok d.does) f x in
     let y = puts x.place x.held d.does x.goes in
     let v = named_by order symbol g t (applied ed n b k).after.orders d.does.orders x.place x.held q.0 q.1 x.its_symbol y.1 d.orders_are in
     let i : v.place ≡ x.place = cc (v.lowest_live, q.0) in
@@ -120,7 +118,7 @@ module _ (ed : Edition) (m : AddOrder) (n : ℕ) where
 
   module _ (b : List ℕ) (k : Book) (e : read_body ed b ≡ Body.Add m) where
     -- it applies where its symbol is known, its order ID is not live and a row is free
-    pub add_applies : (x y : ℕ) → find_symbol m.symbol (entries k.symbols) ≡ At x → find_order m.order (rows k.orders) ≡ Nothing → find_free (rows k.orders) ≡ At y → (applied ed n b k).rule ≡ 0
+    pub add_applies : (x y : ℕ) → find_symbol m.symbol (entries k.symbols) ≡ Some x → find_order m.order (rows k.orders) ≡ None → find_free (rows k.orders) ≡ Some y → (applied ed n b k).rule ≡ 0
     unfolding plan_by add_plan of_known room_for held_at carried
     add_applies x y s o f =
         let p : planned ed n b k ≡ on_rows k.clock (RowWork.Put y (row_for m n)) = sym (planned_by ed (Body.Add m) n b k e) ∙ rw (s, o, f) refl in
@@ -221,7 +219,7 @@ module _ (ed : Edition) (m : SymbolClear) (n : ℕ) (b : List ℕ) (k : Book) (e
   clear_done =
       let d = done ed (Body.SymbolClear m) n b k e z in
       let g = goes_known (find_symbol m.symbol (entries k.symbols)) (λ e. on_rows k.clock (RowWork.Clear m.symbol)) d.does d.plan_is in
-      let y : works k.clock (RowWork.Clear m.symbol) EntryWork.Keep ≡ d.does = cc g.2 in
+      let y : works k.clock (RowWork.Clear m.symbol) None ≡ d.does = cc g.2 in
       d.orders_are ∙ ap (λ (o : Works). committed o.orders k.orders) (sym y)
 
   pub clear_none : (j : ℕ) → of_symbol m.symbol (row (applied ed n b k).after.orders j) ≡ false
@@ -232,19 +230,19 @@ module _ (ed : Edition) (m : SymbolClear) (n : ℕ) (b : List ℕ) (k : Book) (e
 
 -- ---- Symbol Update: its symbol is known afterwards
 -- its type byte marks an entry in use
-pub update_used : (ed : Edition) (b : List ℕ) → read_body ed b ≡ Body.SymbolUpdate → used b ≡ true
-update_used ed b e = let w = rw e at (read_sound ed b) in used_body b w.0.type_is
+pub update_used : (ed : Edition) (m : SymbolUpdate) (b : List ℕ) → read_body ed b ≡ Body.SymbolUpdate m → used b ≡ true
+update_used ed m b e = let w = rw e at (read_sound ed b) in used_body b w.0.type_is
 
-module _ (ed : Edition) (n : ℕ) (b : List ℕ) (k : Book) (e : read_body ed b ≡ Body.SymbolUpdate) (z : (applied ed n b k).rule ≡ 0) where
+module _ (ed : Edition) (m : SymbolUpdate) (n : ℕ) (b : List ℕ) (k : Book) (e : read_body ed b ≡ Body.SymbolUpdate m) (z : (applied ed n b k).rule ≡ 0) where
   pub record Updated : Type 0 where
     pub place : ℕ
-    pub found : place_for (id_of b) (entries k.symbols) ≡ At place
+    pub found : place_for (id_of b) (entries k.symbols) ≡ Some place
     pub table_is : (applied ed n b k).after.symbols ≡ put_entry k.symbols place b
 
   pub update_done : Updated
   unfolding plan_by entered
   update_done =
-      let d = done ed Body.SymbolUpdate n b k e z in
+      let d = done ed (Body.SymbolUpdate m) n b k e z in
       let g = goes_update k.clock (place_for (id_of b) (entries k.symbols)) d.does d.plan_is in
       record { place = g.0; found = g.1; table_is = d.symbols_are ∙ ap (λ (o : Works). entered o.symbols b k.symbols) (sym g.2) }
 
@@ -252,11 +250,11 @@ module _ (ed : Edition) (n : ℕ) (b : List ℕ) (k : Book) (e : read_body ed b 
   w = update_done
 
   pub update_known : known_symbol (id_of b) (entries (applied ed n b k).after.symbols) ≡ true
-  update_known = rw (w.table_is, entries_put k.symbols w.place b) (known_after b (entries k.symbols) w.place w.found (update_used ed b e))
+  update_known = rw (w.table_is, entries_put k.symbols w.place b) (known_after b (entries k.symbols) w.place w.found (update_used ed m b e))
 
 -- ---- what an update at its place keeps of the entries, every message keeps
 module _ (ed : Edition) (n : ℕ) (b : List ℕ) (k : Book) where
-  pub entries_kept : (P : List (List ℕ) → Type 0) → ((i : ℕ) → place_for (id_of b) (entries k.symbols) ≡ At i → used b ≡ true → P (entries k.symbols) → P (set (entries k.symbols) i (entry_of b)))
+  pub entries_kept : (P : List (List ℕ) → Type 0) → ((i : ℕ) → place_for (id_of b) (entries k.symbols) ≡ Some i → used b ≡ true → P (entries k.symbols) → P (set (entries k.symbols) i (entry_of b)))
       → P (entries k.symbols) → P (entries (applied ed n b k).after.symbols)
   entries_kept P f p = go (ℕ_discrete (applied ed n b k).rule 0)
     where
@@ -264,8 +262,8 @@ module _ (ed : Edition) (n : ℕ) (b : List ℕ) (k : Book) where
       go (yes z) =
           ⊎_elim
           (λ e.
-          let w = update_done ed n b k e z in
-          subst P (sym (ap entries w.table_is ∙ entries_put k.symbols w.place b)) (f w.place w.found (update_used ed b e) p))
+          let w = update_done ed e.0 n b k e.1 z in
+          subst P (sym (ap entries w.table_is ∙ entries_put k.symbols w.place b)) (f w.place w.found (update_used ed e.0 b e.1) p))
           (λ e. subst (λ t. P (entries t)) (sym e) p)
           (symbols_updated ed n b k)
       go (no x) = subst (λ (u : Book). P (entries u.symbols)) (sym (broken_keeps ed n b k x)) p
@@ -277,8 +275,8 @@ module _ (ed : Edition) (n : ℕ) (b : List ℕ) (k : Book) where
   -- ---- live order IDs stay unique
   unique_by : (m : Body) (s : ℕ) → Names m s → read_body ed b ≡ m → (applied ed n b k).rule ≡ 0 → Unique (rows k.orders) → Unique (rows (applied ed n b k).after.orders)
   unique_by (Body.SystemTime _) s h e z v = elim h [ ]
-  unique_by Body.SymbolUpdate s h e z v = elim h [ ]
-  unique_by Body.SystemState s h e z v = elim h [ ]
+  unique_by (Body.SymbolUpdate _) s h e z v = elim h [ ]
+  unique_by (Body.SystemState _) s h e z v = elim h [ ]
   unique_by (Body.TradingStatus _) s h e z v = elim h [ ]
   unique_by (Body.Trade _) s h e z v = elim h [ ]
   unique_by (Body.TradeCancel _) s h e z v = elim h [ ]

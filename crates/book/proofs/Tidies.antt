@@ -1,9 +1,8 @@
 -- Zeroed tables are tidy, and each part of tidy is kept by what a message does to its table; so is the order of first use.
 -- Assumes nothing.
-use mathlib.Core.Path.{◌≡◌, refl, sym, ap, ◌∙◌}
+use mathlib.Core.Path.{◌≡◌, refl, ap, ◌∙◌}
 use mathlib.Core.List.{List, []}
 use Prim.Native.Nat.{ℕ, ◌≤◌}
-use native.Mathlib.Omega.{arith}
 use lib.ListN.{replicate}
 use Rattle.editions.specs.declared.Edition.{Edition}
 use Rattle.wire.specs.Le.{Bytes}
@@ -61,8 +60,8 @@ module _ (ed : Edition) (n : ℕ) (b : List ℕ) (k : Book) (ranked : 1 ≤ n) (
       go : (p : Part) → part_of (read_body ed b) ≡ p → used_ids (applied ed n b k).after ≡ first_use_by p (id_of b) (used_ids k)
       go the_symbols q =
           let e = part_update (group_of (read_body ed b)) q in
-          let w = update_done ed n b k e z in
-          ap ids_in (ap entries w.table_is ∙ entries_put k.symbols w.place b) ∙ ids_kept b (entries k.symbols) w.place w.found (update_used ed b e) t.packed
-      go the_orders q = same (λ e. let y : the_orders ≡ the_symbols = sym q ∙ e in let x : ◌≡◌ {A = ℕ} 0 1 = cc in omega arith)
-      go the_second q = same (λ e. let y : the_second ≡ the_symbols = sym q ∙ e in let x : ◌≡◌ {A = ℕ} 0 1 = cc in omega arith)
-      go no_part q = same (λ e. let y : no_part ≡ the_symbols = sym q ∙ e in let x : ◌≡◌ {A = ℕ} 0 1 = cc in omega arith)
+          let w = update_done ed e.0 n b k e.1 z in
+          ap ids_in (ap entries w.table_is ∙ entries_put k.symbols w.place b) ∙ ids_kept b (entries k.symbols) w.place w.found (update_used ed e.0 b e.1) t.packed
+      go the_orders q = same (λ e. cc)
+      go the_second q = same (λ e. cc)
+      go no_part q = same (λ e. cc)

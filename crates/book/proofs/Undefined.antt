@@ -4,8 +4,7 @@ use Prim.Native.Nat.{ℕ, ◌%◌}
 use mathlib.Core.Path.{◌≡◌, refl, sym, ap, ◌∙◌}
 use mathlib.Core.List.{List}
 use lib.Dec.{eqb}
-use Rattle.facts.specs.declared.Found.{Found}
-use Rattle.facts.specs.declared.Found.TheVariants.{At, Nothing}
+use Rattle.std.specs.Prelude.{Option, Some, None, Ok, Err}
 use Rattle.editions.specs.declared.Edition.{Edition}
 use Rattle.fields.specs.declared.ModifyOrder.{ModifyOrder}
 use Rattle.fields.specs.declared.Body.{Body}
@@ -16,10 +15,7 @@ use Rattle.symbols.specs.Work.{entered}
 use Rattle.orders.specs.declared.RowWork.{RowWork}
 use Rattle.orders.specs.Work.{moves, remade}
 use Rattle.book.specs.declared.Clock.{Clock}
-use Rattle.book.specs.declared.Plan.{Plan}
-use Rattle.book.specs.declared.Target.{Target}
-use Rattle.book.specs.declared.Target.TheVariants.{Order, Rule}
-use Rattle.book.specs.Plan.{on_rows, of_known, target, upon, Finds, modify_plan, plan_by}
+use Rattle.book.specs.Plan.{Plan, Target, on_rows, of_known, target, upon, Finds, modify_plan, plan_by}
 use Rattle.book.specs.Book.{Book, scans, planned, carried, applied}
 use Rattle.book.proofs.Laws.{planned_by, carried_by}
 
@@ -30,12 +26,12 @@ bit_0_plan m x n b c t f e =
     ap (λ (bit : ℕ). of_known (f.entry m.symbol) (λ _. upon (target (f.order m.order) m.symbol) (λ i r. on_rows t (RowWork.Put i (remade m.price m.size (eqb bit 1) n r))))) e
 
 -- and its effect does not hang on the message's bytes
-bytes_unseen : (entry : Found) (order : Target) (w : ℕ → Row → RowWork) (t : Clock) (b c : List ℕ) (k : Book)
+bytes_unseen : (entry : Option ℕ) (order : Target) (w : ℕ → Row → RowWork) (t : Clock) (b c : List ℕ) (k : Book)
     → carried (of_known entry (λ _. upon order (λ i r. on_rows t (w i r)))) c k ≡ carried (of_known entry (λ _. upon order (λ i r. on_rows t (w i r)))) b k
 unfolding of_known upon carried entered
-bytes_unseen Nothing order w t b c k = refl
-bytes_unseen (At e) (Rule q) w t b c k = refl
-bytes_unseen (At e) (Order i r) w t b c k = refl
+bytes_unseen None order w t b c k = refl
+bytes_unseen (Some e) (Err r) w t b c k = refl
+bytes_unseen (Some e) (Ok (i, r)) w t b c k = refl
 
 modify_unseen : (m : ModifyOrder) (n : ℕ) (b c : List ℕ) (k : Book) → carried (plan_by (Body.Modify m) n b k.clock (scans k)) c k ≡ carried (plan_by (Body.Modify m) n b k.clock (scans k)) b k
 unfolding plan_by modify_plan

@@ -1,8 +1,8 @@
 -- A book: the two lent tables and what it has by value; and what a message makes of it.
-use Rattle.std.specs.Prelude.{ℕ, List}
+use Rattle.std.specs.Prelude.{ℕ, List, Option, Ok, Err}
 use Rattle.editions.specs.declared.Edition.{Edition}
 use Rattle.body.specs.Read.{read_body}
-use Rattle.rows.specs.declared.Held.{Held}
+use Rattle.rows.specs.declared.Row.{Row}
 use Rattle.rows.specs.Rows.{rows}
 use Rattle.rows.specs.Find.{find_order, find_free, held_at}
 use Rattle.symbols.specs.Entries.{entries}
@@ -10,8 +10,7 @@ use Rattle.symbols.specs.Find.{find_symbol, place_for}
 use Rattle.symbols.specs.Work.{entered}
 use Rattle.orders.specs.Work.{committed}
 use Rattle.book.specs.declared.Clock.{Clock}
-use Rattle.book.specs.declared.Plan.{Plan}
-use Rattle.book.specs.Plan.{Finds, plan_by}
+use Rattle.book.specs.Plan.{number_of, Plan, Finds, plan_by}
 
 -- what messages change
 pub record Book : Type 0 where
@@ -31,7 +30,7 @@ abbrev pub effect : ℕ → Book → Effect
 effect n k = record { rule = n; after = k }
 
 -- "a search for an ID taking the lowest live row"
-abbrev pub order_in : ℕ → List ℕ → Held
+abbrev pub order_in : ℕ → List ℕ → Option (ℕ × Row)
 order_in id t = held_at (find_order id (rows t)) (rows t)
 
 -- document 01's searches, row by row and entry by entry
@@ -50,8 +49,8 @@ planned ed n b k = plan_by (read_body ed b) n b k.clock (scans k)
 
 -- a broken rule changes nothing; else each table is left by its own work
 unfoldable pub carried : Plan → List ℕ → Book → Effect
-carried (Plan.Stop n) b k = effect n k
-carried (Plan.Go w) b k = effect 0 (book (committed w.orders k.orders) (entered w.symbols b k.symbols) w.clock)
+carried (Err r) b k = effect (number_of r) k
+carried (Ok w) b k = effect 0 (book (committed w.orders k.orders) (entered w.symbols b k.symbols) w.clock)
 
 -- the message with that number and those bytes, applied to the book
 unfoldable pub applied : Edition → ℕ → List ℕ → Book → Effect

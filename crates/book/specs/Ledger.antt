@@ -1,19 +1,19 @@
 -- A ledger: a book with the index that is lent beside it (document 02, No. 9; docs/INDEX.md), and what a message makes of both. The plan is that of Plan, whoever
 -- searched: where no index is lent, the searches are document 01's, and where one is lent, "the second engine's own statement says which rows its searches find".
-use Rattle.std.specs.Prelude.{ℕ, List, Bool, true, false}
-use Rattle.facts.specs.Pick.{pick}
+use Rattle.std.specs.Prelude.{ℕ, List, Option, Result, Ok, Err}
 use Rattle.editions.specs.declared.Edition.{Edition}
-use Rattle.kinds.specs.declared.Kind.{Kind}
 use Rattle.body.specs.Read.{read_body}
-use Rattle.rows.specs.declared.Held.{Held}
+use Rattle.rows.specs.declared.Row.{Row}
 use Rattle.rows.specs.Rows.{rows}
 use Rattle.rows.specs.Find.{held_at}
 use Rattle.symbols.specs.Entries.{entries}
 use Rattle.symbols.specs.Find.{place_for}
 use Rattle.engines.specs.Engines.{order_by, free_by, entry_by, noted, hinted_to}
-use Rattle.book.specs.declared.Plan.{Plan}
-use Rattle.book.specs.Plan.{Finds, plan_by}
-use Rattle.book.specs.Book.{Book, carried}
+use Rattle.book.specs.declared.Clock.{Clock}
+use Rattle.book.specs.declared.Rule.{Rule}
+use Rattle.book.specs.declared.Tables.{Tables}
+use Rattle.book.specs.Plan.{number_of, Plan, Finds, plan_by}
+use Rattle.book.specs.Book.{Book, book, carried}
 
 pub record Ledger : Type 0 where
   pub plain : Book
@@ -21,6 +21,10 @@ pub record Ledger : Type 0 where
 
 abbrev pub ledger : Book → List ℕ → Ledger
 ledger k ix = record { plain = k; index = ix }
+
+-- the ledger that lent tables are, with a clock
+abbrev pub seen : Tables → Clock → Ledger
+seen t c = ledger (book t.orders.now t.symbols.now c) t.index.now
 
 -- the rule that a message breaks, 0 for none, and the ledger after it
 pub record Posting : Type 0 where
@@ -30,8 +34,13 @@ pub record Posting : Type 0 where
 abbrev pub posting : ℕ → Ledger → Posting
 posting n l = record { rule = n; after = l }
 
+-- what is told of a message: the clock after it, or the rule that it breaks and the clock as it was; the tables and the index are as they were left
+abbrev pub told : Result Clock Rule → Ledger → Posting
+told (Ok c) l = posting 0 (ledger (book l.plain.orders l.plain.symbols c) l.index)
+told (Err r) l = posting (number_of r) l
+
 -- the order that stands under an ID
-abbrev pub order_for : List ℕ → ℕ → List ℕ → Held
+abbrev pub order_for : List ℕ → ℕ → List ℕ → Option (ℕ × Row)
 order_for ix id t = held_at (order_by ix id (rows t)) (rows t)
 
 -- the searches of both engines; the entry that a Symbol Update takes is searched in the table
@@ -48,33 +57,14 @@ looks l =
 unfoldable pub devised : Edition → ℕ → List ℕ → Ledger → Plan
 devised ed n b l = plan_by (read_body ed b) n b l.plain.clock (looks l)
 
--- the messages that name an order: its symbol stands at 5 and its ID at 9, whichever of them it is
-unfoldable pub names_order : Kind → Bool
-names_order Kind.SystemTime = false
-names_order Kind.SymbolUpdate = false
-names_order Kind.SystemState = false
-names_order Kind.TradingStatus = false
-names_order Kind.SymbolClear = false
-names_order Kind.Add = true
-names_order Kind.Modify = true
-names_order Kind.Delete = true
-names_order Kind.Execution = true
-names_order Kind.Trade = false
-names_order Kind.TradeCancel = false
-names_order Kind.Unknown = false
-
 -- a broken rule leaves the index; else each table's work leaves it its own way
 unfoldable pub index_after : Plan → List ℕ → Ledger → List ℕ
-index_after (Plan.Stop n) b l = l.index
-index_after (Plan.Go w) b l = hinted_to w.symbols b (noted w.orders (rows l.plain.orders) l.index)
+index_after (Err r) b l = l.index
+index_after (Ok w) b l = hinted_to w.symbols b (noted w.orders (rows l.plain.orders) l.index)
 
 -- a plan carried out: the book as without an index, and the index
 abbrev pub posts : Plan → List ℕ → Ledger → Posting
 posts p b l = posting (carried p b l.plain).rule (ledger (carried p b l.plain).after (index_after p b l))
-
--- a plan tried: carried out where that is wanted; else its rule is told, and nothing is changed
-unfoldable pub tried : Bool → Plan → List ℕ → Ledger → Posting
-tried wanted p b l = pick wanted (posts p b l) (posting (carried p b l.plain).rule l)
 
 -- the message with that number and those bytes, applied to the ledger
 unfoldable pub posted : Edition → ℕ → List ℕ → Ledger → Posting

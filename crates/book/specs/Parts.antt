@@ -11,7 +11,7 @@ unfoldable pub part_of : Body → Part
 -- "System Time sets the current second"
 part_of (Body.SystemTime s) = the_second
 -- "Symbol Update replaces that symbol's entry, or takes the lowest free one"
-part_of Body.SymbolUpdate = the_symbols
+part_of (Body.SymbolUpdate m) = the_symbols
 -- an order comes, changes or goes
 part_of (Body.Add m) = the_orders
 part_of (Body.Modify m) = the_orders
@@ -19,7 +19,7 @@ part_of (Body.Delete m) = the_orders
 part_of (Body.Execution m) = the_orders
 part_of (Body.SymbolClear m) = the_orders
 -- "The other four apply without changing a table"
-part_of Body.SystemState = no_part
+part_of (Body.SystemState m) = no_part
 part_of (Body.TradingStatus m) = no_part
 part_of (Body.Trade m) = no_part
 part_of (Body.TradeCancel m) = no_part

@@ -20,11 +20,10 @@ use Rattle.wire.proofs.Laws.{le_to_le}
 use Rattle.layout.specs.Shape.{number, cut, joined}
 use Rattle.layout.proofs.Laws.{joined_cut}
 use Rattle.packet.specs.Packet.{read_packet}
-use Rattle.packet.specs.declared.Packet.{Packet}
+use Rattle.std.specs.Prelude.{Ok}
 use Rattle.packet.proofs.Good.{good_framing, framing_size}
 use Rattle.trips.specs.Records.{length_first}
 use Rattle.writer.specs.Append.{writing, room_number, packet_appended}
-use Rattle.writer.specs.declared.Wrote.{Wrote}
 use Rattle.writer.specs.Behind.{next_to}
 use Rattle.writer.proofs.Laws.{length_first_lem, put_stored, good_here}
 use Rattle.writer.proofs.Behind.{stored_is}
@@ -72,7 +71,7 @@ room_there : (room new : ℕ) → room_number room new ≡ 0 → new ≤ room
 unfolding room_number
 room_there room new e = elim (pick_cases e) [ inl h ↦ leb-true new room h.0 | inr h ↦ absurd (omega (arith, h.1)) ]
 
-pub recording_grows : (ed : Edition) (m : List ℕ) (at : ℕ) (p : List ℕ) (l : ℕ) (w : List ℕ) → packet_appended ed m at p ≡ writing (Wrote.Length l) w → rest_of (take at m) ≡ [] → OneMore m at p l w
+pub recording_grows : (ed : Edition) (m : List ℕ) (at : ℕ) (p : List ℕ) (l : ℕ) (w : List ℕ) → packet_appended ed m at p ≡ writing (Ok l) w → rest_of (take at m) ≡ [] → OneMore m at p l w
 unfolding packet_appended
 recording_grows ed m at p l w e r =
     let s : List ℕ = length_first p in
@@ -129,7 +128,7 @@ pub recording_written : (t : List ℕ) → Bytes t → rest_of t ≡ [] → reco
 recording_written t h e = laid_bytes (packets_of t) t h (subst (Laid (packets_of t) t) e (packets_laid t).0)
 
 -- ---- packet by packet
-one_written : (ed : Edition) (m : List ℕ) (at : ℕ) (p : List ℕ) (n : ℕ) → read_packet ed p ≡ Packet.Good n → at + length (length_first p) ≤ length m → packet_appended ed m at p ≡ writing (Wrote.Length (at + length (length_first p))) (sets m at (length_first p))
+one_written : (ed : Edition) (m : List ℕ) (at : ℕ) (p : List ℕ) (n : ℕ) → read_packet ed p ≡ Ok n → at + length (length_first p) ≤ length m → packet_appended ed m at p ≡ writing (Ok (at + length (length_first p))) (sets m at (length_first p))
 unfolding packet_appended room_number pick
 one_written ed m at p n e room =
     let s : List ℕ = length_first p in
@@ -137,7 +136,7 @@ one_written ed m at p n e room =
     let z : k ≡ 0 = rw (le-leb (at + length s) (length m) room) refl in
     sym (good_here (read_packet ed p) k m at s n (omega arith) e) ∙ sym (put_stored k m at s z)
 
-packets_written : (ed : Edition) (ps : List (List ℕ)) (m : List ℕ) (at : ℕ) → AllTaken ed ps → at + length (recording_bytes ps) ≤ length m → packets_appended ed ps m at ≡ writing (Wrote.Length (at + length (recording_bytes ps))) (sets m at (recording_bytes ps))
+packets_written : (ed : Edition) (ps : List (List ℕ)) (m : List ℕ) (at : ℕ) → AllTaken ed ps → at + length (recording_bytes ps) ≤ length m → packets_appended ed ps m at ≡ writing (Ok (at + length (recording_bytes ps))) (sets m at (recording_bytes ps))
 unfolding packets_appended next_to recording_bytes
 packets_written ed [] m at h room = rw (add-zero at) refl
 packets_written ed (p ∷ ps) m at h room =
@@ -150,9 +149,9 @@ packets_written ed (p ∷ ps) m at h room =
     ap (next_to (packets_appended ed ps)) one ∙ (rest ∙ rw (← sets_append s q m at, add_assoc at (length s) (length q), long) refl)
 
 -- a whole recording of packets that a reader takes, written packet by packet from nothing, is that recording
-pub packet_by_packet : (ed : Edition) (t m : List ℕ) → Bytes t → rest_of t ≡ [] → AllTaken ed (packets_of t) → length t ≤ length m → packets_appended ed (packets_of t) m 0 ≡ writing (Wrote.Length (length t)) (t ++ drop (length t) m)
+pub packet_by_packet : (ed : Edition) (t m : List ℕ) → Bytes t → rest_of t ≡ [] → AllTaken ed (packets_of t) → length t ≤ length m → packets_appended ed (packets_of t) m 0 ≡ writing (Ok (length t)) (t ++ drop (length t) m)
 packet_by_packet ed t m h e a l =
     let is : recording_bytes (packets_of t) ≡ t = recording_written t h e in
     let room : 0 + length (recording_bytes (packets_of t)) ≤ length m = rw is (omega arith) in
     packets_written ed (packets_of t) m 0 a room
-    ∙ rw (is, zero-add (length t)) (ap (writing (Wrote.Length (length t))) (sets-eq t m 0 (omega arith) ∙ rw (zero-add (length t)) refl))
+    ∙ rw (is, zero-add (length t)) (ap (writing (Ok (length t))) (sets-eq t m 0 (omega arith) ∙ rw (zero-add (length t)) refl))

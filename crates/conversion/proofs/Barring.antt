@@ -24,18 +24,19 @@ use Rattle.body.specs.Ranges.{nanos_ok, security_ok, test_ok, one_of}
 use Rattle.body.specs.Faults.{tests, fault_from, fault_of}
 use Rattle.body.specs.Read.{ranged, judge_body, judged_number, good_body}
 use Rattle.body.specs.Editions.{IsUpdate}
-use Rattle.body.specs.declared.Judged.{Judged}
+use Rattle.std.specs.Prelude.{Result, Ok, Err}
+use Rattle.fields.specs.declared.Fault.{Fault}
 use Rattle.body.proofs.Laws.{Framed, framed_is, judge_framed, good_framed, JudgedAs, judge_sound, Judgement, good as is_good, bad as is_bad, judgement, AllHold}
 use Rattle.body.proofs.Editions.{older_alike}
 use Rattle.packet.specs.Record.{number_ok, head_of, body_of, rec_of, body_judged, read_record}
-use Rattle.packet.specs.Packet.{Why, placed, Framing, frames_from, framing}
+use Rattle.packet.specs.Packet.{Framing, frames_from, framing}
 use Rattle.packet.specs.Front.{Reached, at_front, past_good}
 use Rattle.packet.specs.Editions.{TypeRefused}
 use Rattle.packet.specs.declared.Head.{Head}
-use Rattle.packet.specs.declared.Record.{Record}
 use Rattle.packet.proofs.Laws.{GoodRec, Held, record_held, whole_record, body_length, body_past, first_bad}
 use Rattle.packet.proofs.Good.{Step, step, framing_size}
 use Rattle.packet.proofs.Editions.{older_packet, newer_packet}
+use Rattle.packet.specs.declared.Why.{Why}
 use Rattle.retype.specs.Retyped.{Asked}
 use Rattle.conversion.specs.Piece.{barred}
 use Rattle.conversion.specs.Kept.{Barring}
@@ -48,7 +49,7 @@ module _ (b : List ℕ) (g : good_body Edition.V13b b ≡ true) (u : IsUpdate b)
     where
       go : Judgement Edition.V13b b → nanos_ok (field b 1 4) ≡ true
       go (is_good k e q z) =
-          let h : JudgedAs Edition.V13b (Judged.Good k) b = subst (λ (r : Judged). JudgedAs Edition.V13b r b) e (judge_sound Edition.V13b b) in
+          let h : JudgedAs Edition.V13b (Ok k) b = subst (λ (r : Result Kind Fault). JudgedAs Edition.V13b r b) e (judge_sound Edition.V13b b) in
           let all : AllHold (shapes Kind.SymbolUpdate) (tests Edition.V13b Kind.SymbolUpdate) (fields_in Kind.SymbolUpdate b) = subst (λ (x : Kind). AllHold (shapes x) (tests Edition.V13b x) (fields_in x b)) (h.0 ∙ u) h.2 in
           all.0
       go (is_bad f e q h) = absurd (true≢false (sym g ∙ q))
@@ -79,7 +80,7 @@ module _ (b : List ℕ) (g : good_body Edition.V13b b ≡ true) (u : IsUpdate b)
       let gone : get_or c 21 0 ≡ 0 = get_or-set_same b 21 0 0 (omega (arith, update_length)) in
       rw (stamp, gone) refl
 
-  barred_body : judge_body Edition.V13b c ≡ Judged.Bad (bad_at 4 21)
+  barred_body : judge_body Edition.V13b c ≡ Err (bad_at 4 21)
   unfolding ranged pick
   barred_body = judge_framed Edition.V13b Kind.SymbolUpdate c framed_c ∙ rw fault_c refl
 
@@ -121,18 +122,18 @@ module _ (p : List ℕ) (at j x : ℕ) where
   sizes_kept : length v ≡ length t
   sizes_kept = ap length set_behind ∙ length-set t j x
 
-pub record_kept : (p : List ℕ) (at j x : ℕ) (h : Head) → read_record Edition.V13 (drop at p) ≡ Record.Good h → 10 + h.len ≤ j → read_record Edition.V13b (drop at (set p (at + j) x)) ≡ Record.Good h
+pub record_kept : (p : List ℕ) (at j x : ℕ) (h : Head) → read_record Edition.V13 (drop at p) ≡ Ok h → 10 + h.len ≤ j → read_record Edition.V13b (drop at (set p (at + j) x)) ≡ Ok h
 unfolding good_body
 record_kept p at j x h e l =
-    let s : Held Edition.V13 (Record.Good h) (t p at j x) = subst (λ (r : Record). Held Edition.V13 r (drop at p)) e (record_held Edition.V13 (drop at p)) in
+    let s : Held Edition.V13 (Ok h) (t p at j x) = subst (λ (r : Result Head Fault). Held Edition.V13 r (drop at p)) e (record_held Edition.V13 (drop at p)) in
     let len_is : h.len ≡ field (t p at j x) 8 2 = ap (λ (y : Head). y.len) s.0 in
     let heads = heads_kept p at j x (omega arith) in
     let body = body_kept p at j x (omega (arith, len_is)) in
-    let good_b : good_body Edition.V13b (body_of (t p at j x)) ≡ true = ap (λ (y : Judged). eqb (judged_number y) 0) (older_alike (body_of (t p at j x)) s.2.body_good) ∙ s.2.body_good in
+    let good_b : good_body Edition.V13b (body_of (t p at j x)) ≡ true = ap (λ (y : Result Kind Fault). eqb (judged_number y) 0) (older_alike (body_of (t p at j x)) s.2.body_good) ∙ s.2.body_good in
     let g : GoodRec Edition.V13b (rec_of (t p at j x)) = record { number_from = s.2.number_from; number_to = s.2.number_to; body_good = good_b } in
     let rec_is : rec_of (v p at j x) ≡ rec_of (t p at j x) = λ i. rec (heads i).number (body i) in
     let w : 10 + field (v p at j x) 8 2 ≤ length (v p at j x) = omega (arith, sizes_kept p at j x, head_kept p at j x 8 2 (omega arith) (omega arith), s.1, len_is) in
-    good_read Edition.V13b (v p at j x) w (subst (GoodRec Edition.V13b) (sym rec_is) g) ∙ ap Record.Good (heads ∙ sym s.0)
+    good_read Edition.V13b (v p at j x) w (subst (GoodRec Edition.V13b) (sym rec_is) g) ∙ ap Ok (heads ∙ sym s.0)
 
 -- so all records before the fault are
 pub front_kept : (p : List ℕ) (n x : ℕ) (at : ℕ) → Reached Edition.V13 p at → at ≤ n → Reached Edition.V13b (set p n x) at
@@ -152,7 +153,7 @@ front_left p cs e _ at_front = record { others = cs; left = e }
 front_left p cs e _ (past_good at h r l g) =
     let y : Left p at = front_left p cs e at r in
     let s : Step Edition.V13b p at y.others = step Edition.V13b p at y.others l y.left in
-    let k : Held Edition.V13 (Record.Good h) (drop at p) = subst (λ (x : Record). Held Edition.V13 x (drop at p)) g (record_held Edition.V13 (drop at p)) in
+    let k : Held Edition.V13 (Ok h) (drop at p) = subst (λ (x : Result Head Fault). Held Edition.V13 x (drop at p)) g (record_held Edition.V13 (drop at p)) in
     record { others = s.others; left = ap (λ (x : Head). frames_from Edition.V13b (length p) (drop (at + (10 + x.len)) p)) k.0 ∙ s.next }
 
 no_body : (p : List ℕ) (at : ℕ) → length p ≤ at → IsUpdate (body_of (drop at p)) → ⊥
@@ -197,16 +198,16 @@ module _ (p : List ℕ) (cs : List Rec) (e : framing Edition.V13b p ≡ records 
   heads_now : head_of (drop x.at barred_p) ≡ head_of here
   heads_now = heads_kept p x.at 31 0 (omega arith)
 
-  told_there : read_record Edition.V13b (drop x.at barred_p) ≡ Record.Bad (bad_at 4 31)
+  told_there : read_record Edition.V13b (drop x.at barred_p) ≡ Err (bad_at 4 31)
   unfolding body_judged
   told_there =
       let len_now : (head_of (drop x.at barred_p)).len ≡ (head_of here).len = ap (λ (h : Head). h.len) heads_now in
       let w : 10 + (head_of (drop x.at barred_p)).len ≤ length (drop x.at barred_p) = omega (arith, len_now, sizes_kept p x.at 31 0, whole_here) in
       let n : number_ok (head_of (drop x.at barred_p)).number ≡ true = ap (λ (h : Head). number_ok h.number) heads_now ∙ number_good Edition.V13b (rec_of here) its_step.good in
       whole_record Edition.V13b (drop x.at barred_p) w n
-      ∙ ap (λ (j : Judged). body_judged j (head_of (drop x.at barred_p))) (ap (judge_body Edition.V13b) body_now ∙ barred_body (body_of here) its_step.good.body_good x.unlettered.update)
+      ∙ ap (λ (j : Result Kind Fault). body_judged j (head_of (drop x.at barred_p))) (ap (judge_body Edition.V13b) body_now ∙ barred_body (body_of here) its_step.good.body_good x.unlettered.update)
 
-  pub barred_there : framing Edition.V13b barred_p ≡ bad (placed (bad_at 4 (x.at + 31)))
+  pub barred_there : framing Edition.V13b barred_p ≡ bad (Why.Placed (bad_at 4 (x.at + 31)))
   barred_there = first_bad Edition.V13b barred_p x.at (bad_at 4 31) (rw length-set size.1) (rw length-set inside) (front_kept p (x.at + 31) 0 x.at x.reached (omega arith)) told_there
 
 -- ---- what is barred
@@ -217,8 +218,8 @@ module _ (a : Asked) (p : List ℕ) (w : Why) (cs : List Rec) where
   so_barred : a.to ≡ Edition.V13b → framing Edition.V13b p ≡ records cs → TypeRefused p → framing Edition.V13 p ≡ bad w → Barring Edition.V13 a w p
   unfolding barred
   so_barred j f x e =
-      let q : ◌≡◌ {A = Framing} (bad w) (bad (placed (bad_at 4 (x.at + 30)))) = sym e ∙ x.refused in
-      let y : w ≡ placed (bad_at 4 (x.at + 30)) = cc in
+      let q : ◌≡◌ {A = Framing} (bad w) (bad (Why.Placed (bad_at 4 (x.at + 30)))) = sym e ∙ x.refused in
+      let y : w ≡ Why.Placed (bad_at 4 (x.at + 30)) = cc in
       let one_on : x.at + 31 ≡ x.at + 30 + 1 = omega arith in
       record {
         from_13 = refl;
@@ -230,7 +231,7 @@ module _ (a : Asked) (p : List ℕ) (w : Why) (cs : List Rec) where
             ∙ ap (λ (ed : Edition). framing ed (set p (x.at + 30 + 1) 0)) j
             ∙ ap (λ (n : ℕ). framing Edition.V13b (set p n 0)) (sym one_on)
             ∙ barred_there p cs f x
-            ∙ ap (λ (n : ℕ). bad (placed (bad_at 4 n))) one_on;
+            ∙ ap (λ (n : ℕ). bad (Why.Placed (bad_at 4 n))) one_on;
       }
 
   newer_barred : a.to ≡ Edition.V13b → framing Edition.V13b p ≡ records cs → framing Edition.V13 p ≡ bad w → (framing Edition.V13 p ≡ records cs) ⊎ TypeRefused p → Barring Edition.V13 a w p

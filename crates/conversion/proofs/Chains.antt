@@ -16,11 +16,12 @@ use Rattle.editions.specs.declared.Edition.{Edition}
 use Rattle.wire.specs.Le.{le, field}
 use Rattle.wire.proofs.Laws.{field_same}
 use Rattle.wire.specs.Records.{Rec, rec, records}
-use Rattle.body.specs.declared.Judged.{Judged}
+use Rattle.std.specs.Prelude.{Result, Ok}
+use Rattle.fields.specs.declared.Fault.{Fault}
+use Rattle.kinds.specs.declared.Kind.{Kind}
 use Rattle.body.proofs.Laws.{Judgement, good, bad, judgement}
 use Rattle.packet.specs.Record.{number_ok, head_of, body_of, rec_of, body_judged, read_record}
 use Rattle.packet.specs.Packet.{before, behind, frames_from, framing}
-use Rattle.packet.specs.declared.Record.{Record}
 use Rattle.packet.proofs.Laws.{GoodRec, whole_record, enough, frames_step}
 use Rattle.packet.proofs.Good.{Step, step, step_end, framing_size}
 
@@ -68,12 +69,12 @@ module _ (ed : Edition) where
   unfolding number_ok both
   number_good c g = rw (le-leb 1 _ g.number_from, le-leb _ last_number g.number_to) refl
 
-  pub good_read : (t : List ℕ) → 10 + field t 8 2 ≤ length t → GoodRec ed (rec_of t) → read_record ed t ≡ Record.Good (head_of t)
+  pub good_read : (t : List ℕ) → 10 + field t 8 2 ≤ length t → GoodRec ed (rec_of t) → read_record ed t ≡ Ok (head_of t)
   unfolding body_judged
   good_read t w g = by_judge (judgement ed (body_of t))
     where
-      by_judge : Judgement ed (body_of t) → read_record ed t ≡ Record.Good (head_of t)
-      by_judge (good k e q z) = whole_record ed t w (number_good (rec_of t) g) ∙ ap (λ (j : Judged). body_judged j (head_of t)) e
+      by_judge : Judgement ed (body_of t) → read_record ed t ≡ Ok (head_of t)
+      by_judge (good k e q z) = whole_record ed t w (number_good (rec_of t) g) ∙ ap (λ (j : Result Kind Fault). body_judged j (head_of t)) e
       by_judge (bad f e q h) = absurd (true≢false (sym g.body_good ∙ q))
 
   pub chain_frames : (t : List ℕ) (cs : List Rec) → Chain ed t cs → frames_from ed (length t) t ≡ records cs

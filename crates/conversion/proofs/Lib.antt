@@ -6,3 +6,4 @@ pub mod Passing
 pub mod Exits
 pub mod Pieces
 pub mod Recordings
+pub mod Named

@@ -7,13 +7,14 @@ use mathlib.Core.List.{List}
 use Rattle.editions.specs.declared.Edition.{Edition}
 use Rattle.wire.specs.Records.{bad, records}
 use Rattle.fields.specs.Fields.{bad_at}
-use Rattle.packet.specs.Packet.{placed, Framing, framing}
+use Rattle.packet.specs.Packet.{Framing, framing}
 use Rattle.retype.specs.Types.{types_ok}
 use Rattle.retype.specs.Retyped.{Asked}
 use Rattle.conversion.specs.Piece.{passed_by, passed}
 use Rattle.conversion.specs.Kept.{Becomes, taken, refused, Barring}
 use Rattle.conversion.proofs.Rewriting.{rewritten_good}
 use Rattle.conversion.proofs.Barring.{barred_refused}
+use Rattle.packet.specs.declared.Why.{Why}
 
 module _ (from : Edition) (a : Asked) (p : List ℕ) where
   -- by what both readers say of it
@@ -30,4 +31,4 @@ module _ (from : Edition) (a : Asked) (p : List ℕ) where
       go (bad w) (bad v) e f = refused w v e (ap (framing a.to) (passed_by_lem (bad w) (bad v) e f) ∙ f)
       go (bad w) (records cs) e f =
           let b : Barring from a w p = barred_refused a p w cs from e f in
-          refused w (placed (bad_at 4 (b.at + 1))) e (ap (framing a.to) (passed_by_lem (bad w) (records cs) e f) ∙ b.barred_so)
+          refused w (Why.Placed (bad_at 4 (b.at + 1))) e (ap (framing a.to) (passed_by_lem (bad w) (records cs) e f) ∙ b.barred_so)

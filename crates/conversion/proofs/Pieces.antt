@@ -16,14 +16,15 @@ use Rattle.facts.proofs.SumLaws.{count_bound}
 use Rattle.editions.specs.declared.Edition.{Edition}
 use Rattle.wire.specs.Le.{field}
 use Rattle.wire.specs.Records.{Rec, bad, records}
-use Rattle.packet.specs.Packet.{alone, placed, Framing, framing}
+use Rattle.packet.specs.Packet.{Framing, framing}
 use Rattle.retype.specs.Retyped.{Asked, is_update}
 use Rattle.conversion.specs.Packet.{updates_in}
 use Rattle.conversion.specs.Piece.{barred, Passing, passing, passed_by, passed, tally, tally_of, plus, Piece, piece, whole_front, packet_in_front, ahead, piece_from, piece_of, turned, pieced, Countable}
 use Rattle.conversion.specs.Kept.{after}
 use Rattle.conversion.specs.declared.Passed.{Passed}
 use Rattle.conversion.specs.declared.Tally.{Tally}
-use Rattle.conversion.specs.declared.Pieced.{Pieced}
+use Rattle.std.specs.Prelude.{Ok}
+use Rattle.packet.specs.declared.Why.{Why}
 use Rattle.conversion.proofs.Chains.{Chain, none, one, packet_chain}
 use Rattle.conversion.proofs.Turns.{rewritten_length, pasted_front, pasted_rest, pasted_size}
 
@@ -71,8 +72,8 @@ module _ (from : Edition) (a : Asked) where
       let most : updates_in cs ≤ length cs = count_bound (λ (c : Rec). is_update c.body) cs in
       (rewritten_length a p, (omega (arith, most, chain_count from p cs (packet_chain from p cs e)), omega arith, omega arith))
   by_framing p (bad w) (bad v) e = (refl, (omega arith, omega arith, omega arith))
-  by_framing p (bad (alone r)) (records cs) e = (refl, (omega arith, omega arith, omega arith))
-  by_framing p (bad (placed f)) (records cs) e = (length-set p (f.at + 1) 0, (omega arith, omega arith, omega arith))
+  by_framing p (bad (Why.Alone r)) (records cs) e = (refl, (omega arith, omega arith, omega arith))
+  by_framing p (bad (Why.Placed f)) (records cs) e = (length-set p (f.at + 1) 0, (omega arith, omega arith, omega arith))
 
   -- a packet of a recording keeps its length
   pub passed_length : (p : List ℕ) → length (passed from a p).packet ≡ length p
@@ -134,7 +135,7 @@ module _ (from : Edition) (a : Asked) where
   pub went_none : (b : List ℕ) → Went b b 0 (tally 0 0 0)
   went_none b = record { as_it_was = refl; comes_to = λ i. piece (sym (zero-add (piece_of from a b).done) i) (none_plus (piece_of from a b).counts i) (piece_of from a b).bytes }
 
-  pub went_end : (b₀ b : List ℕ) (at : ℕ) (t : Tally) → Went b₀ b at t → length (drop at b) < 2 + field b at 2 → turned (Pieced.Done at t) b ≡ pieced (piece_of from a b₀)
+  pub went_end : (b₀ b : List ℕ) (at : ℕ) (t : Tally) → Went b₀ b at t → length (drop at b) < 2 + field b at 2 → turned (Ok (at, t)) b ≡ pieced (piece_of from a b₀)
   unfolding field
   went_end b₀ b at t w l =
       let u : List ℕ = drop at b₀ in

@@ -3,10 +3,11 @@ use Rattle.std.specs.Prelude.{ℕ, ◌+◌, ◌≡◌, true, List, [], ◌∷◌
 use Rattle.editions.specs.declared.Edition.{Edition}
 use Rattle.wire.specs.Records.{Rec, rec, bad, records}
 use Rattle.fields.specs.Fields.{bad_at}
-use Rattle.packet.specs.Packet.{Why, placed, framing}
+use Rattle.packet.specs.Packet.{framing}
 use Rattle.retype.specs.Retyped.{Asked, is_update, new_byte, retyped}
 use Rattle.conversion.specs.Piece.{barred, passed, plus, Piece, piece}
 use Rattle.conversion.specs.declared.Tally.{Tally}
+use Rattle.packet.specs.declared.Why.{Why}
 
 -- the same record in the edition asked for: its number as it is, its body with byte 20 of a Symbol Update as that edition has it
 abbrev pub rec_to : Asked → Rec → Rec
@@ -34,5 +35,5 @@ pub record Barring (from : Edition) (a : Asked) (w : Why) (p : List ℕ) : Type 
   pub from_13 : from ≡ Edition.V13
   pub to_13b : a.to ≡ Edition.V13b
   pub at : ℕ
-  pub why_is : w ≡ placed (bad_at 4 at)
-  pub barred_so : framing a.to (barred w p) ≡ bad (placed (bad_at 4 (at + 1)))
+  pub why_is : w ≡ Why.Placed (bad_at 4 at)
+  pub barred_so : framing a.to (barred w p) ≡ bad (Why.Placed (bad_at 4 (at + 1)))

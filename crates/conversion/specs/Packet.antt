@@ -1,5 +1,5 @@
 -- A packet of one edition as a packet of another: the same records, with byte 20 of each Symbol Update as that edition has it, and nothing else.
-use Rattle.std.specs.Prelude.{ℕ, zero, suc, ◌+◌, ◌≡◌, List, ◌++◌, length, take, drop, ltb}
+use Rattle.std.specs.Prelude.{ℕ, zero, suc, ◌+◌, ◌≡◌, List, ◌++◌, length, take, drop, ltb, Result, Ok, Err}
 use Rattle.facts.specs.Pick.{pick}
 use Rattle.facts.specs.Sums.{count_by}
 use Rattle.editions.specs.declared.Edition.{Edition}
@@ -7,10 +7,10 @@ use Rattle.wire.specs.Le.{field}
 use Rattle.wire.specs.Records.{Rec, bad, records}
 use Rattle.fields.specs.Fields.{refusal}
 use Rattle.packet.specs.Record.{body_of}
-use Rattle.packet.specs.Packet.{Why, alone, placed, Framing, framing}
+use Rattle.packet.specs.Packet.{Framing, framing}
 use Rattle.retype.specs.Types.{whole_exceptions, types_ok}
 use Rattle.retype.specs.Retyped.{Asked, is_update, retyped}
-use Rattle.conversion.specs.declared.Converted.{Converted}
+use Rattle.packet.specs.declared.Why.{Why}
 
 -- the record in front: its number and length as they are, then its body
 unfoldable pub record_to : Asked → List ℕ → List ℕ
@@ -31,20 +31,16 @@ updates_in cs = count_by (λ c. is_update c.body) cs
 
 -- an answer, and the packet after it
 pub record Conversion : Type 0 where
-  pub answer : Converted
+  pub answer : Result ℕ Why
   pub packet : List ℕ
 
-abbrev pub conversion : Converted → List ℕ → Conversion
+abbrev pub conversion : Result ℕ Why → List ℕ → Conversion
 conversion c p = record { answer = c; packet = p }
 
 -- "A packet is refused as the reader of the edition `from` refuses it, by number and offset .., and keeps every byte" (docs/CONVERT.md)
-abbrev pub refused_by : Why → Converted
-refused_by (alone r) = Converted.Refused r
-refused_by (placed f) = Converted.Bad f
-
 unfoldable pub converted_by : Asked → Framing → List ℕ → Conversion
-converted_by a (bad w) p = conversion (refused_by w) p
-converted_by a (records cs) p = conversion (Converted.Updates (updates_in cs)) (rewritten a p)
+converted_by a (bad w) p = conversion (Err w) p
+converted_by a (records cs) p = conversion (Ok (updates_in cs)) (rewritten a p)
 
 -- what is asked for is judged before the packet: 6 for exceptions that are not whole, 4 for a type that is none
 unfoldable pub judged_first : {A : Type 0} → Asked → (ℕ → A) → A → A
@@ -53,13 +49,13 @@ judged_first a refuses x =
 
 -- a packet of the edition `from`
 unfoldable pub converted : Edition → Asked → List ℕ → Conversion
-converted from a p = judged_first a (λ n. conversion (Converted.Refused (refusal n)) p) (converted_by a (framing from p) p)
+converted from a p = judged_first a (λ n. conversion (Err (Why.Alone (refusal n))) p) (converted_by a (framing from p) p)
 
 -- document 01's number of each answer, 0 for a packet that was rewritten
-abbrev pub converted_number : Converted → ℕ
-converted_number (Converted.Updates n) = 0
-converted_number (Converted.Refused r) = r.number
-converted_number (Converted.Bad f) = f.number
+abbrev pub converted_number : Result ℕ Why → ℕ
+converted_number (Ok n) = 0
+converted_number (Err (Why.Alone r)) = r.number
+converted_number (Err (Why.Placed f)) = f.number
 
 -- ---- inside: a good packet of some edition, which is rewritten
 pub record IsPacket (p : List ℕ) : Type 0 where

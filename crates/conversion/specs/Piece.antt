@@ -1,23 +1,24 @@
 -- A recording of one edition as a recording of another, a piece at a time: packets, each behind its length in two bytes.
-use Rattle.std.specs.Prelude.{ℕ, zero, suc, ◌+◌, ◌^◌, ◌<◌, Bool, List, ◌++◌, length, take, drop, set, leb}
+use Rattle.std.specs.Prelude.{ℕ, zero, suc, ◌+◌, ◌^◌, ◌<◌, Bool, List, ◌++◌, length, take, drop, set, leb, Result, Ok, Err}
 use Rattle.facts.specs.Pick.{pick, both}
 use Rattle.editions.specs.declared.Edition.{Edition}
 use Rattle.wire.specs.Le.{field}
 use Rattle.wire.specs.Records.{bad, records}
 use Rattle.fields.specs.Fields.{refusal}
-use Rattle.packet.specs.Packet.{Why, alone, placed, Framing, framing}
+use Rattle.packet.specs.Packet.{Framing, framing}
 use Rattle.retype.specs.Retyped.{Asked}
 use Rattle.conversion.specs.Packet.{rewritten, updates_in, judged_first}
 use Rattle.conversion.specs.declared.Tally.{Tally}
 use Rattle.conversion.specs.declared.Passed.{Passed}
-use Rattle.conversion.specs.declared.Pieced.{Pieced}
+use Rattle.packet.specs.declared.Why.{Why}
+use Rattle.fields.specs.declared.Refusal.{Refusal}
 
 -- ---- a packet of a recording
 -- A packet that is refused is passed on as it is: the other edition's reader refuses it too. One reader refuses what the other takes: that of 1.3 a Symbol Update without a letter, by 4 at byte 20.
 -- Passed on as it is, a receiver of 1.3.b would take records that the receiver of 1.3 never had; so its test indicator, the byte behind that one, is made 0, and it is refused with 4 there.
 unfoldable pub barred : Why → List ℕ → List ℕ
-barred (alone r) p = p
-barred (placed f) p = set p (f.at + 1) 0
+barred (Why.Alone r) p = p
+barred (Why.Placed f) p = set p (f.at + 1) 0
 
 -- what became of it, and its bytes
 pub record Passing : Type 0 where
@@ -80,24 +81,24 @@ piece_of from a t = piece_from from a (length t) t
 
 -- an answer, and the piece after it
 pub record Turned : Type 0 where
-  pub answer : Pieced
+  pub answer : Result (ℕ × Tally) Refusal
   pub bytes : List ℕ
 
-abbrev pub turned : Pieced → List ℕ → Turned
+abbrev pub turned : Result (ℕ × Tally) Refusal → List ℕ → Turned
 turned c b = record { answer = c; bytes = b }
 
 abbrev pub pieced : Piece → Turned
-pieced x = turned (Pieced.Done x.done x.counts) x.bytes
+pieced x = turned (Ok (x.done, x.counts)) x.bytes
 
 -- what is asked for is judged first, as for a packet
 unfoldable pub turned_to : Edition → Asked → List ℕ → Turned
 turned_to from a t =
-    judged_first a (λ n. turned (Pieced.Refused (refusal n)) t) (pieced (piece_of from a t))
+    judged_first a (λ n. turned (Err (refusal n)) t) (pieced (piece_of from a t))
 
 -- document 01's number of each answer, 0 for a piece that was turned
-abbrev pub pieced_number : Pieced → ℕ
-pieced_number (Pieced.Done n t) = 0
-pieced_number (Pieced.Refused r) = r.number
+abbrev pub pieced_number : Result (ℕ × Tally) Refusal → ℕ
+pieced_number (Ok (n, t)) = 0
+pieced_number (Err r) = r.number
 
 -- ---- inside: no sum passes the largest number
 abbrev pub Countable : Tally → Type 0

@@ -2,471 +2,171 @@
 // rewritten by `conversion`, and what a type's word means stands in `words`.
 #![tactic(auto)]
 
-use conversion::{Pieced, Tally};
+use conversion::Tally;
 use editions::Edition;
+use retype::{Asked, EXCEPTION_SIZE};
 use std::env::Env;
-use std::io;
-use std::io::{ErrorKind, Read};
-use words::{Named, TypeWord};
+use streams::{Failure, Word};
+use words::TypeWord;
 
 // What is held at a time: a packet has at most 65,537 bytes with its length, so a full piece has a whole one.
 const PIECE: usize = 131072;
 
 // "More than 1,000 exceptions" are wrong words.
-const OTHERS: usize = 1000 * retype::EXCEPTION_SIZE;
+const OTHERS: usize = 1000 * EXCEPTION_SIZE;
 
-// What the words ask for, as far as they were taken: an edition that is not named yet is Unknown, and exceptions are counted by their bytes.
-#[derive(Drop)]
-pub struct Asked {
-    pub good: bool,
-    pub to: Named,
-    pub from: Named,
-    pub typed: bool,
-    pub all: u8,
-    pub others: usize,
-}
+const WRONG_WORDS: &str =
+    "convert takes --to with 1.3, 1.3.a or 1.3.b, --edition with one of these, and for 1.3 --type with E or F, once, and with NAME=E or NAME=F, 1,000 times at most; the recording comes on standard input";
 
-// A conversion that the words ask for.
-#[derive(Clone, Copy)]
-pub struct Order {
-    pub from: Edition,
-    pub to: Edition,
-    pub all: u8,
-    pub others: usize,
-}
+// Never reached with this program's piece and types.
+const REFUSED: &str = "the recording was not converted";
 
-#[derive(Drop)]
-pub enum Task {
-    Convert(Order),
-    Wrong,
-}
-
-// What was counted of all pieces.
-#[derive(Clone, Copy)]
-pub struct Counts {
-    pub updates: u64,
-    pub unread: u64,
-    pub barred: u64,
-}
-
-// How many bytes stand at the front of the piece and are not handed on yet.
-#[derive(Clone, Copy)]
-pub struct Flow {
-    pub held: usize,
-    pub counts: Counts,
-}
-
-// What came of reading once.
-#[derive(Drop)]
-pub enum Outcome {
-    More(Flow),
-    End(Flow),
-    Failed(io::Error),
-    Unwritten(io::Error),
-    Refused,
-}
-
-// Each array is lent once, and no element of one is read or stored here.
+// What went wrong goes to standard error, which is the last place where anything could be told; and so does what was counted.
 fn main(rt: HostRuntime) {
-    let mut piece = [0u8; PIECE];
-    let mut others = [0u8; OTHERS];
-    lend(&rt, &mut piece, &mut others);
+    let _ = match answer(&rt) {
+        Ok(t) => eprintln!(rt;
+            "rimeheath: {} Symbol Updates rewritten, {} packets passed on unread, {} packets barred",
+            t.updates, t.unread, t.barred
+        ),
+        Err(e) => eprintln!(rt; "rimeheath: {e}"),
+    };
 }
 
-// The arrays become slices here: at an array's reference no length is asked, however long it is.
-fn lend(
-    rt: &(impl Env + Input + Print + Eprint),
-    piece: &mut [u8; PIECE],
-    others: &mut [u8; OTHERS],
-) {
-    answer(rt, piece, others);
-}
-
-fn answer(rt: &(impl Env + Input + Print + Eprint), piece: &mut [u8], others: &mut [u8]) {
-    let a = take_words(rt, others);
-    match task_of(a) {
-        Task::Convert(o) => work(rt, o, others, piece),
-        Task::Wrong => wrong_words(rt),
+// Types are judged before anything is read, so that a wrong one is told of any recording.
+fn answer(rt: &(impl Env + Input + Print)) -> Result<Tally, Failure> {
+    let mut others = [0; OTHERS];
+    let words = take_words(rt, &mut others).ok_or(Failure::Told(WRONG_WORDS))?;
+    let (from, asked) = words.task(&others).ok_or(Failure::Told(WRONG_WORDS))?;
+    if !asked.types_ok() {
+        return Err(Failure::Told(WRONG_WORDS));
     }
-}
-
-fn wrong_words(rt: &impl Eprint) {
-    say(
-        rt,
-        "convert takes --to with 1.3, 1.3.a or 1.3.b, --edition with one of these, and for 1.3 --type with E or F, once, and with NAME=E or NAME=F, 1,000 times at most; the recording comes on standard input",
-    );
-}
-
-// A line on standard error, which is the last place where anything could be told.
-fn say(rt: &impl Eprint, words: &str) {
-    let _ = eprintln!(rt; "rimeheath: {words}");
-}
-
-// What the system refused, and why.
-fn fail(rt: &impl Eprint, what: &str, e: io::Error) {
-    let _ = eprintln!(rt; "rimeheath: {what}: {e}");
+    convert(rt, from, &asked)
 }
 
 // ---- the words
 
-// Words come in twos; one that is left alone is none of ours.
-fn take_words(rt: &impl Env, others: &mut [u8]) -> Asked {
+// What the words ask for, as far as they were taken; the exceptions stand in the memory beside it, and are counted by their bytes.
+#[derive(Clone, Copy, Default)]
+struct Words {
+    to: Option<Edition>,
+    from: Option<Edition>,
+    all: Option<u8>,
+    others: usize,
+}
+
+// Words come in twos; one that is left alone is none of ours. A word that is too long for its memory is an empty one, and wrong like that.
+fn take_words(rt: &impl Env, others: &mut [u8]) -> Option<Words> {
     let count = streams::word_count(rt, usize::MAX);
-    let mut a = nothing_asked();
-    let mut i: usize = 1;
-    while i < count {
-        if count - i < 2 {
-            return wrong(a);
+    if count % 2 == 0 {
+        return None;
+    }
+    let mut words = Words::default();
+    for i in 0..count / 2 {
+        let word = Word::<16>::at(rt, 2 * i + 1);
+        let value = Word::<16>::at(rt, 2 * i + 2);
+        words = words.with(word.as_slice(), value.as_slice(), others)?;
+    }
+    Some(words)
+}
+
+impl Words {
+    // None where the word is unknown, its value wrong, or what it asks for asked for before.
+    fn with(self, word: &[u8], value: &[u8], others: &mut [u8]) -> Option<Words> {
+        match word {
+            b"--to" if self.to.is_none() => Some(Words {
+                to: Some(words::edition_named(value)?),
+                ..self
+            }),
+            b"--edition" if self.from.is_none() => Some(Words {
+                from: Some(words::edition_named(value)?),
+                ..self
+            }),
+            b"--type" => self.with_type(words::type_asked(value)?, others),
+            _ => None,
         }
-        a = take_two(rt, i, i + 1, others, a);
-        i = i + 2;
     }
-    a
-}
 
-fn nothing_asked() -> Asked {
-    Asked {
-        good: true,
-        to: Named::Unknown,
-        from: Named::Unknown,
-        typed: false,
-        all: 0,
-        others: 0,
-    }
-}
-
-fn wrong(a: Asked) -> Asked {
-    let mut b = a;
-    b.good = false;
-    b
-}
-
-// A word that is too long for its array is an empty one, and wrong like that.
-fn take_two(rt: &impl Env, first: usize, second: usize, others: &mut [u8], a: Asked) -> Asked {
-    let mut word = [0u8; 16];
-    let mut value = [0u8; 16];
-    let n = streams::word(rt, first, &mut word);
-    let m = streams::word(rt, second, &mut value);
-    take(&word[..n], &value[..m], others, a)
-}
-
-fn take(word: &[u8], value: &[u8], others: &mut [u8], a: Asked) -> Asked {
-    if check::same(word, b"--to") {
-        return with_to(a, words::edition_named(value));
-    }
-    if check::same(word, b"--edition") {
-        return with_from(a, words::edition_named(value));
-    }
-    if check::same(word, b"--type") {
-        return with_type(a, value, others);
-    }
-    wrong(a)
-}
-
-// An edition is named, and was not before.
-fn first_named(before: Named, e: Named) -> bool {
-    if is_named(before) {
-        return false;
-    }
-    is_named(e)
-}
-
-fn is_named(e: Named) -> bool {
-    match e {
-        Named::Known(_) => true,
-        Named::Unknown => false,
-    }
-}
-
-fn with_to(a: Asked, e: Named) -> Asked {
-    let before = a.to;
-    if !first_named(before, e) {
-        return wrong(a);
-    }
-    let from = a.from;
-    Asked {
-        good: a.good,
-        to: e,
-        from: from,
-        typed: a.typed,
-        all: a.all,
-        others: a.others,
-    }
-}
-
-fn with_from(a: Asked, e: Named) -> Asked {
-    let before = a.from;
-    if !first_named(before, e) {
-        return wrong(a);
-    }
-    let to = a.to;
-    Asked {
-        good: a.good,
-        to: to,
-        from: e,
-        typed: a.typed,
-        all: a.all,
-        others: a.others,
-    }
-}
-
-fn with_type(a: Asked, value: &[u8], others: &mut [u8]) -> Asked {
-    let mut one = [0u8; retype::EXCEPTION_SIZE];
-    let t = words::type_asked(value, &mut one);
-    match t {
-        TypeWord::All(b) => with_all(a, b),
-        TypeWord::Exception => with_exception(a, &one, others),
-        TypeWord::Wrong => wrong(a),
-    }
-}
-
-fn with_all(a: Asked, b: u8) -> Asked {
-    if a.typed {
-        return wrong(a);
-    }
-    let mut c = a;
-    c.typed = true;
-    c.all = b;
-    c
-}
-
-fn with_exception(a: Asked, one: &[u8; retype::EXCEPTION_SIZE], others: &mut [u8]) -> Asked {
-    let at = a.others;
-    if others.len() < at {
-        return wrong(a);
-    }
-    if others.len() - at < retype::EXCEPTION_SIZE {
-        return wrong(a);
-    }
-    let end = at + retype::EXCEPTION_SIZE;
-    wire::copy_at(one, 0, &mut others[at..end]);
-    let mut b = a;
-    b.others = end;
-    b
-}
-
-fn task_of(a: Asked) -> Task {
-    if !a.good {
-        return Task::Wrong;
-    }
-    let to = a.to;
-    match to {
-        Named::Known(e) => task_to(a, e),
-        Named::Unknown => Task::Wrong,
-    }
-}
-
-fn task_to(a: Asked, to: Edition) -> Task {
-    if !types_fit(to, a.typed, a.others) {
-        return Task::Wrong;
-    }
-    let named = a.from;
-    Task::Convert(Order {
-        from: from_for(named, to),
-        to: to,
-        all: a.all,
-        others: a.others,
-    })
-}
-
-// 1.3 has to have a type for all symbols, and the other edition has no types.
-fn types_fit(to: Edition, typed: bool, others: usize) -> bool {
-    match to {
-        Edition::V13 => typed,
-        Edition::V13b => {
-            if typed {
-                return false;
+    fn with_type(self, t: TypeWord, others: &mut [u8]) -> Option<Words> {
+        match t {
+            TypeWord::All(b) if self.all.is_none() => Some(Words {
+                all: Some(b),
+                ..self
+            }),
+            TypeWord::All(_) => None,
+            TypeWord::Exception(x) => {
+                let end = self.others.checked_add(EXCEPTION_SIZE)?;
+                others.get_mut(self.others..end)?.copy_from_slice(&x);
+                Some(Words {
+                    others: end,
+                    ..self
+                })
             }
-            others == 0
         }
     }
-}
 
-// The recording's edition, the other one where it is not named.
-fn from_for(named: Named, to: Edition) -> Edition {
-    match named {
-        Named::Known(e) => e,
-        Named::Unknown => other_than(to),
-    }
-}
-
-fn other_than(e: Edition) -> Edition {
-    match e {
-        Edition::V13 => Edition::V13b,
-        Edition::V13b => Edition::V13,
+    // The recording's edition, the other one where it is not named, and what is asked for: 1.3 has to have a type for all symbols, and the other
+    // edition has no types.
+    fn task(self, others: &[u8]) -> Option<(Edition, Asked<'_>)> {
+        let to = self.to?;
+        let (other, all) = match (to, self.all) {
+            (Edition::V13, Some(b)) => (Edition::V13b, b),
+            (Edition::V13b, None) if self.others == 0 => (Edition::V13, 0),
+            _ => return None,
+        };
+        let asked = Asked {
+            to,
+            all,
+            others: text::front(others, self.others),
+        };
+        Some((self.from.unwrap_or(other), asked))
     }
 }
 
 // ---- the recording
 
-// Types are judged before anything is read, so that a wrong one is told of any recording.
-fn work(rt: &(impl Input + Print + Eprint), o: Order, others: &[u8], piece: &mut [u8]) {
-    let n = o.others;
-    let to = o.to;
-    if !retype::types_ok(to, o.all, text::front(others, n)) {
-        return wrong_words(rt);
-    }
-    let start = Flow {
-        held: 0,
-        counts: Counts {
-            updates: 0,
-            unread: 0,
-            barred: 0,
-        },
-    };
-    let end = read_all(
-        rt,
-        &mut rt.reader(),
-        o,
-        text::front(others, n),
-        piece,
-        start,
-    );
-    finish(rt, piece, end);
-}
-
-// A proved loop has to end, so it counts its pieces up to a number that no recording reaches.
-fn read_all(
-    rt: &impl Print,
-    from: &mut impl Read,
-    o: Order,
-    others: &[u8],
-    piece: &mut [u8],
-    start: Flow,
-) -> Outcome {
-    let mut f = start;
+// A proved loop has to end, so it counts its pieces up to a number that no recording reaches. What follows the last whole packet goes on as it is.
+fn convert(rt: &(impl Input + Print), from: Edition, asked: &Asked<'_>) -> Result<Tally, Failure> {
+    let mut piece = [0; PIECE];
+    let mut held = 0;
+    let mut counts = Tally::default();
+    let mut reader = rt.reader();
     for _ in 0..u64::MAX {
-        let t = turn(rt, from, o, others, piece, f);
-        let Outcome::More(next) = t else {
-            return t;
-        };
-        f = next;
-    }
-    Outcome::More(f)
-}
-
-// Reads once, behind what is held. A read that a signal broke off is tried again.
-fn turn(
-    rt: &impl Print,
-    from: &mut impl Read,
-    o: Order,
-    others: &[u8],
-    piece: &mut [u8],
-    f: Flow,
-) -> Outcome {
-    let held = f.held;
-    if piece.len() <= held {
-        return Outcome::Refused;
-    }
-    match from.read(&mut piece[held..]) {
-        Ok(0) => Outcome::End(f),
-        Ok(n) => convert(rt, o, others, piece, held + n, f.counts),
-        Err(e) => {
-            if e.kind() == ErrorKind::Interrupted {
-                Outcome::More(f)
-            } else {
-                Outcome::Failed(e)
-            }
+        if PIECE <= held {
+            break;
         }
-    }
-}
-
-// Converts the whole packets of the first `have` bytes and hands them on.
-fn convert(
-    rt: &impl Print,
-    o: Order,
-    others: &[u8],
-    piece: &mut [u8],
-    have: usize,
-    c: Counts,
-) -> Outcome {
-    if piece.len() < have {
-        return Outcome::Refused;
-    }
-    let from = o.from;
-    let to = o.to;
-    let r = conversion::convert_piece(from, to, o.all, others, &mut piece[..have]);
-    match r {
-        Pieced::Refused(_) => Outcome::Refused,
-        Pieced::Done(done, t) => hand_on(rt, piece, done, have, counted(c, t)),
-    }
-}
-
-fn hand_on(rt: &impl Print, piece: &mut [u8], done: usize, have: usize, c: Counts) -> Outcome {
-    if let Err(e) = rt.write_all(text::front(piece, least(done, have))) {
-        return Outcome::Unwritten(e);
-    }
-    Outcome::More(Flow {
-        held: to_front(piece, done, have),
-        counts: c,
-    })
-}
-
-fn least(a: usize, b: usize) -> usize {
-    if a < b { a } else { b }
-}
-
-// The bytes from `start` to `end`, moved to the front; how many they are.
-fn to_front(piece: &mut [u8], start: usize, end: usize) -> usize {
-    let mut i = start;
-    let mut n: usize = 0;
-    while i < end {
-        if piece.len() <= i {
-            return n;
+        let n = streams::read_once(&mut reader, &mut piece[held..]).map_err(Failure::Input)?;
+        if n == 0 {
+            rt.write_all(&piece[..held]).map_err(Failure::Output)?;
+            return Ok(counts);
         }
-        piece[n] = piece[i];
-        n = n + 1;
-        i = i + 1;
+        let (left, t) = hand_on(rt, from, asked, &mut piece[..held + n])?;
+        held = left;
+        counts = sum(counts, t);
     }
-    n
+    Err(Failure::Told(REFUSED))
 }
 
-fn counted(c: Counts, t: Tally) -> Counts {
-    Counts {
-        updates: sum(c.updates, t.updates as u64),
-        unread: sum(c.unread, t.unread as u64),
-        barred: sum(c.barred, t.barred as u64),
+// Converts the whole packets of a piece, hands them on, and moves what follows them to the front; how many bytes that is, and what was counted.
+fn hand_on(
+    rt: &impl Print,
+    from: Edition,
+    asked: &Asked<'_>,
+    piece: &mut [u8],
+) -> Result<(usize, Tally), Failure> {
+    let (done, t) = conversion::convert_piece(from, asked, piece)
+        .ok()
+        .ok_or(Failure::Told(REFUSED))?;
+    let done = done.min(piece.len());
+    rt.write_all(&piece[..done]).map_err(Failure::Output)?;
+    piece.copy_within(done.., 0);
+    Ok((piece.len() - done, t))
+}
+
+// Each stays at the largest number where it would pass it.
+fn sum(a: Tally, b: Tally) -> Tally {
+    Tally {
+        updates: a.updates.saturating_add(b.updates),
+        unread: a.unread.saturating_add(b.unread),
+        barred: a.barred.saturating_add(b.barred),
     }
-}
-
-// It stays at the largest number where it would pass it.
-fn sum(a: u64, b: u64) -> u64 {
-    if u64::MAX - a < b {
-        return u64::MAX;
-    }
-    a + b
-}
-
-fn finish(rt: &(impl Print + Eprint), piece: &[u8], end: Outcome) {
-    match end {
-        Outcome::End(f) => end_with(rt, piece, f),
-        Outcome::More(_) => refused(rt),
-        Outcome::Failed(e) => fail(rt, "standard input", e),
-        Outcome::Unwritten(e) => unwritten(rt, e),
-        Outcome::Refused => refused(rt),
-    }
-}
-
-// Never reached with this program's piece and types.
-fn refused(rt: &impl Eprint) {
-    say(rt, "the recording was not converted");
-}
-
-fn unwritten(rt: &impl Eprint, e: io::Error) {
-    fail(rt, "standard output", e);
-}
-
-// What follows the last whole packet goes on as it is.
-fn end_with(rt: &(impl Print + Eprint), piece: &[u8], f: Flow) {
-    if let Err(e) = rt.write_all(text::front(piece, f.held)) {
-        return unwritten(rt, e);
-    }
-    tell_counts(rt, f.counts);
-}
-
-fn tell_counts(rt: &impl Eprint, c: Counts) {
-    let _ = eprintln!(rt;
-        "rimeheath: {} Symbol Updates rewritten, {} packets passed on unread, {} packets barred",
-        c.updates, c.unread, c.barred
-    );
 }

@@ -11,21 +11,15 @@ use fields::{
     AddOrder, DeleteOrder, ModifyOrder, OrderExecution, SymbolClear, SymbolUpdate, SystemState,
     Trade, TradeCancel, TradingStatus,
 };
-
-// A number of four bytes, stored from at on; the cast is here, so that no message has one to answer for.
-fn put_four(out: &mut [u8], at: usize, n: u32)
-    ensures { out.new ≡ sets out.old at (to_le 4 n) }
-{
-    wire::put_le(out, at, 4, n as u64);
-}
+use wire::Number;
 
 // Type, nanoseconds and symbol, in one place since nine messages start so.
 fn front(out: &mut [u8], code: u8, nanos: u32, symbol: u32)
     ensures { out.new ≡ sets (sets (set out.old 0 code) 1 (to_le 4 nanos)) 5 (to_le 4 symbol) }
 {
-    wire::put_byte(out, 0, code);
-    put_four(out, 1, nanos);
-    put_four(out, 5, symbol);
+    code.put(out, 0);
+    nanos.put(out, 1);
+    symbol.put(out, 5);
 }
 
 // The same, and behind it the ID of an order or a trade: six messages go on so.
@@ -33,7 +27,7 @@ fn front_id(out: &mut [u8], code: u8, nanos: u32, symbol: u32, id: u64)
     ensures { out.new ≡ sets (sets (sets (set out.old 0 code) 1 (to_le 4 nanos)) 5 (to_le 4 symbol)) 9 (to_le 8 id) }
 {
     front(out, code, nanos, symbol);
-    wire::put_le(out, 9, 8, id);
+    id.put(out, 9);
 }
 
 // System Time (4.1).
@@ -41,8 +35,8 @@ pub fn time_body(seconds: u32) -> [u8; 5]
     ensures { result ≡ written system_time seconds }
 {
     let mut out = [0u8; 5];
-    wire::put_byte(&mut out, 0, 49);
-    put_four(&mut out, 1, seconds);
+    49u8.put(&mut out, 0);
+    seconds.put(&mut out, 1);
     out
 }
 
@@ -58,10 +52,10 @@ pub fn update_body(m: SymbolUpdate) -> [u8; 42]
     front(&mut out, 1, m.nanos, symbol.id);
     wire::put_at(&mut out, 9, &ticker);
     wire::put_at(&mut out, 20, &[m.security, m.test, m.reserved]);
-    wire::put_le(&mut out, 23, 2, symbol.lot as u64);
+    symbol.lot.put(&mut out, 23);
     wire::put_at(&mut out, 25, &opening);
     wire::put_at(&mut out, 33, &closing);
-    wire::put_byte(&mut out, 41, symbol.market);
+    symbol.market.put(&mut out, 41);
     out
 }
 
@@ -71,8 +65,8 @@ pub fn state_body(m: SystemState) -> [u8; 15]
 {
     let version = m.version;
     let mut out = [0u8; 15];
-    wire::put_byte(&mut out, 0, 83);
-    put_four(&mut out, 1, m.nanos);
+    83u8.put(&mut out, 0);
+    m.nanos.put(&mut out, 1);
     wire::put_at(&mut out, 5, &version);
     wire::put_at(&mut out, 13, &[m.session, m.status]);
     out
@@ -103,10 +97,10 @@ pub fn add_body(m: AddOrder) -> [u8; 34]
 {
     let mut out = [0u8; 34];
     front_id(&mut out, 20, m.nanos, m.symbol, m.order);
-    wire::put_byte(&mut out, 17, m.side);
-    wire::put_le(&mut out, 18, 8, m.price);
-    put_four(&mut out, 26, m.size);
-    put_four(&mut out, 30, m.attributable);
+    m.side.put(&mut out, 17);
+    m.price.put(&mut out, 18);
+    m.size.put(&mut out, 26);
+    m.attributable.put(&mut out, 30);
     out
 }
 
@@ -116,9 +110,9 @@ pub fn modify_body(m: ModifyOrder) -> [u8; 30]
 {
     let mut out = [0u8; 30];
     front_id(&mut out, 21, m.nanos, m.symbol, m.order);
-    wire::put_le(&mut out, 17, 8, m.price);
-    put_four(&mut out, 25, m.size);
-    wire::put_byte(&mut out, 29, m.flags);
+    m.price.put(&mut out, 17);
+    m.size.put(&mut out, 25);
+    m.flags.put(&mut out, 29);
     out
 }
 
@@ -137,10 +131,10 @@ pub fn execution_body(m: OrderExecution) -> [u8; 38]
 {
     let mut out = [0u8; 38];
     front_id(&mut out, 24, m.nanos, m.symbol, m.order);
-    wire::put_le(&mut out, 17, 8, m.trade);
-    wire::put_le(&mut out, 25, 8, m.price);
-    put_four(&mut out, 33, m.size);
-    wire::put_byte(&mut out, 37, m.flags);
+    m.trade.put(&mut out, 17);
+    m.price.put(&mut out, 25);
+    m.size.put(&mut out, 33);
+    m.flags.put(&mut out, 37);
     out
 }
 
@@ -150,10 +144,10 @@ pub fn trade_body(m: Trade) -> [u8; 31]
 {
     let mut out = [0u8; 31];
     front_id(&mut out, 10, m.nanos, m.symbol, m.trade);
-    wire::put_byte(&mut out, 17, m.correction);
-    wire::put_le(&mut out, 18, 8, m.price);
-    put_four(&mut out, 26, m.size);
-    wire::put_byte(&mut out, 30, m.flags);
+    m.correction.put(&mut out, 17);
+    m.price.put(&mut out, 18);
+    m.size.put(&mut out, 26);
+    m.flags.put(&mut out, 30);
     out
 }
 
@@ -163,8 +157,8 @@ pub fn cancel_body(m: TradeCancel) -> [u8; 30]
 {
     let mut out = [0u8; 30];
     front_id(&mut out, 11, m.nanos, m.symbol, m.trade);
-    wire::put_byte(&mut out, 17, m.correction);
-    wire::put_le(&mut out, 18, 8, m.price);
-    put_four(&mut out, 26, m.size);
+    m.correction.put(&mut out, 17);
+    m.price.put(&mut out, 18);
+    m.size.put(&mut out, 26);
     out
 }

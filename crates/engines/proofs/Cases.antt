@@ -10,7 +10,7 @@ use mathlib.Core.Logic.{◌⊎◌, inl, inr, ⊎_elim}
 use borrow.Author.Tests.{eq-eqb, ne_eqb, eqb-true}
 use Rattle.facts.specs.Pick.{pick, either}
 use Rattle.facts.proofs.Picks.{either_true}
-use Rattle.facts.specs.declared.Found.TheVariants.{At}
+use Rattle.std.specs.Prelude.{Some}
 use Rattle.rows.specs.declared.Row.{Row}
 use Rattle.rows.specs.Rows.{zero_row, free}
 use Rattle.rows.specs.Find.{of_symbol, find_order, find_free}
@@ -50,7 +50,7 @@ module _ (ix : List ℕ) (rs : List Row) where
   free_index n = rw (ne_eqb (length ix) 0 n)
 
 module _ (ix : List ℕ) (id : ℕ) (es : List (List ℕ)) where
-  pub hint_right : is_symbol id (get_or es (hint_of ix id) []) ≡ true → hinted ix id es ≡ At (hint_of ix id)
+  pub hint_right : is_symbol id (get_or es (hint_of ix id) []) ≡ true → hinted ix id es ≡ Some (hint_of ix id)
   unfolding hinted pick
   hint_right e = rw e
 
@@ -68,10 +68,6 @@ module _ (ix : List ℕ) (id : ℕ) (es : List (List ℕ)) where
 
 -- ---- a row put
 module _ (i : ℕ) (r : Row) (rs : List Row) (ix : List ℕ) where
-  pub put_nothing : free (get_or rs i zero_row) ≡ true → free r ≡ true → put_noted i r rs ix ≡ ix
-  unfolding put_noted pick
-  put_nothing f g = rw (f, g)
-
   pub put_comes : free (get_or rs i zero_row) ≡ true → free r ≡ false → put_noted i r rs ix ≡ came ix rs r.order i
   unfolding put_noted pick
   put_comes f g = rw (f, g)

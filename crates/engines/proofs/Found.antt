@@ -9,8 +9,7 @@ use native.Mathlib.Decide.{ℕ_discrete}
 use native.Mathlib.Omega.{arith}
 use lib.ListN.{length, get_or}
 use Rattle.facts.specs.Search.{is_found}
-use Rattle.facts.specs.declared.Found.{Found}
-use Rattle.facts.specs.declared.Found.TheVariants.{At, Nothing}
+use Rattle.std.specs.Prelude.{Option, Some, None}
 use Rattle.rows.specs.declared.Row.{Row}
 use Rattle.rows.specs.Tidy.{Unique}
 use Rattle.rows.specs.Find.{find_order, find_free}
@@ -37,14 +36,14 @@ module _ (ix : List ℕ) (rs : List Row) (x : Indexed ix rs) where
 -- ---- a symbol's entry: whatever the index holds, for a hint is tested
 module _ (ix : List ℕ) (id : ℕ) (es : List (List ℕ)) where
   -- the walk's entry, or the one that the hint names, which is the symbol's
-  entry_cases : (entry_by ix id es ≡ find_symbol id es) ⊎ ((entry_by ix id es ≡ At (hint_of ix id)) × (is_symbol id (get_or es (hint_of ix id) []) ≡ true))
+  entry_cases : (entry_by ix id es ≡ find_symbol id es) ⊎ ((entry_by ix id es ≡ Some (hint_of ix id)) × (is_symbol id (get_or es (hint_of ix id) []) ≡ true))
   entry_cases = by (ℕ_discrete (length ix) 0)
     where
-      go : (length ix ≡ 0 → ⊥) → (b : Bool) → is_symbol id (get_or es (hint_of ix id) []) ≡ b → (entry_by ix id es ≡ find_symbol id es) ⊎ ((entry_by ix id es ≡ At (hint_of ix id)) × (is_symbol id (get_or es (hint_of ix id) []) ≡ true))
+      go : (length ix ≡ 0 → ⊥) → (b : Bool) → is_symbol id (get_or es (hint_of ix id) []) ≡ b → (entry_by ix id es ≡ find_symbol id es) ⊎ ((entry_by ix id es ≡ Some (hint_of ix id)) × (is_symbol id (get_or es (hint_of ix id) []) ≡ true))
       go n true e = inr (entry_hint ix id es n ∙ hint_right ix id es e, e)
       go n false e = inl (entry_hint ix id es n ∙ hint_wrong ix id es e)
 
-      by : Dec (length ix ≡ 0) → (entry_by ix id es ≡ find_symbol id es) ⊎ ((entry_by ix id es ≡ At (hint_of ix id)) × (is_symbol id (get_or es (hint_of ix id) []) ≡ true))
+      by : Dec (length ix ≡ 0) → (entry_by ix id es ≡ find_symbol id es) ⊎ ((entry_by ix id es ≡ Some (hint_of ix id)) × (is_symbol id (get_or es (hint_of ix id) []) ≡ true))
       by (yes e) = inl (entry_walk ix id es e)
       by (no n) = go n (is_symbol id (get_or es (hint_of ix id) [])) refl
 
@@ -55,15 +54,15 @@ module _ (ix : List ℕ) (id : ℕ) (es : List (List ℕ)) where
 
   -- while no ID stands twice, it is the same entry
   module _ (d : Distinct es) where
-    found_there : (i : ℕ) → is_symbol id (get_or es i []) ≡ true → At i ≡ find_symbol id es
+    found_there : (i : ℕ) → is_symbol id (get_or es i []) ≡ true → Some i ≡ find_symbol id es
     found_there i h = go (find_symbol id es) refl
       where
-        go : (f : Found) → find_symbol id es ≡ f → At i ≡ find_symbol id es
-        go (At j) e =
+        go : (f : Option ℕ) → find_symbol id es ≡ f → Some i ≡ find_symbol id es
+        go (Some j) e =
             let o = entry_is id (get_or es i []) h in
             let q = entry_is id (get_or es j []) (entry_below es j id e).1 in
-            ap At (d i j o.0 q.0 (o.1 ∙ sym q.1)) ∙ sym e
-        go Nothing e = absurd (true≢false (sym h ∙ nowhere id es e i))
+            ap Some (d i j o.0 q.0 (o.1 ∙ sym q.1)) ∙ sym e
+        go None e = absurd (true≢false (sym h ∙ nowhere id es e i))
 
     pub entry_same : entry_by ix id es ≡ find_symbol id es
     entry_same = ⊎_elim (λ e. e) (λ w. w.0 ∙ found_there (hint_of ix id) w.1) entry_cases

@@ -8,7 +8,7 @@ use Rattle.facts.specs.Pick.{pick}
 use Rattle.facts.proofs.Picks.{pick_ind}
 use Rattle.rows.specs.declared.Row.{Row}
 use Rattle.rows.specs.Rows.{free}
-use Rattle.symbols.specs.declared.EntryWork.{EntryWork}
+use Rattle.std.specs.Prelude.{Option, Some, None}
 use Rattle.symbols.specs.Entries.{id_of}
 use Rattle.orders.specs.declared.RowWork.{RowWork}
 use Rattle.index.specs.Index.{freed, came, hint_at}
@@ -36,7 +36,7 @@ noted_length RowWork.Keep rs ix = refl
 noted_length (RowWork.Put i r) rs ix = put_length i r rs ix
 noted_length (RowWork.Clear s) rs ix = each_length (left s) (left_length s) 0 rs ix
 
-pub hinted_length : (w : EntryWork) (b ix : List ℕ) → length (hinted_to w b ix) ≡ length ix
+pub hinted_length : (w : Option ℕ) (b ix : List ℕ) → length (hinted_to w b ix) ≡ length ix
 unfolding hinted_to
-hinted_length EntryWork.Keep b ix = refl
-hinted_length (EntryWork.Put i) b ix = length-set ix (hint_at (id_of b)) i
+hinted_length None b ix = refl
+hinted_length (Some i) b ix = length-set ix (hint_at (id_of b)) i

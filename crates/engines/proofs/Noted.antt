@@ -13,7 +13,7 @@ use Rattle.rows.specs.Rows.{rows, zero_row, free, live}
 use Rattle.rows.specs.Find.{of_symbol}
 use Rattle.rows.proofs.Tables.{rows_put}
 use Rattle.rows.proofs.Judged.{symbol_is, live_not_free, zero_free}
-use Rattle.symbols.specs.declared.EntryWork.{EntryWork}
+use Rattle.std.specs.Prelude.{Option, Some, None}
 use Rattle.symbols.specs.Entries.{id_of}
 use Rattle.orders.specs.declared.RowWork.{RowWork}
 use Rattle.orders.specs.Work.{wiped, committed}
@@ -85,7 +85,7 @@ noted_indexed t ix x w (clears s) =
     (wipe_all s (rows t) (length (rows t)) 0 ix (omega arith) (subst (Indexed ix) (sym (map_none (wiped s) (rows t))) x))
 
 -- and the symbols' work touches hints alone
-pub hinted_indexed : (ix : List ℕ) (rs : List Row) → Indexed ix rs → (w : EntryWork) (b : List ℕ) → Indexed (hinted_to w b ix) rs
+pub hinted_indexed : (ix : List ℕ) (rs : List Row) → Indexed ix rs → (w : Option ℕ) (b : List ℕ) → Indexed (hinted_to w b ix) rs
 unfolding hinted_to
-hinted_indexed ix rs x EntryWork.Keep b = x
-hinted_indexed ix rs x (EntryWork.Put i) b = hint_indexed ix rs (id_of b) i x
+hinted_indexed ix rs x None b = x
+hinted_indexed ix rs x (Some i) b = hint_indexed ix rs (id_of b) i x

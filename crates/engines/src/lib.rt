@@ -8,74 +8,78 @@ ghost use Rattle.symbols.specs.Entries.{entries};
 ghost use Rattle.index.specs.Index.{each_row};
 ghost use Rattle.engines.specs.Engines.{good_index, order_by, free_by, hinted, entry_by, put_noted, left, noted, hinted_to};
 
-use facts::Found;
 use orders::RowWork;
 use rows::Row;
-use symbols::EntryWork;
+use wire::Number;
 
 // No index, or one of the stated size.
+#[tactic(auto, unfolding(crate::specs::Engines::good_index, facts::specs::Pick::either))]
 pub fn good_index(n: usize) -> bool
     ensures { result ≡ good_index n }
 {
     n == 0 || n == index::INDEX_SIZE
 }
 
-pub fn find_order(t: &[u64], ix: &[u64], id: u64) -> Found
+#[tactic(auto, unfolding(crate::specs::Engines::order_by, facts::specs::Pick::pick))]
+pub fn find_order(t: &[u64], ix: &[u64], id: u64) -> Option<usize>
     ensures { result ≡ order_by ix.now id (rows t.now) }
 {
-    if ix.len() == 0 {
-        return rows::find_order(t, id);
+    if ix.is_empty() {
+        rows::find_order(t, id)
+    } else {
+        index::find(t, ix, id)
     }
-    index::find(t, ix, id)
 }
 
-pub fn find_free(t: &[u64], ix: &[u64]) -> Found
+#[tactic(auto, unfolding(crate::specs::Engines::free_by, facts::specs::Pick::pick))]
+pub fn find_free(t: &[u64], ix: &[u64]) -> Option<usize>
     ensures { result ≡ free_by ix.now (rows t.now) }
 {
-    if ix.len() == 0 {
-        return rows::find_free(t);
+    if ix.is_empty() {
+        rows::find_free(t)
+    } else {
+        index::lowest_free(t, ix)
     }
-    index::lowest_free(t, ix)
 }
 
 // A hint is tested, and the whole table is searched where it names no entry of the symbol.
-fn follow_hint(symbols: &[u8], ix: &[u64], id: u32) -> Found
+#[tactic(auto, unfolding(crate::specs::Engines::hinted, facts::specs::Pick::pick))]
+fn follow_hint(symbols: &[u8], ix: &[u64], id: u32) -> Option<usize>
     ensures { result ≡ hinted ix.now id (entries symbols.now) }
 {
     let i = index::hint(ix, id);
     if symbols::is_symbol_at(symbols, i, id) {
-        return Found::At(i);
+        Some(i)
+    } else {
+        symbols::find_symbol(symbols, id)
     }
-    symbols::find_symbol(symbols, id)
 }
 
-pub fn find_entry(symbols: &[u8], ix: &[u64], id: u32) -> Found
+#[tactic(auto, unfolding(crate::specs::Engines::entry_by, facts::specs::Pick::pick))]
+pub fn find_entry(symbols: &[u8], ix: &[u64], id: u32) -> Option<usize>
     ensures { result ≡ entry_by ix.now id (entries symbols.now) }
 {
-    if ix.len() == 0 {
-        return symbols::find_symbol(symbols, id);
+    if ix.is_empty() {
+        symbols::find_symbol(symbols, id)
+    } else {
+        follow_hint(symbols, ix, id)
     }
-    follow_hint(symbols, ix, id)
 }
 
 // Row i is about to become r.
+#[tactic(auto, unfolding(crate::specs::Engines::put_noted, facts::specs::Pick::pick))]
 fn note_put(t: &[u64], ix: &mut [u64], i: usize, r: Row)
     ensures { ix.new ≡ put_noted i r (rows t.now) ix.old }
 {
-    let leaves = rows::is_free(r);
-    if rows::is_free(rows::row_at(t, i)) {
-        if leaves {
-            return;
-        }
-        index::come(t, ix, r.order, i);
-        return;
-    }
-    if leaves {
-        index::gone(ix, i);
+    match (rows::is_free(rows::row_at(t, i)), rows::is_free(r)) {
+        (true, false) => index::come(t, ix, r.order, i),
+        (false, true) => index::gone(ix, i),
+        _ => {}
     }
 }
 
 // A row of the symbol leaves.
+#[tactic(auto, unfolding(crate::specs::Engines::left, facts::specs::Pick::pick))]
 fn note_row(ix: &mut [u64], r: Row, i: usize, symbol: u64)
     ensures { ix.new ≡ left symbol ix.old r i }
 {
@@ -88,11 +92,8 @@ fn note_row(ix: &mut [u64], r: Row, i: usize, symbol: u64)
 fn note_clear(t: &[u64], ix: &mut [u64], symbol: u64)
     ensures { ix.new ≡ each_row (left symbol) 0 (rows t.now) ix.old }
 {
-    let n = rows::row_count(t);
-    let mut i = 0;
-    while i < n {
+    for i in 0..rows::row_count(t) {
         note_row(ix, rows::row_at(t, i), i, symbol);
-        i += 1;
     }
 }
 
@@ -100,22 +101,22 @@ fn note_clear(t: &[u64], ix: &mut [u64], symbol: u64)
 pub fn note(t: &[u64], ix: &mut [u64], w: RowWork)
     ensures { ix.new ≡ noted w (rows t.now) ix.old }
 {
-    if ix.len() == 0 {
+    if ix.is_empty() {
         return;
     }
     match w {
         RowWork::Keep => {}
         RowWork::Put(i, r) => note_put(t, ix, i, r),
-        RowWork::Clear(symbol) => note_clear(t, ix, symbol as u64),
+        RowWork::Clear(symbol) => note_clear(t, ix, u64::from(symbol)),
     }
 }
 
 // What the work on the symbol table leaves of it.
-pub fn note_entry(ix: &mut [u64], w: EntryWork, body: &[u8])
+#[tactic(auto, unfolding(crate::specs::Engines::hinted_to))]
+pub fn note_entry(ix: &mut [u64], w: Option<usize>, body: &[u8])
     ensures { ix.new ≡ hinted_to w body.now ix.old }
 {
-    match w {
-        EntryWork::Keep => {}
-        EntryWork::Put(i) => index::put_hint(ix, wire::u32_at(body, 5), i),
+    if let Some(i) = w {
+        index::put_hint(ix, u32::at(body, 5), i);
     }
 }

@@ -17,7 +17,8 @@ use Rattle.packet.specs.Record as head
 use Rattle.packet.specs.Packet as packet
 use Rattle.packet.specs.Places.{FieldPlace}
 use Rattle.packet.proofs.Places.{field_place}
-use Rattle.packet.specs.declared.Packet.{Packet}
+use Rattle.std.specs.Prelude.{Err}
+use Rattle.packet.specs.declared.Why.{Why}
 use Rattle.exercises.specs.Messages as messages
 
 -- a record of number n behind the example's first message
@@ -28,7 +29,7 @@ abbrev no_deal : List ℕ
 no_deal = second 2 (messages.add_order 7 500 messages.buy 0 0)
 
 -- 15 bytes, 10 of a header, 18 up to the price
-pub price_told : (ed : Edition) → packet.read_packet ed no_deal ≡ Packet.Bad (bad_at 4 43)
+pub price_told : (ed : Edition) → packet.read_packet ed no_deal ≡ Err (Why.Placed (bad_at 4 43))
 unfolding messages.numbered messages.system_time messages.add_order pick both either le to_le field
     kinds.table kinds.lookup kinds.length_of kinds.kind_of
     ranges.nanos_ok ranges.one_of ranges.side_ok ranges.price_ok ranges.size_ok
@@ -42,7 +43,7 @@ pub price_placed : (ed : Edition) → FieldPlace ed no_deal 43
 price_placed ed = field_place ed no_deal (bad_at 4 43) (price_told ed) refl
 
 -- "for an empty body, the place where it would start"
-pub end_told : (ed : Edition) → packet.read_packet ed (second 2 []) ≡ Packet.Bad (bad_at 3 (length (second 2 [])))
+pub end_told : (ed : Edition) → packet.read_packet ed (second 2 []) ≡ Err (Why.Placed (bad_at 3 (length (second 2 []))))
 unfolding messages.numbered messages.system_time pick both either le to_le field
     kinds.table kinds.lookup kinds.length_of kinds.kind_of
     faults.fault_from faults.fault_of
@@ -52,7 +53,7 @@ unfolding messages.numbered messages.system_time pick both either le to_le field
 end_told ed = refl
 
 -- "for 5 the number's start", before its empty body
-pub number_told : (ed : Edition) → packet.read_packet ed (second 0 []) ≡ Packet.Bad (bad_at 5 15)
+pub number_told : (ed : Edition) → packet.read_packet ed (second 0 []) ≡ Err (Why.Placed (bad_at 5 15))
 unfolding messages.numbered messages.system_time pick both either le to_le field
     kinds.table kinds.lookup kinds.length_of kinds.kind_of
     faults.fault_from faults.fault_of

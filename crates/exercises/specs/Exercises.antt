@@ -1,10 +1,11 @@
 -- What an exercise is: a receiver is started, gets packets and is asked, and each question stands with its known result. What the definitions of the
 -- other crates answer is worked out beside it.
-use Rattle.std.specs.Prelude.{ℕ, suc, ◌+◌, ◌*◌, List, [], ◌∷◌, Bool, ltb, eqb, ℤ, pos, negsuc, get_or}
+use Rattle.std.specs.Prelude.{ℕ, ◌+◌, ◌*◌, List, [], ◌∷◌, Bool, ltb, eqb, ℤ, pos, neg_ℤ, get_or, Option, Some, None, Result, Ok, Err}
 use Rattle.facts.specs.Limits.{shelf_size}
 use Rattle.facts.specs.Pick.{pick, both}
 use Rattle.facts.specs.Same.{same_bytes}
-use Rattle.facts.specs.declared.Found.{Found}
+use Rattle.packet.specs.declared.Why.{Why}
+use Rattle.fields.specs.declared.Refusal.{Refusal}
 use Rattle.editions.specs.declared.Edition.{Edition}
 use Rattle.wire.specs.Le.{field}
 use Rattle.fields.specs.Fields.{refusal}
@@ -12,10 +13,8 @@ use Rattle.rows.specs.declared.Row.{Row}
 use Rattle.rows.specs.Rows.{row_size, rows, zero_row}
 use Rattle.rows.specs.Find.{find_order}
 use Rattle.facts.specs.Limits.{entry_size}
-use Rattle.views.specs.declared.SpreadAnswer.{SpreadAnswer}
 use Rattle.views.specs.Views.{spread_view}
 use Rattle.receiver.specs.declared.Account.{Account}
-use Rattle.receiver.specs.declared.Received.{Received}
 use Rattle.receiver.specs.Receiver.{received_number}
 use Rattle.receiver.specs.Lent.{state_numbers, Lent, orders_of, symbols_of, shelf_of, state_of, Handled, handled, fresh, received}
 
@@ -37,10 +36,15 @@ pub data Ask : Type 0 where
   -- what eight bytes say as a price, whatever came before
   price : List ℕ → Ask
 
--- what is answered: a number, a number below zero, a refusal in an answer's place, or nothing
-pub data Told : Type 0 where
-  number minus refusal_by : ℕ → Told
-  nothing : Told
+-- what is answered: a number, or nothing; or the number of a refusal in an answer's place
+abbrev pub Told : Type 0
+Told = Result (Option ℤ) ℕ
+
+abbrev pub number : ℕ → Told
+number n = Ok (Some (pos n))
+
+abbrev pub nothing : Told
+nothing = Ok None
 
 -- what happens in an exercise
 pub data Step : Type 0 where
@@ -57,7 +61,7 @@ abbrev pub ◌is◌ : Ask → ℕ → Step
 a is n = result a (number n)
 
 abbrev pub ◌is_minus◌ : Ask → ℕ → Step
-a is_minus n = result a (minus n)
+a is_minus n = result a (Ok (Some (neg_ℤ (pos n))))
 
 -- no such order is live
 abbrev pub gone : ℕ → Step
@@ -84,21 +88,21 @@ now k x = record { was = k; last = x }
 unfoldable pub begins : Edition → ℕ → ℕ → Now
 begins ed orders symbols =
     let k : Lent = fresh ed (row_size * orders) (entry_size * symbols) shelf_size 0 in
-    now k (handled (Received.Refused (refusal 0)) k)
+    now k (handled (Err (Why.Alone (refusal 0))) k)
 
 unfoldable pub goes_on : Now → List ℕ → Now
 goes_on w p = now w.last.after (received w.last.after p)
 
 -- a number of an account; a refused packet has none
-unfoldable pub of_account : (Account → ℕ) → Received → Told
-of_account f (Received.Accepted a) = number (f a)
-of_account f (Received.Refused r) = refusal_by r.number
-of_account f (Received.Bad b) = refusal_by b.number
+unfoldable pub of_account : (Account → ℕ) → Result Account Why → Told
+of_account f (Ok a) = number (f a)
+of_account f (Err (Why.Alone r)) = Err r.number
+of_account f (Err (Why.Placed b)) = Err b.number
 
-unfoldable pub place_of : Received → Told
-place_of (Received.Accepted a) = nothing
-place_of (Received.Refused r) = nothing
-place_of (Received.Bad b) = number b.at
+unfoldable pub place_of : Result Account Why → Told
+place_of (Ok a) = nothing
+place_of (Err (Why.Alone r)) = nothing
+place_of (Err (Why.Placed b)) = number b.at
 
 unfoldable pub differ : List ℕ → List ℕ → ℕ
 differ s t = pick (same_bytes s t) 0 1
@@ -108,9 +112,9 @@ changes a b =
     differ (orders_of a) (orders_of b) + differ (symbols_of a) (symbols_of b) + differ (shelf_of a) (shelf_of b) + differ (state_numbers (state_of a)) (state_numbers (state_of b))
 
 -- the rank in the row that was found
-unfoldable pub rank_in : Found → List Row → Told
-rank_in (Found.At i) rs = number (get_or rs i zero_row).rank
-rank_in Found.Nothing rs = nothing
+unfoldable pub rank_in : Option ℕ → List Row → Told
+rank_in (Some i) rs = number (get_or rs i zero_row).rank
+rank_in None rs = nothing
 
 unfoldable pub rank_of : ℕ → List Row → Told
 rank_of order rs = rank_in (find_order order rs) rs
@@ -120,23 +124,18 @@ unfoldable pub together : Row → Row → Bool
 together r s = both (eqb r.key s.key) (eqb r.price s.price)
 
 -- ranked "by sequence number": of two orders in one queue the one with the lower rank is ahead; nothing where one of them is not live, or they are in two queues
-unfoldable pub ahead_in : ℕ → Found → ℕ → Found → List Row → Told
-ahead_in a (Found.At i) b (Found.At j) rs =
+unfoldable pub ahead_in : ℕ → Option ℕ → ℕ → Option ℕ → List Row → Told
+ahead_in a (Some i) b (Some j) rs =
     pick (together (get_or rs i zero_row) (get_or rs j zero_row)) (number (pick (ltb (get_or rs i zero_row).rank (get_or rs j zero_row).rank) a b)) nothing
-ahead_in a (Found.At i) b Found.Nothing rs = nothing
-ahead_in a Found.Nothing b g rs = nothing
+ahead_in a (Some i) b None rs = nothing
+ahead_in a None b g rs = nothing
 
 unfoldable pub ahead_of : ℕ → ℕ → List Row → Told
 ahead_of a b rs = ahead_in a (find_order a rs) b (find_order b rs) rs
 
-unfoldable pub signed : ℤ → Told
-signed (pos n) = number n
-signed (negsuc n) = minus (suc n)
-
-unfoldable pub of_spread : SpreadAnswer → Told
-of_spread (SpreadAnswer.Of z) = signed z
-of_spread SpreadAnswer.Empty = nothing
-of_spread (SpreadAnswer.Refused r) = refusal_by r.number
+unfoldable pub of_spread : Result (Option ℤ) Refusal → Told
+of_spread (Ok z) = Ok z
+of_spread (Err r) = Err r.number
 
 -- what the definitions answer
 unfoldable pub answer_to : Ask → Now → Told

@@ -1,13 +1,6 @@
 // Laws only: choosing by a test, tests that the checker computes, searches and lists. No code runs from here.
 #![tactic(auto)]
 
-// Where a search of a list ended.
-#[derive(Clone, Copy)]
-pub enum Found {
-    At(usize),
-    Nothing,
-}
-
 // The limits of documents 01 and 02, each by one name (specs/Limits.antt has its sentences).
 pub const LAST_NUMBER: u64 = 1_000_000_000_000;
 

@@ -76,8 +76,8 @@ bad_at n at = record { number = n; at = at }
 -- the message of a body of a kind, whether its fields are in range or not; System Time (4.1) is its seconds
 unfoldable pub decoded : Kind → List ℕ → Body
 decoded Kind.SystemTime b = Body.SystemTime (read_as system_time b)
-decoded Kind.SymbolUpdate b = Body.SymbolUpdate
-decoded Kind.SystemState b = Body.SystemState
+decoded Kind.SymbolUpdate b = Body.SymbolUpdate (update_of b)
+decoded Kind.SystemState b = Body.SystemState (state_of b)
 decoded Kind.TradingStatus b = Body.TradingStatus (status_of b)
 decoded Kind.SymbolClear b = Body.SymbolClear (clear_of b)
 decoded Kind.Add b = Body.Add (add_of b)
@@ -91,8 +91,8 @@ decoded Kind.Unknown b = Body.Bad (bad_at 3 0)
 -- document 01's number of each answer, 0 for a message
 abbrev pub body_number : Body → ℕ
 body_number (Body.SystemTime n) = 0
-body_number Body.SymbolUpdate = 0
-body_number Body.SystemState = 0
+body_number (Body.SymbolUpdate m) = 0
+body_number (Body.SystemState m) = 0
 body_number (Body.TradingStatus m) = 0
 body_number (Body.SymbolClear m) = 0
 body_number (Body.Add m) = 0

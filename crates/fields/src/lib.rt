@@ -5,9 +5,10 @@ ghost use Rattle.std.specs.Prelude.{◌≡◌};
 ghost use Rattle.fields.specs.Fields.{status_of, clear_of, add_of, modify_of, delete_of, execution_of, trade_of, cancel_of, symbol_of, security_of, update_of, state_of, decoded};
 
 use kinds::Kind;
+use wire::Number;
 
 // Security Trading Status (4.4).
-#[derive(Clone, Copy)]
+#[derive(Clone, Copy, Debug, PartialEq, Eq)]
 pub struct TradingStatus {
     pub nanos: u32,
     pub symbol: u32,
@@ -17,14 +18,14 @@ pub struct TradingStatus {
 }
 
 // Symbol Clear (4.5).
-#[derive(Clone, Copy)]
+#[derive(Clone, Copy, Debug, PartialEq, Eq)]
 pub struct SymbolClear {
     pub nanos: u32,
     pub symbol: u32,
 }
 
 // Add Order (4.6); the attributable ID is its four letters read as one number.
-#[derive(Clone, Copy)]
+#[derive(Clone, Copy, Debug, PartialEq, Eq)]
 pub struct AddOrder {
     pub nanos: u32,
     pub symbol: u32,
@@ -36,7 +37,7 @@ pub struct AddOrder {
 }
 
 // Modify Order (4.7).
-#[derive(Clone, Copy)]
+#[derive(Clone, Copy, Debug, PartialEq, Eq)]
 pub struct ModifyOrder {
     pub nanos: u32,
     pub symbol: u32,
@@ -47,7 +48,7 @@ pub struct ModifyOrder {
 }
 
 // Delete Order (4.8).
-#[derive(Clone, Copy)]
+#[derive(Clone, Copy, Debug, PartialEq, Eq)]
 pub struct DeleteOrder {
     pub nanos: u32,
     pub symbol: u32,
@@ -55,7 +56,7 @@ pub struct DeleteOrder {
 }
 
 // Order Execution (4.9).
-#[derive(Clone, Copy)]
+#[derive(Clone, Copy, Debug, PartialEq, Eq)]
 pub struct OrderExecution {
     pub nanos: u32,
     pub symbol: u32,
@@ -67,7 +68,7 @@ pub struct OrderExecution {
 }
 
 // Trade (4.10).
-#[derive(Clone, Copy)]
+#[derive(Clone, Copy, Debug, PartialEq, Eq)]
 pub struct Trade {
     pub nanos: u32,
     pub symbol: u32,
@@ -79,7 +80,7 @@ pub struct Trade {
 }
 
 // Trade Cancel (4.11).
-#[derive(Clone, Copy)]
+#[derive(Clone, Copy, Debug, PartialEq, Eq)]
 pub struct TradeCancel {
     pub nanos: u32,
     pub symbol: u32,
@@ -90,7 +91,7 @@ pub struct TradeCancel {
 }
 
 // Symbol Update (4.2), what the table and the sheet show of it. All of its fields are in SymbolUpdate.
-#[derive(Clone, Copy)]
+#[derive(Clone, Copy, Debug, PartialEq, Eq)]
 pub struct Symbol {
     pub id: u32,
     pub ticker: [u8; 11],
@@ -101,7 +102,7 @@ pub struct Symbol {
 }
 
 // Symbol Update (4.2), every field of it: byte 20 is the Security Type of 1.3 and reserved from 1.3.a on, byte 22 is reserved.
-#[derive(Clone, Copy)]
+#[derive(Clone, Copy, Debug, PartialEq, Eq)]
 pub struct SymbolUpdate {
     pub nanos: u32,
     pub symbol: Symbol,
@@ -111,7 +112,7 @@ pub struct SymbolUpdate {
 }
 
 // System State (4.3).
-#[derive(Clone, Copy)]
+#[derive(Clone, Copy, Debug, PartialEq, Eq)]
 pub struct SystemState {
     pub nanos: u32,
     pub version: [u8; 8],
@@ -120,26 +121,25 @@ pub struct SystemState {
 }
 
 // Why something is refused: document 01's number.
-#[derive(Clone, Copy)]
+#[derive(Clone, Copy, Debug, PartialEq, Eq)]
 pub struct Refusal {
     pub number: u8,
 }
 
 // Why bytes that were read are refused: the number, 2 to 5, and the offset of the first byte at fault in what was read. A stream keeps
 // its last refusal so too, with offset 0 where the number stands alone.
-#[derive(Clone, Copy)]
+#[derive(Clone, Copy, Debug, PartialEq, Eq)]
 pub struct Fault {
     pub number: u8,
     pub at: usize,
 }
 
-// What a body says, or why it is refused. An enum holds no array, so the fields of a Symbol Update and of a System State stand
-// beside it: update_of and state_of.
-#[derive(Clone, Copy)]
+// What a body says, or why it is refused.
+#[derive(Clone, Copy, Debug, PartialEq, Eq)]
 pub enum Body {
     SystemTime(u32),
-    SymbolUpdate,
-    SystemState,
+    SymbolUpdate(SymbolUpdate),
+    SystemState(SystemState),
     TradingStatus(TradingStatus),
     SymbolClear(SymbolClear),
     Add(AddOrder),
@@ -155,11 +155,11 @@ pub fn status_of(b: &[u8]) -> TradingStatus
     ensures { result ≡ status_of b.now }
 {
     TradingStatus {
-        nanos: wire::u32_at(b, 1),
-        symbol: wire::u32_at(b, 5),
-        trading: wire::u8_at(b, 9),
-        market: wire::u8_at(b, 10),
-        short: wire::u8_at(b, 11),
+        nanos: u32::at(b, 1),
+        symbol: u32::at(b, 5),
+        trading: u8::at(b, 9),
+        market: u8::at(b, 10),
+        short: u8::at(b, 11),
     }
 }
 
@@ -167,8 +167,8 @@ pub fn clear_of(b: &[u8]) -> SymbolClear
     ensures { result ≡ clear_of b.now }
 {
     SymbolClear {
-        nanos: wire::u32_at(b, 1),
-        symbol: wire::u32_at(b, 5),
+        nanos: u32::at(b, 1),
+        symbol: u32::at(b, 5),
     }
 }
 
@@ -176,13 +176,13 @@ pub fn add_of(b: &[u8]) -> AddOrder
     ensures { result ≡ add_of b.now }
 {
     AddOrder {
-        nanos: wire::u32_at(b, 1),
-        symbol: wire::u32_at(b, 5),
-        order: wire::u64_at(b, 9),
-        side: wire::u8_at(b, 17),
-        price: wire::u64_at(b, 18),
-        size: wire::u32_at(b, 26),
-        attributable: wire::u32_at(b, 30),
+        nanos: u32::at(b, 1),
+        symbol: u32::at(b, 5),
+        order: u64::at(b, 9),
+        side: u8::at(b, 17),
+        price: u64::at(b, 18),
+        size: u32::at(b, 26),
+        attributable: u32::at(b, 30),
     }
 }
 
@@ -190,12 +190,12 @@ pub fn modify_of(b: &[u8]) -> ModifyOrder
     ensures { result ≡ modify_of b.now }
 {
     ModifyOrder {
-        nanos: wire::u32_at(b, 1),
-        symbol: wire::u32_at(b, 5),
-        order: wire::u64_at(b, 9),
-        price: wire::u64_at(b, 17),
-        size: wire::u32_at(b, 25),
-        flags: wire::u8_at(b, 29),
+        nanos: u32::at(b, 1),
+        symbol: u32::at(b, 5),
+        order: u64::at(b, 9),
+        price: u64::at(b, 17),
+        size: u32::at(b, 25),
+        flags: u8::at(b, 29),
     }
 }
 
@@ -203,9 +203,9 @@ pub fn delete_of(b: &[u8]) -> DeleteOrder
     ensures { result ≡ delete_of b.now }
 {
     DeleteOrder {
-        nanos: wire::u32_at(b, 1),
-        symbol: wire::u32_at(b, 5),
-        order: wire::u64_at(b, 9),
+        nanos: u32::at(b, 1),
+        symbol: u32::at(b, 5),
+        order: u64::at(b, 9),
     }
 }
 
@@ -213,13 +213,13 @@ pub fn execution_of(b: &[u8]) -> OrderExecution
     ensures { result ≡ execution_of b.now }
 {
     OrderExecution {
-        nanos: wire::u32_at(b, 1),
-        symbol: wire::u32_at(b, 5),
-        order: wire::u64_at(b, 9),
-        trade: wire::u64_at(b, 17),
-        price: wire::u64_at(b, 25),
-        size: wire::u32_at(b, 33),
-        flags: wire::u8_at(b, 37),
+        nanos: u32::at(b, 1),
+        symbol: u32::at(b, 5),
+        order: u64::at(b, 9),
+        trade: u64::at(b, 17),
+        price: u64::at(b, 25),
+        size: u32::at(b, 33),
+        flags: u8::at(b, 37),
     }
 }
 
@@ -227,13 +227,13 @@ pub fn trade_of(b: &[u8]) -> Trade
     ensures { result ≡ trade_of b.now }
 {
     Trade {
-        nanos: wire::u32_at(b, 1),
-        symbol: wire::u32_at(b, 5),
-        trade: wire::u64_at(b, 9),
-        correction: wire::u8_at(b, 17),
-        price: wire::u64_at(b, 18),
-        size: wire::u32_at(b, 26),
-        flags: wire::u8_at(b, 30),
+        nanos: u32::at(b, 1),
+        symbol: u32::at(b, 5),
+        trade: u64::at(b, 9),
+        correction: u8::at(b, 17),
+        price: u64::at(b, 18),
+        size: u32::at(b, 26),
+        flags: u8::at(b, 30),
     }
 }
 
@@ -241,28 +241,28 @@ pub fn cancel_of(b: &[u8]) -> TradeCancel
     ensures { result ≡ cancel_of b.now }
 {
     TradeCancel {
-        nanos: wire::u32_at(b, 1),
-        symbol: wire::u32_at(b, 5),
-        trade: wire::u64_at(b, 9),
-        correction: wire::u8_at(b, 17),
-        price: wire::u64_at(b, 18),
-        size: wire::u32_at(b, 26),
+        nanos: u32::at(b, 1),
+        symbol: u32::at(b, 5),
+        trade: u64::at(b, 9),
+        correction: u8::at(b, 17),
+        price: u64::at(b, 18),
+        size: u32::at(b, 26),
     }
 }
 
 pub fn symbol_of(b: &[u8]) -> Symbol
     ensures { result ≡ symbol_of b.now }
 {
-    let ticker = wire::eleven_at(b, 9);
-    let opening = wire::eight_at(b, 25);
-    let closing = wire::eight_at(b, 33);
+    let ticker = wire::bytes_at(b, 9);
+    let opening = wire::bytes_at(b, 25);
+    let closing = wire::bytes_at(b, 33);
     Symbol {
-        id: wire::u32_at(b, 5),
+        id: u32::at(b, 5),
         ticker,
         opening,
         closing,
-        lot: wire::u16_at(b, 23),
-        market: wire::u8_at(b, 41),
+        lot: u16::at(b, 23),
+        market: u8::at(b, 41),
     }
 }
 
@@ -270,7 +270,7 @@ pub fn symbol_of(b: &[u8]) -> Symbol
 pub fn security_of(b: &[u8]) -> u8
     ensures { result ≡ security_of b.now }
 {
-    wire::u8_at(b, 20)
+    u8::at(b, 20)
 }
 
 pub fn update_of(b: &[u8]) -> SymbolUpdate
@@ -278,34 +278,35 @@ pub fn update_of(b: &[u8]) -> SymbolUpdate
 {
     let symbol = symbol_of(b);
     SymbolUpdate {
-        nanos: wire::u32_at(b, 1),
+        nanos: u32::at(b, 1),
         symbol,
         security: security_of(b),
-        test: wire::u8_at(b, 21),
-        reserved: wire::u8_at(b, 22),
+        test: u8::at(b, 21),
+        reserved: u8::at(b, 22),
     }
 }
 
 pub fn state_of(b: &[u8]) -> SystemState
     ensures { result ≡ state_of b.now }
 {
-    let version = wire::eight_at(b, 5);
+    let version = wire::bytes_at(b, 5);
     SystemState {
-        nanos: wire::u32_at(b, 1),
+        nanos: u32::at(b, 1),
         version,
-        session: wire::u8_at(b, 13),
-        status: wire::u8_at(b, 14),
+        session: u8::at(b, 13),
+        status: u8::at(b, 14),
     }
 }
 
 // The fields of a body of a kind, whether in range or not.
+#[tactic(auto, unfolding(crate::specs::Fields::decoded))]
 pub fn decode(k: Kind, b: &[u8]) -> Body
     ensures { result ≡ decoded k b.now }
 {
     match k {
-        Kind::SystemTime => Body::SystemTime(wire::u32_at(b, 1)),
-        Kind::SymbolUpdate => Body::SymbolUpdate,
-        Kind::SystemState => Body::SystemState,
+        Kind::SystemTime => Body::SystemTime(u32::at(b, 1)),
+        Kind::SymbolUpdate => Body::SymbolUpdate(update_of(b)),
+        Kind::SystemState => Body::SystemState(state_of(b)),
         Kind::TradingStatus => Body::TradingStatus(status_of(b)),
         Kind::SymbolClear => Body::SymbolClear(clear_of(b)),
         Kind::Add => Body::Add(add_of(b)),

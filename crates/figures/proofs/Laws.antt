@@ -1,11 +1,10 @@
 -- What is written of a number, a price or a time is read back as it: decimals and places say their number, and their bytes are digits, which neither the full stop nor a colon is.
 -- Assumes nothing.
-use Prim.Native.Nat.{ℕ, suc, ◌+◌, ◌-◌, ◌*◌, ◌/◌, ◌%◌, ◌^◌, ◌≤◌, ◌<◌}
+use Prim.Native.Nat.{ℕ, ◌+◌, ◌-◌, ◌*◌, ◌/◌, ◌%◌, ◌^◌, ◌≤◌, ◌<◌}
 use mathlib.Core.Path.{◌≡◌, refl, sym, ap, ◌∙◌}
 use mathlib.Core.Bool.{true, false}
 use mathlib.Core.List.{List, [], ◌∷◌, append-nil}
 use native.Mathlib.Decide.{dec_le}
-use native.Mathlib.Numerals.{add-one}
 use native.Mathlib.Omega.{arith}
 use lib.ListN.{length, get_or, take, drop, length-append}
 use lib.Seq.{take-append_seam, drop-append-add}
@@ -19,10 +18,10 @@ use Rattle.words.specs.Types.{all_from, decimal_from}
 use Rattle.spans.specs.Spans.{place_of}
 use Rattle.spans.proofs.Laws.{place_front, place_below}
 use Rattle.figures.specs.Figures.{number_in, places_of, most_dollars, millionths_in, priced, price_in, price_text, timed, coloned, hours_in, clock_in, hours_text, clock_text}
-use Rattle.figures.specs.declared.Figure.{Figure}
+use Rattle.std.specs.Prelude.{Some}
 use Rattle.figures.proofs.NumberLaws.{number_is}
 use Rattle.figures.proofs.PlaceLaws.{all_cons, all_join, all_wider, places_length, places_digits, two_back, six_back}
-use Rattle.figures.proofs.FormLaws.{price_split, clock_hours, clock_number, clock_day, clock_past}
+use Rattle.figures.proofs.FormLaws.{price_split, clock_number, clock_day, clock_past}
 
 -- ---- decimals
 decimal_all : (n : ℕ) → all_from 48 57 (decimal_of n) ≡ true
@@ -37,7 +36,7 @@ unfolding decimal_from read_on
 read_same a [] = refl
 read_same a (x ∷ s) = read_same (10 * a + (x - 48)) s
 
-pub number_back : (most n : ℕ) → n ≤ most → number_in most (decimal_of n) ≡ Figure.Is n
+pub number_back : (most n : ℕ) → n ≤ most → number_in most (decimal_of n) ≡ Some n
 number_back most n h = sym (number_is most (decimal_of n) n (decimal_some n) (decimal_all n) (read_same 0 (decimal_of n) ∙ decimal_reads n) h)
 
 digits_solid : (s : List ℕ) → all_from 48 57 s ≡ true → all_from 33 126 s ≡ true
@@ -55,31 +54,26 @@ price_length : (n : ℕ) → length (price_text n) ≡ length (decimal_of (n / 1
 unfolding price_text
 price_length n = length-append (decimal_of (n / 1000000)) (46 ∷ places_of 6 n) ∙ omega (arith, places_length 6 n)
 
-module _ (n : ℕ) (h : n ≤ 1000000000000000) where
-  price_place : length (decimal_of (n / 1000000)) ≡ place_of 46 (price_text n)
+module _ (n : ℕ) where
+  price_place : place_of 46 (price_text n) ≡ length (decimal_of (n / 1000000))
   unfolding price_text
   price_place =
       let d = decimal_of (n / 1000000) in
-      sym (place_front 46 d (places_of 6 n) (place_below 46 48 57 d (decimal_all (n / 1000000)) (omega arith)))
+      place_front 46 d (places_of 6 n) (place_below 46 48 57 d (decimal_all (n / 1000000)) (omega arith))
 
-  price_dollars : Figure.Is (n / 1000000) ≡ number_in most_dollars (take (length (decimal_of (n / 1000000))) (price_text n))
+  price_dollars : n ≤ 1000000000000000 → number_in most_dollars (take (length (decimal_of (n / 1000000))) (price_text n)) ≡ Some (n / 1000000)
   unfolding price_text
-  price_dollars = rw (take-append_seam (decimal_of (n / 1000000)) (46 ∷ places_of 6 n)) (sym (number_back most_dollars (n / 1000000) (omega arith)))
+  price_dollars h = rw (take-append_seam (decimal_of (n / 1000000)) (46 ∷ places_of 6 n)) (number_back most_dollars (n / 1000000) (omega arith))
 
-  price_millionths : Figure.Is (n % 1000000) ≡ millionths_in (drop (suc (length (decimal_of (n / 1000000)))) (price_text n))
+  price_millionths : millionths_in (drop (length (decimal_of (n / 1000000)) + 1) (price_text n)) ≡ Some (n % 1000000)
   unfolding price_text
-  price_millionths =
-      rw (← add-one (length (decimal_of (n / 1000000))), drop-append-add (decimal_of (n / 1000000)) (46 ∷ places_of 6 n) 1)
-      (sym (six_digits (places_of 6 n) (places_length 6 n) ∙ six_back n))
+  price_millionths = rw (drop-append-add (decimal_of (n / 1000000)) (46 ∷ places_of 6 n) 1) (six_digits (places_of 6 n) (places_length 6 n) ∙ six_back n)
 
-  price_whole : Figure.Is n ≡ priced (Figure.Is (n / 1000000)) (Figure.Is (n % 1000000))
-  unfolding priced
-  price_whole = ap Figure.Is (omega arith)
-
-pub price_back : (n : ℕ) → n ≤ 1000000000000000 → price_in (price_text n) ≡ Figure.Is n
+pub price_back : (n : ℕ) → n ≤ 1000000000000000 → price_in (price_text n) ≡ Some n
+unfolding priced
 price_back n h =
-    sym (price_split (price_text n) (length (decimal_of (n / 1000000))) (price_place n h) (Figure.Is (n / 1000000)) (Figure.Is n) (Figure.Is (n % 1000000))
-    (omega (arith, price_length n)) (price_dollars n h) (price_millionths n h) (price_whole n h))
+    price_split (price_text n) (length (decimal_of (n / 1000000))) (price_place n) (omega (arith, price_length n))
+    ∙ rw (price_dollars n h, price_millionths n) (ap Some (omega arith))
 
 pub price_solid : (n : ℕ) → (1 ≤ length (price_text n)) × (all_from 33 126 (price_text n) ≡ true)
 unfolding price_text
@@ -101,35 +95,31 @@ clock_ind P n a b = go (dec_le 86400 n)
     go (yes h) = rw (← clock_past n h) (b h)
     go (no h) = let l : n < 86400 = omega arith in rw (← clock_day n l) (a l)
 
-hours_coloned : (n : ℕ) → coloned (hours_text n) ≡ true
-unfolding coloned hours_text places_of both
-hours_coloned n = refl
-
-hours_parted : (n : ℕ) → hours_in (hours_text n) ≡ timed (number_in 23 (places_of 2 (n / 3600))) (number_in 59 (places_of 2 (n / 60 % 60))) (number_in 59 (places_of 2 (n % 60)))
-unfolding hours_in hours_text places_of
+hours_parted : (n : ℕ) → clock_in (hours_text n) ≡ timed (number_in 23 (places_of 2 (n / 3600))) (number_in 59 (places_of 2 (n / 60 % 60))) (number_in 59 (places_of 2 (n % 60)))
+unfolding clock_in hours_in coloned hours_text places_of pick both
 hours_parted n = refl
 
-hours_back : (n : ℕ) → n < 86400 → Figure.Is n ≡ hours_in (hours_text n)
+hours_back : (n : ℕ) → n < 86400 → clock_in (hours_text n) ≡ Some n
 unfolding timed
 hours_back n h =
     rw (hours_parted n, two_back 23 (n / 3600) (omega arith) (omega arith), two_back 59 (n / 60 % 60) (omega arith) (omega arith), two_back 59 (n % 60) (omega arith) (omega arith))
-    (ap Figure.Is (omega arith))
+    (ap Some (omega arith))
 
 -- no digit is a colon
-decimal_plain : (n : ℕ) → false ≡ coloned (decimal_of n)
+decimal_plain : (n : ℕ) → coloned (decimal_of n) ≡ false
 unfolding coloned
-decimal_plain n = refuted (coloned (decimal_of n)) (λ e.
+decimal_plain n = sym (refuted (coloned (decimal_of n)) (λ e.
     let d = decimal_of n in
     let w = both_true {a = eqb (length d) 8} {b = both (eqb (get_or d 2 0) 58) (eqb (get_or d 5 0) 58)} e in
     let v = both_true {a = eqb (get_or d 2 0) 58} {b = eqb (get_or d 5 0) 58} w.1 in
     let l : length d ≡ 8 = eqb-true (length d) 8 w.0 in
-    omega (arith, eqb-true (get_or d 2 0) 58 v.0, decimal_digits n 2 (omega arith)))
+    omega (arith, eqb-true (get_or d 2 0) 58 v.0, decimal_digits n 2 (omega arith))))
 
-pub clock_back : (n : ℕ) → n ≤ 4294967295 → clock_in (clock_text n) ≡ Figure.Is n
+pub clock_back : (n : ℕ) → n ≤ 4294967295 → clock_in (clock_text n) ≡ Some n
 clock_back n h =
-    clock_ind (λ s. clock_in s ≡ Figure.Is n) n
-    (λ l. sym (clock_hours (hours_text n) true (Figure.Is n) (sym (hours_coloned n)) refl (hours_back n l)))
-    (λ l. sym (clock_number (decimal_of n) false (Figure.Is n) (decimal_plain n) refl (sym (number_back 4294967295 n h))))
+    clock_ind (λ s. clock_in s ≡ Some n) n
+    (λ l. hours_back n l)
+    (λ l. clock_number (decimal_of n) (decimal_plain n) ∙ number_back 4294967295 n h)
 
 hours_length : (n : ℕ) → length (hours_text n) ≡ 8
 unfolding hours_text places_of

@@ -14,7 +14,7 @@ use Rattle.words.specs.Types.{all_from, decimal_from}
 use Rattle.text.specs.Text.{last_place, Wrote}
 use Rattle.text.proofs.Laws.{wrote_none, wrote_then}
 use Rattle.figures.specs.Figures.{number_in, places_of}
-use Rattle.figures.specs.declared.Figure.{Figure}
+use Rattle.std.specs.Prelude.{Some}
 use Rattle.figures.proofs.NumberLaws.{number_is}
 
 -- ---- written
@@ -78,10 +78,10 @@ places_say (suc k) q n r e h =
     let p : decimal_from 0 (places_of k (n / 10)) ≡ r / 10 = places_say k q (n / 10) (r / 10) (omega arith) (omega arith) in
     from_snoc 0 (places_of k (n / 10)) (48 + n % 10) ∙ omega arith
 
-pub two_back : (most n : ℕ) → n < 100 → n ≤ most → number_in most (places_of 2 n) ≡ Figure.Is n
+pub two_back : (most n : ℕ) → n < 100 → n ≤ most → number_in most (places_of 2 n) ≡ Some n
 unfolding scaled
 two_back most n h l = sym (number_is most (places_of 2 n) n (omega (arith, places_length 2 n)) (places_digits 2 n) (places_say 2 0 n n (omega arith) h) l)
 
-pub six_back : (n : ℕ) → number_in 999999 (places_of 6 n) ≡ Figure.Is (n % 1000000)
+pub six_back : (n : ℕ) → number_in 999999 (places_of 6 n) ≡ Some (n % 1000000)
 unfolding scaled
 six_back n = sym (number_is 999999 (places_of 6 n) (n % 1000000) (omega (arith, places_length 6 n)) (places_digits 6 n) (places_say 6 (n / 1000000) n (n % 1000000) (omega arith) (omega arith)) (omega arith))

@@ -3,23 +3,31 @@
 use mathlib.Core.Path.{◌≡◌, refl, sym, ap, ◌∙◌}
 use mathlib.Core.List.{List, [], ◌∷◌}
 use mathlib.Core.Bool.{Bool, true, false, true≢false, ◌&&◌}
-use mathlib.Core.Logic.{◌⊎◌, inl, inr, ⊎_elim}
+use mathlib.Core.Logic.{inl, inr, ⊎_elim}
 use Prim.Native.Nat.{ℕ, zero, suc, ◌+◌, ◌-◌, ◌*◌, ◌/◌, ◌%◌, ◌≤◌, ◌<◌}
 use native.Mathlib.Nat.{sub-zero}
 use native.Mathlib.Numerals.{add-one}
 use native.Mathlib.Omega.{arith}
-use lib.ListN.{length, get_or, set, drop, drop_of_length-le}
+use lib.ListN.{length, get_or, set, drop, drop_of_length-le, length-drop}
 use lib.Seq.{drop-cons}
-use lib.Dec.{eqb}
-use borrow.Author.Tests.{le-leb, lt-leb, lt-ltb, le-ltb, eq-eqb, ne_eqb, eqb-true, eqb-false}
-use Rattle.facts.specs.Pick.{pick, both}
+use lib.Dec.{eqb, ltb}
+use native.Mathlib.Decide.{ℕ_discrete}
+use Rattle.std.specs.Prelude.{◌==◌, ◌++◌, bit_or, fold, take, replicate, leb, min}
+use Rattle.std.proofs.lemmas.List.Sums.{prefix_len-le-length}
+use Rattle.std.specs.List.{list_all, prefix_len, slice_range}
+use Rattle.std.specs.Simd.{first_chunks}
+use Rattle.std.proofs.Math.Bool.{and-false}
+use Rattle.std.proofs.lemmas.Nat.{le_or_l, le_or_r}
+use Rattle.std.proofs.lemmas.List.{get_or-take, get_or-drop, length-take-le}
+use borrow.Author.Tests.{le-leb, lt-leb, leb-true, leb-false, lt-ltb, le-ltb, ltb-true, ltb-false, eq-eqb, ne_eqb, eqb-true, eqb-false}
+use Rattle.facts.specs.Pick.{pick, both, either}
 use Rattle.facts.specs.Search.{first}
-use Rattle.facts.specs.declared.Found.TheVariants.{At, Nothing}
+use Rattle.std.specs.Prelude.{Option, Some, None}
 use Rattle.facts.proofs.Picks.{pick_cases}
 use Rattle.rows.specs.declared.Row.{Row}
 use Rattle.rows.specs.Rows.{zero_row, free, live}
 use Rattle.rows.specs.Find.{is_order}
-use Rattle.index.specs.Index.{slots, blocks, used_of, count_of, tag_of, packed, fits, hash, next, probe, looked, vacant, filled_at, placed, taken, freed, block_from, free_in, lowest_free, entered, each_row, front, zeroed, built, roomy}
+use Rattle.index.specs.Index.{slots, blocks, used_of, count_of, tag_of, packed, fits, hash, next, probe, looked, WalkEnds, vacant, filled_at, placed, taken, freed, block_from, free_in, lowest_free, entered, each_row, front, zeroed, built, roomy}
 
 -- ---- the numbers, for omega
 pub slots_is : slots ≡ 32768
@@ -53,52 +61,70 @@ block_none n h = omega (arith, blocks_is)
 
 -- ---- a slot's row
 module _ (id : ℕ) (rs : List Row) (s : ℕ) where
-  pub fits_other : (s / 65536 ≡ tag_of id → ⊥) → false ≡ fits id rs s
-  unfolding fits both
-  fits_other n = rw (ne_eqb (s / 65536) (tag_of id) n)
-
   pub fits_same : s / 65536 ≡ tag_of id → is_order id (get_or rs (s % 65536) zero_row) ≡ fits id rs s
   unfolding fits both
   fits_same e = rw (eq-eqb (s / 65536) (tag_of id) e)
 
--- ---- a search that stands at slot p after n steps
-module _ (ix : List ℕ) (rs : List Row) (id : ℕ) where
-  pub look_start : (p : ℕ) → p ≡ hash id → looked ix rs id ≡ probe (slots - 0) ix rs id p
-  unfolding looked
-  look_start p e = rw (e, sub-zero slots)
+-- ---- a walk that a test decides, at slot p after n steps
+module _ (says : ℕ → Bool → Type 0) (ix : List ℕ) where
+  pub walk_start : (id p : ℕ) (found : Option ℕ) → p ≡ hash id → WalkEnds says (slots - 0) ix ((p + 0) % 32768) found → WalkEnds says slots ix (hash id) found
+  walk_start id p found e w = let q : (p + 0) % 32768 ≡ hash id = omega (arith, e, hash_below id) in rw (q, sub-zero slots) at w
 
-  pub look_stop : (n p : ℕ) → n < 32768 → get_or ix p 0 ≡ 0 → probe (slots - n) ix rs id p ≡ Nothing
-  unfolding probe pick
-  look_stop n p h e = rw (slot_more n h, eq-eqb (get_or ix p 0) 0 e)
+  pub walk_hit : (n p s : ℕ) → n < 32768 → s ≡ get_or ix p 0 → says s true → WalkEnds says (slots - n) ix p (Some p)
+  unfolding WalkEnds
+  walk_hit n p s h e t = rw (slot_more n h) (inl (rw e at t, refl))
 
-  pub look_hit : (n p : ℕ) → n < 32768 → (get_or ix p 0 ≡ 0 → ⊥) → fits id rs (get_or ix p 0) ≡ true → probe (slots - n) ix rs id p ≡ At (get_or ix p 0 % 65536)
-  unfolding probe pick
-  look_hit n p h e f = rw (slot_more n h, ne_eqb (get_or ix p 0) 0 e, f)
+  pub walk_on : (n p q s : ℕ) (found : Option ℕ) → n < 32768 → s ≡ get_or ix p 0 → says s false → q ≡ (p + 1) % 32768 → WalkEnds says (slots - (n + 1)) ix q found → WalkEnds says (slots - n) ix p found
+  unfolding WalkEnds next
+  walk_on n p q s found h e f z w = rw (slot_more n h) (inr (rw e at f, rw z at w))
 
-  pub look_on : (n p : ℕ) → n < 32768 → (get_or ix p 0 ≡ 0 → ⊥) → fits id rs (get_or ix p 0) ≡ false → probe (slots - n) ix rs id p ≡ probe (slots - (n + 1)) ix rs id ((p + 1) % 32768)
-  unfolding probe pick next
-  look_on n p h e f = rw (slot_more n h, ne_eqb (get_or ix p 0) 0 e, f)
+  pub walk_end : (n p : ℕ) → 32768 ≤ n → WalkEnds says (slots - n) ix p None
+  unfolding WalkEnds
+  walk_end n p h = rw (slot_none n h) refl
 
-  pub look_end : (n p : ℕ) → 32768 ≤ n → probe (slots - n) ix rs id p ≡ Nothing
-  unfolding probe
-  look_end n p h = rw (slot_none n h)
+-- the walk over the slots of an order ID: a slot that it ends at is empty, or the order's row
+pub slot_row : List ℕ → Option ℕ → Option ℕ
+slot_row ix None = None
+slot_row ix (Some p) = pick (eqb (get_or ix p 0) 0) None (Some (get_or ix p 0 % 65536))
 
--- ---- a search for an empty slot
-module _ (ix : List ℕ) where
-  pub vacant_start : (id p : ℕ) → p ≡ hash id → vacant slots ix (hash id) ≡ vacant (slots - 0) ix p
-  vacant_start id p e = rw (e, sub-zero slots)
+ends : {A : Type 0} (b f : Bool) (x y z : A) → true ≡ either b f → pick b x (pick f y z) ≡ pick b x y
+unfolding either pick
+ends true f x y z h = refl
+ends false true x y z h = refl
+ends false false x y z h = absurd (true≢false h)
 
-  pub vacant_stop : (n p : ℕ) → n < 32768 → get_or ix p 0 ≡ 0 → vacant (slots - n) ix p ≡ At p
-  unfolding vacant pick
-  vacant_stop n p h e = rw (slot_more n h, eq-eqb (get_or ix p 0) 0 e)
+goes_on : {A : Type 0} (b f : Bool) (x y z : A) → false ≡ either b f → pick b x (pick f y z) ≡ z
+unfolding either pick
+goes_on true f x y z h = absurd (true≢false (sym h))
+goes_on false true x y z h = absurd (true≢false (sym h))
+goes_on false false x y z h = refl
 
-  pub vacant_on : (n p : ℕ) → n < 32768 → (get_or ix p 0 ≡ 0 → ⊥) → vacant (slots - n) ix p ≡ vacant (slots - (n + 1)) ix ((p + 1) % 32768)
-  unfolding vacant pick next
-  vacant_on n p h e = rw (slot_more n h, ne_eqb (get_or ix p 0) 0 e)
+module _ (says : ℕ → Bool → Type 0) (ix : List ℕ) where
+  pub probe_walk : (id : ℕ) (rs : List Row) → ((s : ℕ) (b : Bool) → says s b → b ≡ either (eqb s 0) (fits id rs s)) → (n p : ℕ) (found : Option ℕ) → WalkEnds says n ix p found → probe n ix rs id p ≡ slot_row ix found
+  unfolding WalkEnds probe slot_row
+  probe_walk id rs is zero p found e = rw e refl
+  probe_walk id rs is (suc n) p found (inl (t, e)) = rw e (ends (eqb (get_or ix p 0) 0) (fits id rs (get_or ix p 0)) _ _ _ (is (get_or ix p 0) true t))
+  probe_walk id rs is (suc n) p found (inr (f, w)) = goes_on (eqb (get_or ix p 0) 0) (fits id rs (get_or ix p 0)) _ _ _ (is (get_or ix p 0) false f) ∙ probe_walk id rs is n (next p) found w
 
-  pub vacant_end : (n p : ℕ) → 32768 ≤ n → vacant (slots - n) ix p ≡ Nothing
-  unfolding vacant
-  vacant_end n p h = rw (slot_none n h)
+  pub vacant_walk : ((s : ℕ) (b : Bool) → says s b → b ≡ eqb s 0) → (n p : ℕ) (found : Option ℕ) → WalkEnds says n ix p found → found ≡ vacant n ix p
+  unfolding WalkEnds vacant pick
+  vacant_walk is zero p found e = e
+  vacant_walk is (suc n) p found (inl (t, e)) = rw (sym (is (get_or ix p 0) true t)) e
+  vacant_walk is (suc n) p found (inr (f, w)) = rw (sym (is (get_or ix p 0) false f)) (vacant_walk is n (next p) found w)
+
+-- as the code meets it
+module _ (says : ℕ → Bool → Type 0) (ix : List ℕ) (id : ℕ) (rs : List Row) (is : (s : ℕ) (b : Bool) → says s b → b ≡ either (eqb s 0) (fits id rs s)) where
+  pub look_nowhere : WalkEnds says slots ix (hash id) None → looked ix rs id ≡ None
+  unfolding looked slot_row
+  look_nowhere w = probe_walk says ix id rs is slots (hash id) None w
+
+  pub look_empty : (p : ℕ) → WalkEnds says slots ix (hash id) (Some p) → get_or ix p 0 ≡ 0 → looked ix rs id ≡ None
+  unfolding looked slot_row pick
+  look_empty p w e = probe_walk says ix id rs is slots (hash id) (Some p) w ∙ rw (eq-eqb (get_or ix p 0) 0 e)
+
+  pub look_row : (p : ℕ) → WalkEnds says slots ix (hash id) (Some p) → (get_or ix p 0 ≡ 0 → ⊥) → looked ix rs id ≡ Some (get_or ix p 0 % 65536)
+  unfolding looked slot_row pick
+  look_row p w n = probe_walk says ix id rs is slots (hash id) (Some p) w ∙ rw (ne_eqb (get_or ix p 0) 0 n)
 
 -- ---- a row placed
 module _ (ix : List ℕ) (id i : ℕ) where
@@ -106,11 +132,11 @@ module _ (ix : List ℕ) (id i : ℕ) where
   unfolding placed pick
   placed_full h = rw (le-leb 32768 (used_of ix) h)
 
-  pub placed_none : used_of ix < 32768 → vacant slots ix (hash id) ≡ Nothing → placed ix id i ≡ ix
+  pub placed_none : used_of ix < 32768 → vacant slots ix (hash id) ≡ None → placed ix id i ≡ ix
   unfolding placed pick filled_at
   placed_none h e = rw (lt-leb 32768 (used_of ix) h, e)
 
-  pub placed_at : (p : ℕ) → used_of ix < 32768 → vacant slots ix (hash id) ≡ At p → placed ix id i ≡ set (set ix p (packed id i)) 32768 (used_of ix + 1)
+  pub placed_at : (p : ℕ) → used_of ix < 32768 → vacant slots ix (hash id) ≡ Some p → placed ix id i ≡ set (set ix p (packed id i)) 32768 (used_of ix + 1)
   unfolding placed pick filled_at
   placed_at p h e = rw (lt-leb 32768 (used_of ix) h, e)
 
@@ -138,39 +164,58 @@ and_both true true e = (refl, refl)
 and_both true false e = absurd (true≢false (sym e))
 and_both false b e = absurd (true≢false (sym e))
 
-below_8 : (f : ℕ → ℕ) → f 0 ≡ 0 → f 1 ≡ 0 → f 2 ≡ 0 → f 3 ≡ 0 → f 4 ≡ 0 → f 5 ≡ 0 → f 6 ≡ 0 → f 7 ≡ 0 → (k : ℕ) → k < 8 → f k ≡ 0
-below_8 f a b c d e g h i zero l = a
-below_8 f a b c d e g h i (suc zero) l = b
-below_8 f a b c d e g h i (suc (suc zero)) l = c
-below_8 f a b c d e g h i (suc (suc (suc zero))) l = d
-below_8 f a b c d e g h i (suc (suc (suc (suc zero)))) l = e
-below_8 f a b c d e g h i (suc (suc (suc (suc (suc zero))))) l = g
-below_8 f a b c d e g h i (suc (suc (suc (suc (suc (suc zero)))))) l = h
-below_8 f a b c d e g h i (suc (suc (suc (suc (suc (suc (suc zero))))))) l = i
-below_8 f a b c d e g h i (suc (suc (suc (suc (suc (suc (suc (suc k)))))))) l = absurd (omega arith)
+and_true : (a : Bool) → a && true ≡ a
+and_true true = refl
+and_true false = refl
 
-module _ (ix : List ℕ) (p : ℕ) where
-  number_is : (k : ℕ) → eqb (get_or ix (p + k) 0) 0 ≡ true → get_or ix (p + k) 0 ≡ 0
-  number_is k e = eqb-true (get_or ix (p + k) 0) 0 e
+and_assoc : (a b c : Bool) → (a && b) && c ≡ a && (b && c)
+and_assoc true b c = refl
+and_assoc false b c = refl
 
-  pub eight_zero : eqb (get_or ix p 0) 0 && eqb (get_or ix (p + 1) 0) 0 && eqb (get_or ix (p + 2) 0) 0 && eqb (get_or ix (p + 3) 0) 0 && eqb (get_or ix (p + 4) 0) 0 && eqb (get_or ix (p + 5) 0) 0 && eqb (get_or ix (p + 6) 0) 0 && eqb (get_or ix (p + 7) 0) 0 ≡ true → (k : ℕ) → k < 8 → get_or ix (p + k) 0 ≡ 0
-  eight_zero e =
-      let g = and_both _ _ e in
-      let f = and_both _ _ g.0 in
-      let d = and_both _ _ f.0 in
-      let c = and_both _ _ d.0 in
-      let b = and_both _ _ c.0 in
-      let a = and_both _ _ b.0 in
-      let z = and_both _ _ a.0 in
-      let o : p + 0 ≡ p = omega arith in
-      below_8 (λ k. get_or ix (p + k) 0) (rw o (eqb-true (get_or ix p 0) 0 z.0)) (number_is 1 z.1) (number_is 2 a.1) (number_is 3 b.1) (number_is 4 c.1) (number_is 5 d.1) (number_is 6 f.1) (number_is 7 g.1)
+or_zero : (a b : ℕ) → eqb (bit_or a b) 0 ≡ eqb a 0 && eqb b 0
+or_zero a b = go (ℕ_discrete a 0) (ℕ_discrete b 0)
+  where
+    go : Dec (a ≡ 0) → Dec (b ≡ 0) → eqb (bit_or a b) 0 ≡ eqb a 0 && eqb b 0
+    go (yes e) (yes f) = rw (e, f)
+    go (yes e) (no f) = rw (ne_eqb b 0 f, ne_eqb (bit_or a b) 0 (λ z. f (omega (arith, le_or_r a b)))) (sym (and-false (eqb a 0)))
+    go (no e) f = rw (ne_eqb a 0 e, ne_eqb (bit_or a b) 0 (λ z. e (omega (arith, le_or_l a b))))
+
+pub zeros_or : (a : ℕ) (xs : List ℕ) → eqb (fold bit_or a xs) 0 ≡ eqb a 0 && list_all (λ n. n == 0) xs
+zeros_or a [] = sym (and_true (eqb a 0))
+zeros_or a (x ∷ xs) = zeros_or (bit_or a x) xs ∙ rw (or_zero a x) (and_assoc (eqb a 0) (eqb x 0) (list_all (λ n. n == 0) xs))
+
+zero_all : (xs : List ℕ) (k : ℕ) → list_all (λ n. n == 0) xs ≡ true → k < length xs → get_or xs k 0 ≡ 0
+zero_all [] k e h = refl
+zero_all (x ∷ xs) zero e h = eqb-true x 0 (and_both _ _ e).0
+zero_all (x ∷ xs) (suc k) e h = zero_all xs k (and_both _ _ e).1 (omega arith)
+
+length-first_chunks : (w n : ℕ) (t : List ℕ) → length (first_chunks w n t) ≡ n
+length-first_chunks w zero t = refl
+length-first_chunks w (suc n) t = ap suc (length-first_chunks w n (drop w t))
+
+-- and by eights, as far as each is all 0
+eight_more : (xs : List ℕ) (k : ℕ) → 8 ≤ length xs → list_all (λ n. n == 0) (take 8 xs) ≡ true → (8 ≤ k → get_or (drop 8 xs) (k - 8) 0 ≡ 0) → get_or xs k 0 ≡ 0
+eight_more xs k l e far = go (ltb k 8) refl
+  where
+    go : (b : Bool) → ltb k 8 ≡ b → get_or xs k 0 ≡ 0
+    go true q = let h : k < 8 = ltb-true k 8 q in sym (get_or-take 8 xs k 0 h) ∙ zero_all (take 8 xs) k e (rw (length-take-le 8 xs l) h)
+    go false q = let h : 8 ≤ k = ltb-false k 8 q in let z : 8 + (k - 8) ≡ k = omega arith in ap (λ (n : ℕ). get_or xs n 0) (sym z) ∙ sym (get_or-drop 8 xs (k - 8) 0) ∙ far h
+
+pub eights_zero : (n : ℕ) (xs : List ℕ) (k : ℕ) → 8 * n ≤ length xs → k < 8 * prefix_len (list_all (λ n. n == 0)) (first_chunks 8 n xs) → get_or xs k 0 ≡ 0
+eights_zero zero xs k l h = absurd (omega arith)
+eights_zero (suc n) xs k l h =
+    go (list_all (λ n. n == 0) (take 8 xs)) refl (λ m. eights_zero n (drop 8 xs) m (rw length-drop (omega arith)))
+  where
+    go : (b : Bool) → list_all (λ n. n == 0) (take 8 xs) ≡ b → ((m : ℕ) → m < 8 * prefix_len (list_all (λ n. n == 0)) (first_chunks 8 n (drop 8 xs)) → get_or (drop 8 xs) m 0 ≡ 0) → get_or xs k 0 ≡ 0
+    go true e rec = let g = rw e at h in eight_more xs k (omega arith) e (λ f. rec (k - 8) (omega (arith, g)))
+    go false e rec = let g = rw e at h in absurd (omega (arith, g))
 
 -- ---- a search for a block that stands at block b
 module _ (ix : List ℕ) where
   pub block_start : block_from blocks ix 0 ≡ block_from (blocks - 0) ix 0
   block_start = rw (sub-zero blocks)
 
-  pub block_hit : (b : ℕ) → b < 250 → (count_of ix b ≡ 0 → ⊥) → block_from (blocks - b) ix b ≡ At b
+  pub block_hit : (b : ℕ) → b < 250 → (count_of ix b ≡ 0 → ⊥) → block_from (blocks - b) ix b ≡ Some b
   unfolding block_from pick
   block_hit b h e = rw (block_more b h, ne_eqb (count_of ix b) 0 e)
 
@@ -187,15 +232,29 @@ module _ (ix : List ℕ) where
       ∙ blocks_on n (b + 1) (omega arith) (λ k l. let q : b + 1 + k ≡ b + suc k = omega arith in rw q (z (suc k) (omega arith)))
       ∙ rw e refl
 
-  pub block_end : (b : ℕ) → 250 ≤ b → block_from (blocks - b) ix b ≡ Nothing
+  -- eights of blocks without a free row, in front
+  pub eights_on : (counts : List ℕ) (r : ℕ) → counts ≡ slice_range ix 32769 33019 → length counts + 32769 ≡ 33019 → r ≡ prefix_len (list_all (λ n. n == 0)) (first_chunks 8 (length counts / 8) counts)
+      → (8 * r ≤ 250) × (block_from blocks ix 0 ≡ block_from (blocks - 8 * r) ix (8 * r))
+  eights_on counts r e l p =
+      let c : length (first_chunks 8 (length counts / 8) counts) ≡ length counts / 8 = length-first_chunks 8 (length counts / 8) counts in
+      let h : 8 * r ≤ 250 = omega (arith, p, prefix_len-le-length (list_all (λ n. n == 0)) (first_chunks 8 (length counts / 8) counts), c) in
+      let z : 0 + 8 * r ≡ 8 * r = omega arith in (
+        h,
+        block_start ∙ rw z at (blocks_on (8 * r) 0 (omega arith) (λ k k8.
+            let g : get_or counts k 0 ≡ 0 = eights_zero (length counts / 8) counts k (omega arith) (omega (arith, p)) in
+            let q : 0 + k ≡ k = omega arith in
+            rw q (sym (get_or-drop 32769 ix k 0) ∙ sym (get_or-take 250 (drop 32769 ix) k 0 (omega arith)) ∙ ap (λ (x : List ℕ). get_or x k 0) (sym e) ∙ g))),
+      )
+
+  pub block_end : (b : ℕ) → 250 ≤ b → block_from (blocks - b) ix b ≡ None
   unfolding block_from
   block_end b h = rw (block_none b h)
 
-  pub free_none : (rs : List Row) → block_from blocks ix 0 ≡ Nothing → lowest_free ix rs ≡ Nothing
+  pub free_none : (rs : List Row) → block_from blocks ix 0 ≡ None → lowest_free ix rs ≡ None
   unfolding lowest_free free_in
   free_none rs e = rw e
 
-  pub free_at : (rs : List Row) (b : ℕ) → block_from blocks ix 0 ≡ At b → lowest_free ix rs ≡ first free (64 * b) (drop (64 * b) rs)
+  pub free_at : (rs : List Row) (b : ℕ) → block_from blocks ix 0 ≡ Some b → lowest_free ix rs ≡ first free (64 * b) (drop (64 * b) rs)
   unfolding lowest_free free_in
   free_at rs b e = rw e
 
@@ -246,10 +305,19 @@ zeroed_all (x ∷ ix) zero m h l = absurd (omega arith)
 zeroed_all (x ∷ ix) (suc n) zero h l = absurd (omega arith)
 zeroed_all (x ∷ ix) (suc n) (suc m) h l = ap (◌∷◌ 0) (zeroed_all ix n m (omega arith) (omega arith))
 
--- a walk that ends at the hints, or at the end of a shorter memory
-pub zeroed_end : (ix : List ℕ) (end : ℕ) → ((33019 ≤ length ix) × (end ≡ 33019)) ⊎ ((length ix < 33019) × (end ≡ length ix)) → (end ≤ length ix) × (zeroed end ix ≡ zeroed front ix)
-zeroed_end ix end (inl w) = (omega (arith, w.0, w.1), ap (λ (n : ℕ). zeroed n ix) (w.1 ∙ sym front_is))
-zeroed_end ix end (inr w) = (omega (arith, w.1), zeroed_all ix end front (omega (arith, w.1)) (omega (arith, w.0, front_is)))
+-- zeros up to the hints, or to the end of a shorter memory
+zeroed_fill : (n : ℕ) (ix : List ℕ) → n ≤ length ix → replicate n 0 ++ drop n ix ≡ zeroed n ix
+unfolding zeroed
+zeroed_fill zero ix h = sym (zeroed_none ix)
+zeroed_fill (suc n) [] h = absurd (omega arith)
+zeroed_fill (suc n) (x ∷ ix) h = ap (◌∷◌ 0) (zeroed_fill n ix (omega arith))
+
+pub zeroed_end : (ix : List ℕ) (end : ℕ) → end ≡ min (length ix) 33019 → replicate (length (take end ix)) 0 ++ drop end ix ≡ zeroed front ix
+zeroed_end ix end e = rw (length-take-le end ix (omega arith)) (zeroed_fill end ix (omega arith)) ∙ go (leb 33019 (length ix)) refl
+  where
+    go : (b : Bool) → leb 33019 (length ix) ≡ b → zeroed end ix ≡ zeroed front ix
+    go true q = let l = leb-true 33019 (length ix) q in ap (λ (n : ℕ). zeroed n ix) (omega (arith, front_is, l))
+    go false q = let l = leb-false 33019 (length ix) q in zeroed_all ix end front (omega (arith, l)) (omega (arith, front_is, l))
 
 pub length_zeroed : (n : ℕ) (ix : List ℕ) → length (zeroed n ix) ≡ length ix
 unfolding zeroed
@@ -276,10 +344,10 @@ module _ (f : List ℕ → Row → ℕ → List ℕ) (rs : List Row) (i : ℕ) (
 
 -- ---- where a search for a block ends
 -- what is found is not nowhere
-pub never : {B : Type 0} {i : ℕ} → At i ≡ Nothing → B
+pub never : {B : Type 0} {i : ℕ} → Some i ≡ None → B
 never e = let z : ◌≡◌ {A = ℕ} 0 1 = cc in absurd (omega arith)
 
-pub block_at : (n : ℕ) (ix : List ℕ) (b k : ℕ) → block_from n ix b ≡ At k → (b ≤ k) × (k < b + n) × (count_of ix k ≡ 0 → ⊥)
+pub block_at : (n : ℕ) (ix : List ℕ) (b k : ℕ) → block_from n ix b ≡ Some k → (b ≤ k) × (k < b + n) × (count_of ix k ≡ 0 → ⊥)
 unfolding block_from
 block_at zero ix b k e = never (sym e)
 block_at (suc n) ix b k e =
@@ -290,5 +358,5 @@ block_at (suc n) ix b k e =
     (omega arith, omega arith, λ z. eqb-false (count_of ix b) 0 w.0 (ap (count_of ix) kb ∙ z)))
     (pick_cases e)
 
-pub block_below : (ix : List ℕ) (k : ℕ) → block_from blocks ix 0 ≡ At k → k < 250
+pub block_below : (ix : List ℕ) (k : ℕ) → block_from blocks ix 0 ≡ Some k → k < 250
 block_below ix k e = omega (arith, (block_at blocks ix 0 k e).1, blocks_is)

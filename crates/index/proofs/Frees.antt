@@ -12,8 +12,7 @@ use lib.Seq.{get_or-drop}
 use borrow.Author.Tests.{lt-ltb, eqb-true}
 use Rattle.facts.specs.Pick.{pick, both}
 use Rattle.facts.specs.Search.{first}
-use Rattle.facts.specs.declared.Found.{Found}
-use Rattle.facts.specs.declared.Found.TheVariants.{At, Nothing}
+use Rattle.std.specs.Prelude.{Option, Some, None}
 use Rattle.facts.proofs.Picks.{pick_cases}
 use Rattle.facts.proofs.Searches.{first_at, none_first}
 use Rattle.rows.specs.declared.Row.{Row}
@@ -25,7 +24,7 @@ use Rattle.index.proofs.Cases.{blocks_is, free_none, free_at, never}
 use Rattle.index.proofs.Counts.{no_count}
 
 -- ---- the blocks before the one found, or all of them, count 0
-blocks_before : (n : ℕ) (ix : List ℕ) (b k j : ℕ) → block_from n ix b ≡ At k → b ≤ j → j < k → count_of ix j ≡ 0
+blocks_before : (n : ℕ) (ix : List ℕ) (b k j : ℕ) → block_from n ix b ≡ Some k → b ≤ j → j < k → count_of ix j ≡ 0
 unfolding block_from
 blocks_before zero ix b k j e a c = never (sym e)
 blocks_before (suc n) ix b k j e a c =
@@ -38,7 +37,7 @@ blocks_before (suc n) ix b k j e a c =
     go z rest (yes q) = ap (count_of ix) q ∙ z
     go z rest (no q) = rest (omega arith)
 
-blocks_none : (n : ℕ) (ix : List ℕ) (b j : ℕ) → block_from n ix b ≡ Nothing → b ≤ j → j < b + n → count_of ix j ≡ 0
+blocks_none : (n : ℕ) (ix : List ℕ) (b j : ℕ) → block_from n ix b ≡ None → b ≤ j → j < b + n → count_of ix j ≡ 0
 unfolding block_from
 blocks_none zero ix b j e a c = absurd (omega arith)
 blocks_none (suc n) ix b j e a c =
@@ -73,22 +72,22 @@ module _ (ix : List ℕ) (rs : List Row) (x : Indexed ix rs) where
   unfolding find_free
   lowest_is = go (block_from blocks ix 0) refl
     where
-      go : (a : Found) → block_from blocks ix 0 ≡ a → lowest_free ix rs ≡ first free 0 rs
-      go (At b) e =
+      go : (a : Option ℕ) → block_from blocks ix 0 ≡ a → lowest_free ix rs ≡ first free 0 rs
+      go (Some b) e =
           let s : 0 + 64 * b ≡ 64 * b = omega arith in
           let w = first_skip free zero_row (64 * b) 0 rs (λ j a l. block_full j l (blocks_before blocks ix 0 b (j / 64) e (omega arith) (omega arith))) in
           free_at ix rs b e ∙ sym (rw s at w)
-      go Nothing e =
+      go None e =
           let f = x.few in
           free_none ix rs e ∙ sym (none_first free 0 rs zero_row (λ j l. block_full j l (blocks_none blocks ix 0 (j / 64) e (omega arith) (omega (arith, blocks_is)))))
 
 -- for any index: a row that is found lies in the table and is free
-pub lowest_free_row : (ix : List ℕ) (rs : List Row) (i : ℕ) → lowest_free ix rs ≡ At i → (i < length rs) × (free (get_or rs i zero_row) ≡ true)
+pub lowest_free_row : (ix : List ℕ) (rs : List Row) (i : ℕ) → lowest_free ix rs ≡ Some i → (i < length rs) × (free (get_or rs i zero_row) ≡ true)
 lowest_free_row ix rs i e = go (block_from blocks ix 0) refl
   where
-    go : (a : Found) → block_from blocks ix 0 ≡ a → (i < length rs) × (free (get_or rs i zero_row) ≡ true)
-    go (At b) f =
+    go : (a : Option ℕ) → block_from blocks ix 0 ≡ a → (i < length rs) × (free (get_or rs i zero_row) ≡ true)
+    go (Some b) f =
         let w = first_at free (64 * b) (drop (64 * b) rs) i zero_row (sym (free_at ix rs b f) ∙ e) in
         let s : 64 * b + (i - 64 * b) ≡ i = omega (arith, w.0) in
         (omega (arith, w.0, w.1, length-drop (64 * b) rs), ap (λ (k : ℕ). free (get_or rs k zero_row)) (sym s) ∙ ap free (sym (get_or-drop (64 * b) rs (i - 64 * b) zero_row)) ∙ w.2)
-    go Nothing f = never (sym e ∙ free_none ix rs f)
+    go None f = never (sym e ∙ free_none ix rs f)

@@ -5,8 +5,7 @@ use mathlib.Core.List.{List, [], ◌∷◌}
 use Prim.Native.Nat.{ℕ, suc, ◌+◌}
 use lib.ListN.{length, set, length-set}
 use Rattle.facts.specs.Pick.{pick}
-use Rattle.facts.specs.declared.Found.{Found}
-use Rattle.facts.specs.declared.Found.TheVariants.{At, Nothing}
+use Rattle.std.specs.Prelude.{Option, Some, None}
 use Rattle.facts.proofs.Picks.{pick_ind}
 use Rattle.rows.specs.declared.Row.{Row}
 use Rattle.rows.specs.Rows.{free}
@@ -18,10 +17,10 @@ module _ (ix : List ℕ) where
   abbrev Long : List ℕ → Type 0
   Long jx = length jx ≡ length ix
 
-  filled_length : (f : Found) (id i : ℕ) → Long (filled_at f ix id i)
+  filled_length : (f : Option ℕ) (id i : ℕ) → Long (filled_at f ix id i)
   unfolding filled_at
-  filled_length Nothing id i = refl
-  filled_length (At p) id i = length-set (set ix p (packed id i)) 32768 (used_of ix + 1) ∙ length-set ix p (packed id i)
+  filled_length None id i = refl
+  filled_length (Some p) id i = length-set (set ix p (packed id i)) 32768 (used_of ix + 1) ∙ length-set ix p (packed id i)
 
   pub placed_length : (id i : ℕ) → Long (placed ix id i)
   unfolding placed

@@ -8,8 +8,7 @@ use Prim.Native.Nat.{ℕ, zero, suc, ◌+◌, ◌-◌, ◌%◌, ◌≤◌, ◌<�
 use native.Mathlib.Omega.{arith}
 use lib.ListN.{get_or}
 use borrow.Author.Tests.{eqb-true, eqb-false, ne_eqb}
-use Rattle.facts.specs.declared.Found.{Found}
-use Rattle.facts.specs.declared.Found.TheVariants.{At, Nothing}
+use Rattle.std.specs.Prelude.{Option, Some, None}
 use Rattle.facts.proofs.Picks.{pick_cases}
 use Rattle.index.specs.Index.{slots, next, vacant}
 use Rattle.index.specs.Indexed.{Reaches, here, on, count_at, is_filled}
@@ -25,7 +24,7 @@ reach_keep ix jx s g ns n p h (here e) = here (g p h (λ z. ns (sym e ∙ z)) �
 reach_keep ix jx s g ns n p h (on ne r) = on (λ z. ne (sym (g p h ne) ∙ z)) (reach_keep ix jx s g ns _ (next p) (next_below p) r)
 
 -- ---- where a search for an empty slot ends
-pub vacant_at : (n : ℕ) (ix : List ℕ) (p e : ℕ) → p < 32768 → vacant n ix p ≡ At e → (e < 32768) × (get_or ix e 0 ≡ 0)
+pub vacant_at : (n : ℕ) (ix : List ℕ) (p e : ℕ) → p < 32768 → vacant n ix p ≡ Some e → (e < 32768) × (get_or ix e 0 ≡ 0)
 unfolding vacant
 vacant_at zero ix p e h v = never (sym v)
 vacant_at (suc n) ix p e h v =
@@ -34,7 +33,7 @@ vacant_at (suc n) ix p e h v =
     (λ w. vacant_at n ix (next p) e (next_below p) w.1)
     (pick_cases v)
 
-pub vacant_reach : (n : ℕ) (ix jx : List ℕ) (p e s : ℕ) → p < 32768 → Grows ix jx → get_or jx e 0 ≡ s → vacant n ix p ≡ At e → Reaches jx s n p
+pub vacant_reach : (n : ℕ) (ix jx : List ℕ) (p e s : ℕ) → p < 32768 → Grows ix jx → get_or jx e 0 ≡ s → vacant n ix p ≡ Some e → Reaches jx s n p
 unfolding vacant
 vacant_reach zero ix jx p e s h g t v = never (sym v)
 vacant_reach (suc n) ix jx p e s h g t v =
@@ -45,7 +44,7 @@ vacant_reach (suc n) ix jx p e s h g t v =
     on (λ z. ne (sym (g p h ne) ∙ z)) (vacant_reach n ix jx (next p) e s (next_below p) g t w.1))
     (pick_cases v)
 
-pub vacant_none : (n : ℕ) (ix : List ℕ) (p k : ℕ) → p < 32768 → vacant n ix p ≡ Nothing → k < n → get_or ix ((p + k) % 32768) 0 ≡ 0 → ⊥
+pub vacant_none : (n : ℕ) (ix : List ℕ) (p k : ℕ) → p < 32768 → vacant n ix p ≡ None → k < n → get_or ix ((p + k) % 32768) 0 ≡ 0 → ⊥
 unfolding vacant next
 vacant_none zero ix p k h v l z = absurd (omega arith)
 vacant_none (suc n) ix p zero h v l z =
@@ -60,13 +59,13 @@ vacant_none (suc n) ix p (suc k) h v l z =
     (pick_cases v)
 
 -- ---- an empty slot is found while fewer are filled than there are
-pub some_vacant : (ix : List ℕ) (p : ℕ) → p < 32768 → count_at (is_filled ix) slots 0 < 32768 → (e : ℕ) × (vacant slots ix p ≡ At e)
+pub some_vacant : (ix : List ℕ) (p : ℕ) → p < 32768 → count_at (is_filled ix) slots 0 < 32768 → (e : ℕ) × (vacant slots ix p ≡ Some e)
 unfolding is_filled
 some_vacant ix p h f = go (vacant slots ix p) refl
   where
-    go : (a : Found) → vacant slots ix p ≡ a → (e : ℕ) × (vacant slots ix p ≡ At e)
-    go (At e) v = (e, v)
-    go Nothing v =
+    go : (a : Option ℕ) → vacant slots ix p ≡ a → (e : ℕ) × (vacant slots ix p ≡ Some e)
+    go (Some e) v = (e, v)
+    go None v =
         let all : (q : ℕ) → 0 ≤ q → q < 0 + slots → is_filled ix q ≡ true = λ q a b.
         (let k : (p + (q + 32768 - p) % 32768) % 32768 ≡ q = omega (arith, slots_is) in
         let m : (q + 32768 - p) % 32768 < slots = omega (arith, slots_is) in

@@ -1,11 +1,9 @@
 -- The index of the order table (request 9: "finds orders through an index in further lent memory"; docs/INDEX.md says it in words): 32,768 slots, how many of
 -- them were used, and the free rows of each block of 64 rows. Behind them stand the hints of symbols (last section).
 -- Every definition is over any memory and any rows. A number that the memory lacks counts as 0 and is never stored.
-use Rattle.std.specs.Prelude.{ℕ, zero, suc, ◌+◌, ◌-◌, ◌*◌, ◌/◌, ◌%◌, List, [], ◌∷◌, Bool, get_or, set, drop, ltb, leb, eqb}
+use Rattle.std.specs.Prelude.{ℕ, zero, suc, ◌+◌, ◌-◌, ◌*◌, ◌/◌, ◌%◌, ◌≡◌, ◌⊎◌, List, [], ◌∷◌, Bool, true, false, get_or, set, drop, ltb, leb, eqb, Option, Some, None}
 use Rattle.facts.specs.Pick.{pick, both}
 use Rattle.facts.specs.Search.{first}
-use Rattle.facts.specs.declared.Found.{Found}
-use Rattle.facts.specs.declared.Found.TheVariants.{At, Nothing}
 use Rattle.rows.specs.declared.Row.{Row}
 use Rattle.rows.specs.Rows.{zero_row, free, live}
 use Rattle.rows.specs.Find.{is_order}
@@ -47,24 +45,30 @@ unfoldable pub next : ℕ → ℕ
 next p = (p + 1) % 32768
 
 -- an empty slot ends the search, one that fits answers it, any other is passed
-unfoldable pub probe : ℕ → List ℕ → List Row → ℕ → ℕ → Found
-probe zero ix rs id p = Nothing
+unfoldable pub probe : ℕ → List ℕ → List Row → ℕ → ℕ → Option ℕ
+probe zero ix rs id p = None
 probe (suc n) ix rs id p =
-    pick (eqb (get_or ix p 0) 0) Nothing
-    (pick (fits id rs (get_or ix p 0)) (At (get_or ix p 0 % 65536)) (probe n ix rs id (next p)))
+    pick (eqb (get_or ix p 0) 0) None
+    (pick (fits id rs (get_or ix p 0)) (Some (get_or ix p 0 % 65536)) (probe n ix rs id (next p)))
 
-unfoldable pub looked : List ℕ → List Row → ℕ → Found
+unfoldable pub looked : List ℕ → List Row → ℕ → Option ℕ
 looked ix rs id = probe slots ix rs id (hash id)
 
+-- a walk that a test decides, from slot p on over n of them: it ends at the first that passes
+unfoldable pub WalkEnds : (ℕ → Bool → Type 0) → ℕ → List ℕ → ℕ → Option ℕ → Type 0
+WalkEnds says zero ix p found = found ≡ None
+WalkEnds says (suc n) ix p found =
+    (says (get_or ix p 0) true × (found ≡ Some p)) ⊎ (says (get_or ix p 0) false × WalkEnds says n ix (next p) found)
+
 -- the first empty slot from p on
-unfoldable pub vacant : ℕ → List ℕ → ℕ → Found
-vacant zero ix p = Nothing
-vacant (suc n) ix p = pick (eqb (get_or ix p 0) 0) (At p) (vacant n ix (next p))
+unfoldable pub vacant : ℕ → List ℕ → ℕ → Option ℕ
+vacant zero ix p = None
+vacant (suc n) ix p = pick (eqb (get_or ix p 0) 0) (Some p) (vacant n ix (next p))
 
 -- row i into the slot found
-unfoldable pub filled_at : Found → List ℕ → ℕ → ℕ → List ℕ
-filled_at Nothing ix id i = ix
-filled_at (At p) ix id i = set (set ix p (packed id i)) 32768 (used_of ix + 1)
+unfoldable pub filled_at : Option ℕ → List ℕ → ℕ → ℕ → List ℕ
+filled_at None ix id i = ix
+filled_at (Some p) ix id i = set (set ix p (packed id i)) 32768 (used_of ix + 1)
 
 unfoldable pub placed : List ℕ → ℕ → ℕ → List ℕ
 placed ix id i = pick (leb 32768 (used_of ix)) ix (filled_at (vacant slots ix (hash id)) ix id i)
@@ -77,16 +81,16 @@ unfoldable pub freed : List ℕ → ℕ → List ℕ
 freed ix i = pick (ltb (count_of ix (i / 64)) 64) (set ix (32769 + i / 64) (count_of ix (i / 64) + 1)) ix
 
 -- the first block from b on whose count is not 0
-unfoldable pub block_from : ℕ → List ℕ → ℕ → Found
-block_from zero ix b = Nothing
-block_from (suc n) ix b = pick (eqb (count_of ix b) 0) (block_from n ix (suc b)) (At b)
+unfoldable pub block_from : ℕ → List ℕ → ℕ → Option ℕ
+block_from zero ix b = None
+block_from (suc n) ix b = pick (eqb (count_of ix b) 0) (block_from n ix (suc b)) (Some b)
 
 -- the lowest free row from that block on
-unfoldable pub free_in : Found → List Row → Found
-free_in Nothing rs = Nothing
-free_in (At b) rs = first free (64 * b) (drop (64 * b) rs)
+unfoldable pub free_in : Option ℕ → List Row → Option ℕ
+free_in None rs = None
+free_in (Some b) rs = first free (64 * b) (drop (64 * b) rs)
 
-unfoldable pub lowest_free : List ℕ → List Row → Found
+unfoldable pub lowest_free : List ℕ → List Row → Option ℕ
 lowest_free ix rs = free_in (block_from blocks ix 0) rs
 
 -- ---- the index of a table, from nothing: each live row in a slot, each free one in its block's count

@@ -3,11 +3,11 @@
 // Each function answers for any memory and any table. A slot is filled once and stays until the next rebuild: what it names is tested at each search.
 #![tactic(auto)]
 
-ghost use Rattle.std.specs.Prelude.{ℕ, ◌+◌, ◌-◌, ◌≤◌, ◌<◌, ◌≡◌, true, get_or, set};
+ghost use Rattle.std.specs.Prelude.{◌-◌, ◌≤◌, ◌≡◌, ◌==◌, get_or, set};
+ghost use Rattle.std.specs.List.{list_all};
 ghost use Rattle.rows.specs.Rows.{rows};
-ghost use Rattle.index.specs.Index.{slots, blocks, tag_of, hash, packed, fits, looked, vacant, placed, taken, freed, block_from, lowest_free, entered, each_row, front, zeroed, built, roomy, came, hint_at, hint_of};
+ghost use Rattle.index.specs.Index.{slots, blocks, tag_of, hash, packed, fits, looked, WalkEnds, vacant, placed, taken, freed, block_from, lowest_free, entered, each_row, front, zeroed, built, roomy, came, hint_at, hint_of};
 
-use facts::Found;
 use rows::Row;
 
 // How many numbers an index has, hints included.
@@ -34,7 +34,7 @@ const FULL: u64 = 24_576;
 fn word(ix: &[u64], p: usize) -> u64
     ensures { result ≡ get_or ix.now p 0 }
 {
-    if p < ix.len() { ix[p] } else { 0 }
+    ix.get(p).copied().unwrap_or(0)
 }
 
 fn put_word(ix: &mut [u64], p: usize, v: u64)
@@ -46,6 +46,7 @@ fn put_word(ix: &mut [u64], p: usize, v: u64)
 }
 
 // Where the search for an order ID begins.
+#[tactic(auto, unfolding(crate::specs::Index::hash))]
 fn start_of(id: u64) -> usize
     ensures { result ≡ hash id }
 {
@@ -54,64 +55,65 @@ fn start_of(id: u64) -> usize
 }
 
 // What of an order ID stands in a slot.
+#[tactic(auto, unfolding(crate::specs::Index::tag_of))]
 fn tag_of(id: u64) -> u64
     ensures { result ≡ tag_of id }
 {
     id % 140737488355328 + 1
 }
 
+#[tactic(auto, unfolding(crate::specs::Index::packed, crate::specs::Index::tag_of))]
 fn pack(id: u64, i: usize) -> u64
     ensures { result ≡ packed id i }
 {
-    (id % 140737488355328 + 1) * 65536 + (i % 65536) as u64
+    tag_of(id) * 65536 + (i % 65536) as u64
 }
 
 // The slot's row is the live one of this ID; another tag is seen without a look at the table.
+#[tactic(auto, unfolding(crate::specs::Index::fits, facts::specs::Pick::both))]
 fn is_row(t: &[u64], s: u64, id: u64) -> bool
     ensures { result ≡ fits id (rows t.now) s }
 {
-    if s / 65536 != tag_of(id) {
-        return false;
-    }
-    rows::is_order(rows::row_at(t, (s % 65536) as usize), id)
+    s / 65536 == tag_of(id) && rows::is_order(rows::row_at(t, (s % 65536) as usize), id)
 }
 
-pub fn find(t: &[u64], ix: &[u64], id: u64) -> Found
+// The first slot of an order ID that a test passes: from its own on, the first after the last.
+fn first_slot<F: Fn(u64) -> bool>(ix: &[u64], id: u64, passes: F) -> Option<usize>
+    requires { F.IsAlwaysCallable passes }
+    ensures { WalkEnds (F.post passes) slots ix.now (hash id) result }
+{
+    let start = start_of(id);
+    for n in 0..SLOTS {
+        let p = (start + n) % SLOTS;
+        if passes(word(ix, p)) {
+            return Some(p);
+        }
+    }
+    None
+}
+
+// An empty slot ends the search.
+pub fn find(t: &[u64], ix: &[u64], id: u64) -> Option<usize>
     ensures { result ≡ looked ix.now (rows t.now) id }
 {
-    let mut p = start_of(id);
-    let mut n: usize = 0;
-    while n < SLOTS {
-        let s = word(ix, p);
-        if s == 0 {
-            return Found::Nothing;
-        }
-        if is_row(t, s, id) {
-            return Found::At((s % 65536) as usize);
-        }
-        p = (p + 1) % 32768;
-        n += 1;
+    let p = first_slot(ix, id, |s| s == 0 || is_row(t, s, id))?;
+    let s = word(ix, p);
+    if s == 0 {
+        None
+    } else {
+        Some((s % 65536) as usize)
     }
-    Found::Nothing
 }
 
 // The first empty slot for an order ID.
-fn find_vacant(ix: &[u64], id: u64) -> Found
+fn find_vacant(ix: &[u64], id: u64) -> Option<usize>
     ensures { result ≡ vacant slots ix.now (hash id) }
 {
-    let mut p = start_of(id);
-    let mut n: usize = 0;
-    while n < SLOTS {
-        if word(ix, p) == 0 {
-            return Found::At(p);
-        }
-        p = (p + 1) % 32768;
-        n += 1;
-    }
-    Found::Nothing
+    first_slot(ix, id, |s| s == 0)
 }
 
 // Row i goes into the first empty slot for its order ID.
+#[tactic(auto, unfolding(crate::specs::Index::placed, crate::specs::Index::filled_at, facts::specs::Pick::pick))]
 fn place(ix: &mut [u64], id: u64, i: usize)
     ensures { ix.new ≡ placed ix.old id i }
 {
@@ -119,7 +121,7 @@ fn place(ix: &mut [u64], id: u64, i: usize)
     if used >= 32768 {
         return;
     }
-    let Found::At(p) = find_vacant(ix, id) else {
+    let Some(p) = find_vacant(ix, id) else {
         return;
     };
     put_word(ix, p, pack(id, i));
@@ -127,6 +129,7 @@ fn place(ix: &mut [u64], id: u64, i: usize)
 }
 
 // Row i is free no more.
+#[tactic(auto, unfolding(crate::specs::Index::taken, facts::specs::Pick::pick))]
 fn take(ix: &mut [u64], i: usize)
     ensures { ix.new ≡ taken ix.old i }
 {
@@ -138,6 +141,7 @@ fn take(ix: &mut [u64], i: usize)
 }
 
 // Row i is free again.
+#[tactic(auto, unfolding(crate::specs::Index::freed, facts::specs::Pick::pick))]
 pub fn gone(ix: &mut [u64], i: usize)
     ensures { ix.new ≡ freed ix.old i }
 {
@@ -148,72 +152,55 @@ pub fn gone(ix: &mut [u64], i: usize)
     }
 }
 
-// Eight numbers that are there and all 0: asked at once, without a branch for each.
-fn none_in(ix: &[u64], p: usize) -> bool
-    ensures { result ≡ true → (k : ℕ) → k < 8 → get_or ix.now (p + k) 0 ≡ 0 }
+// Eight numbers that are all 0: asked at once, without a branch for each.
+fn none_in(eight: &[u64; 8]) -> bool
+    ensures { result ≡ list_all (λ n. n == 0) eight.now }
 {
-    if ix.len() < 8 {
-        return false;
-    }
-    if ix.len() - 8 < p {
-        return false;
-    }
-    (ix[p] == 0)
-        & (ix[p + 1] == 0)
-        & (ix[p + 2] == 0)
-        & (ix[p + 3] == 0)
-        & (ix[p + 4] == 0)
-        & (ix[p + 5] == 0)
-        & (ix[p + 6] == 0)
-        & (ix[p + 7] == 0)
+    eight.iter().fold(0, |all, n| all | *n) == 0
 }
 
 // The blocks in front that have no free row, by eights as long as eight are left of the 250: most of a full table have none.
 fn skipped(ix: &[u64]) -> usize
     ensures { (result ≤ 250) × (block_from blocks ix.now 0 ≡ block_from (blocks - result) ix.now result) }
 {
-    let mut b: usize = 0;
-    while b <= 242 {
-        if !none_in(ix, COUNTS + b) {
-            return b;
-        }
-        b += 8;
-    }
-    b
+    let Some(counts) = ix.get(COUNTS..HINTS) else {
+        return 0;
+    };
+    8 * counts
+        .as_chunks()
+        .0
+        .iter()
+        .take_while(|eight| none_in(*eight))
+        .count()
 }
 
 // The first block with a free row.
-fn first_block(ix: &[u64]) -> Found
+fn first_block(ix: &[u64]) -> Option<usize>
     ensures { result ≡ block_from blocks ix.now 0 }
 {
-    let mut b = skipped(ix);
-    while b < BLOCKS {
+    for b in skipped(ix)..BLOCKS {
         if word(ix, COUNTS + b) != 0 {
-            return Found::At(b);
+            return Some(b);
         }
-        b += 1;
     }
-    Found::Nothing
+    None
 }
 
-pub fn lowest_free(t: &[u64], ix: &[u64]) -> Found
+pub fn lowest_free(t: &[u64], ix: &[u64]) -> Option<usize>
     ensures { result ≡ lowest_free ix.now (rows t.now) }
 {
-    let Found::At(b) = first_block(ix) else {
-        return Found::Nothing;
-    };
+    let b = first_block(ix)?;
     rows::free_from(t, 64 * b)
 }
 
 // A live row goes into a slot, a free one into its block's count.
+#[tactic(auto, unfolding(crate::specs::Index::entered, facts::specs::Pick::pick))]
 fn enter(ix: &mut [u64], r: Row, i: usize)
     ensures { ix.new ≡ entered ix.old r i }
 {
     if rows::is_live(r) {
         place(ix, r.order, i);
-        return;
-    }
-    if rows::is_free(r) {
+    } else if rows::is_free(r) {
         gone(ix, i);
     }
 }
@@ -222,11 +209,8 @@ fn enter(ix: &mut [u64], r: Row, i: usize)
 fn enter_rows(t: &[u64], ix: &mut [u64])
     ensures { ix.new ≡ each_row entered 0 (rows t.now) ix.old }
 {
-    let n = rows::row_count(t);
-    let mut i = 0;
-    while i < n {
+    for i in 0..rows::row_count(t) {
         enter(ix, rows::row_at(t, i), i);
-        i += 1;
     }
 }
 
@@ -234,16 +218,12 @@ fn enter_rows(t: &[u64], ix: &mut [u64])
 fn empty(ix: &mut [u64])
     ensures { ix.new ≡ zeroed front ix.old }
 {
-    let all = ix.len();
-    let end = if HINTS <= all { HINTS } else { all };
-    let mut i = 0;
-    while i < end {
-        ix[i] = 0;
-        i += 1;
-    }
+    let end = ix.len().min(HINTS);
+    ix[..end].fill(0);
 }
 
 // The index of a table, from nothing; hints stay.
+#[tactic(auto, unfolding(crate::specs::Index::built))]
 pub fn rebuild(t: &[u64], ix: &mut [u64])
     ensures { ix.new ≡ built ix.old (rows t.now) }
 {
@@ -252,6 +232,7 @@ pub fn rebuild(t: &[u64], ix: &mut [u64])
 }
 
 // Room for one order more.
+#[tactic(auto, unfolding(crate::specs::Index::roomy, facts::specs::Pick::pick))]
 fn make_room(t: &[u64], ix: &mut [u64])
     ensures { ix.new ≡ roomy ix.old (rows t.now) }
 {
@@ -261,6 +242,7 @@ fn make_room(t: &[u64], ix: &mut [u64])
 }
 
 // An order comes to row i, which is still free in the table.
+#[tactic(auto, unfolding(crate::specs::Index::came))]
 pub fn come(t: &[u64], ix: &mut [u64], id: u64, i: usize)
     ensures { ix.new ≡ came ix.old (rows t.now) id i }
 {

@@ -1,28 +1,24 @@
--- The rules of names, keys and forms, each from a test that the checker computes over the tables, message by message.
+-- The rules of names, keys and forms, each from a test that the checker computes over the tables of all messages.
 -- Assumes nothing.
-use Prim.Native.Nat.{ℕ, zero, suc, ◌+◌, ◌-◌, ◌≤◌, ◌<◌}
-use mathlib.Core.Path.{◌≡◌, refl, sym, ap}
-use mathlib.Core.Bool.{Bool, true, false, false≢true}
-use mathlib.Core.List.{List, [], ◌∷◌}
-use native.Mathlib.Decide.{dec_le, ℕ_discrete}
-use native.Mathlib.Omega.{arith}
-use lib.ListN.{length, get_or, drop, replicate, get_or-eq_default}
-use lib.Dec.{eqb, leb}
-use borrow.Author.Tests.{eqb-true, leb-true}
-use Rattle.facts.specs.Pick.{pick, both, either}
-use Rattle.facts.specs.Same.{same_bytes}
-use Rattle.facts.specs.Search.{first}
-use Rattle.facts.specs.declared.Found.{Found}
+use Rattle.std.proofs.Common.{ℕ, zero, suc, ◌+◌, ◌-◌, ◌≤◌, ◌<◌, ◌≡◌, refl, sym, ap, ◌∙◌, Bool, true, false, not, ◌||◌, ◌⊎◌, inl, inr, true≢false, List, [], ◌∷◌, length, get_or, drop, replicate, eqb, leb, eqb-true, eq-eqb, ne_eqb, leb-true, arith, Option, Some, None, bytes_eq, find}
+use native.Mathlib.Decide.{ℕ_discrete}
+use Rattle.std.specs.List.{list_all}
+use Rattle.std.proofs.lemmas.Bool.{cases_lt}
+use Rattle.std.proofs.lemmas.List.{get_or_past}
+use Rattle.std.proofs.lemmas.List.Quantifiers.{position-Some}
+use Rattle.std.proofs.lemmas.Slice.Eq.{bytes_eq-Decides}
+use Rattle.facts.specs.Pick.{pick, both}
 use Rattle.facts.proofs.Picks.{both_true}
-use Rattle.facts.proofs.Searches.{first_at}
 use Rattle.editions.specs.declared.Edition.{Edition}
 use Rattle.wire.specs.Le.{Bytes}
 use Rattle.kinds.specs.Table.{type_of, kind_length, length_of, lookup, table}
 use Rattle.kinds.specs.declared.Kind.{Kind}
 use Rattle.words.specs.Types.{all_from}
 use Rattle.spans.specs.Spans.{place_of}
-use Rattle.keys.specs.Keys.{Entry, name_of, kind_named, entries_of, no_entry, key_at, form_at, key_named, blank_body}
-use Rattle.keys.specs.Laid.{Laid, wide}
+use Rattle.styles.specs.Widths.{suited, wide}
+use Rattle.keys.specs.Keys.{Entry, name_of, kinds, kind_named, entries_of, no_entry, key_at, form_at, key_named, blank_body}
+use Rattle.keys.specs.Laid.{Laid}
+use Rattle.keys.proofs.Every.{of_any}
 
 -- ---- a test of each number below n
 unfoldable below : (ℕ → Bool) → ℕ → Bool
@@ -41,13 +37,13 @@ below_at f (suc n) e i h =
     go (no q) a r = r i (omega arith)
 
 -- a search that ended at i
-abbrev is_at : ℕ → Found → Bool
-is_at i (Found.At j) = eqb i j
-is_at i Found.Nothing = false
+abbrev is_at : ℕ → Option ℕ → Bool
+is_at i (Some j) = eqb i j
+is_at i None = false
 
-at_told : (i : ℕ) (f : Found) → is_at i f ≡ true → f ≡ Found.At i
-at_told i (Found.At j) e = ap Found.At (sym (eqb-true i j e))
-at_told i Found.Nothing e = absurd (false≢true e)
+at_told : (i : ℕ) (f : Option ℕ) → is_at i f ≡ true → f ≡ Some i
+at_told i (Some j) e = ap Some (sym (eqb-true i j e))
+at_told i None e = absurd (true≢false (sym e))
 
 -- ---- fields
 -- the rule of a key: it is found at its own place, has a byte or more and at most twelve, each of them visible and none an equals sign
@@ -61,39 +57,15 @@ form_rule ed k i =
     both (leb ((form_at ed k i).at + (form_at ed k i).width) 42) (both (leb (form_at ed k i).width 11) (wide (form_at ed k i).style (form_at ed k i).width))
 
 keys_rule : (ed : Edition) (k : Kind) → below (key_rule ed k) (length (entries_of ed k)) ≡ true
-unfolding below key_rule key_named first same_bytes all_from place_of pick both
-keys_rule ed Kind.SystemTime = refl
-keys_rule Edition.V13 Kind.SymbolUpdate = refl
-keys_rule Edition.V13b Kind.SymbolUpdate = refl
-keys_rule ed Kind.SystemState = refl
-keys_rule ed Kind.TradingStatus = refl
-keys_rule ed Kind.SymbolClear = refl
-keys_rule ed Kind.Add = refl
-keys_rule ed Kind.Modify = refl
-keys_rule ed Kind.Delete = refl
-keys_rule ed Kind.Execution = refl
-keys_rule ed Kind.Trade = refl
-keys_rule ed Kind.TradeCancel = refl
-keys_rule ed Kind.Unknown = refl
+unfolding below key_rule all_from both
+keys_rule = of_any (λ ed k. below (key_rule ed k) (length (entries_of ed k))) refl
 
 forms_rule : (ed : Edition) (k : Kind) → below (form_rule ed k) (length (entries_of ed k)) ≡ true
-unfolding below form_rule wide both either
-forms_rule ed Kind.SystemTime = refl
-forms_rule Edition.V13 Kind.SymbolUpdate = refl
-forms_rule Edition.V13b Kind.SymbolUpdate = refl
-forms_rule ed Kind.SystemState = refl
-forms_rule ed Kind.TradingStatus = refl
-forms_rule ed Kind.SymbolClear = refl
-forms_rule ed Kind.Add = refl
-forms_rule ed Kind.Modify = refl
-forms_rule ed Kind.Delete = refl
-forms_rule ed Kind.Execution = refl
-forms_rule ed Kind.Trade = refl
-forms_rule ed Kind.TradeCancel = refl
-forms_rule ed Kind.Unknown = refl
+unfolding below form_rule wide suited both
+forms_rule = of_any (λ ed k. below (form_rule ed k) (length (entries_of ed k))) refl
 
 record KeyRuled (ed : Edition) (k : Kind) (i : ℕ) : Type 0 where
-  back : key_named ed k (key_at ed k i) ≡ Found.At i
+  back : key_named ed k (key_at ed k i) ≡ Some i
   some : 1 ≤ length (key_at ed k i)
   most : length (key_at ed k i) ≤ 12
   visible : all_from 33 126 (key_at ed k i) ≡ true
@@ -131,14 +103,14 @@ form_ruled ed k i h =
 
 -- a place behind the last field
 past : (P : Entry → Type 0) (ed : Edition) (k : Kind) (i : ℕ) → P no_entry → (i < length (entries_of ed k) → P (get_or (entries_of ed k) i no_entry)) → P (get_or (entries_of ed k) i no_entry)
-past P ed k i p f = go (dec_le (suc i) (length (entries_of ed k)))
+past P ed k i p f = go (cases_lt i (length (entries_of ed k)))
   where
-    go : Dec (suc i ≤ length (entries_of ed k)) → P (get_or (entries_of ed k) i no_entry)
-    go (yes h) = f h
-    go (no h) = rw (get_or-eq_default (entries_of ed k) no_entry {n = i} (omega arith)) p
+    go : (i < length (entries_of ed k)) ⊎ (length (entries_of ed k) ≤ i) → P (get_or (entries_of ed k) i no_entry)
+    go (inl h) = f h
+    go (inr h) = rw (get_or_past (entries_of ed k) i no_entry h) p
 
 -- a key names its own field
-pub key_back : (ed : Edition) (k : Kind) (i : ℕ) → i < length (entries_of ed k) → key_named ed k (key_at ed k i) ≡ Found.At i
+pub key_back : (ed : Edition) (k : Kind) (i : ℕ) → i < length (entries_of ed k) → key_named ed k (key_at ed k i) ≡ Some i
 key_back ed k i h = (key_ruled ed k i h).back
 
 -- a key has bytes, all visible and none an equals sign: a word that begins with it and `=` is read as that key
@@ -148,24 +120,15 @@ key_solid ed k i h = let r = key_ruled ed k i h in (r.some, r.visible, r.unequal
 pub key_short : (ed : Edition) (k : Kind) (i : ℕ) → length (key_at ed k i) ≤ 12
 key_short ed k i = past (λ f. length f.key ≤ 12) ed k i (omega arith) (λ h. (key_ruled ed k i h).most)
 
--- what a key names is a field of the message
-pub named_inside : (ed : Edition) (k : Kind) (s : List ℕ) (i : ℕ) → key_named ed k s ≡ Found.At i → i < length (entries_of ed k)
-unfolding key_named
-named_inside ed k s i e = omega (arith, (first_at (λ f. same_bytes s f.key) 0 (entries_of ed k) i no_entry e).1)
+-- what a key names is a field of the message, the one with that key
+pub named_inside : (ed : Edition) (k : Kind) (s : List ℕ) (i : ℕ) → key_named ed k s ≡ Some i → i < length (entries_of ed k)
+named_inside ed k s i e = (position-Some (λ f. bytes_eq f.key s) (entries_of ed k) i no_entry e).0
+
+pub named_key : (ed : Edition) (k : Kind) (s : List ℕ) (i : ℕ) → key_named ed k s ≡ Some i → key_at ed k i ≡ s
+named_key ed k s i e = (bytes_eq-Decides (key_at ed k i) s).0 (position-Some (λ f. bytes_eq f.key s) (entries_of ed k) i no_entry e).1
 
 pub most_fields_lem : (ed : Edition) (k : Kind) → length (entries_of ed k) ≤ 10
-most_fields_lem ed Kind.SystemTime = omega arith
-most_fields_lem ed Kind.SymbolUpdate = omega arith
-most_fields_lem ed Kind.SystemState = omega arith
-most_fields_lem ed Kind.TradingStatus = omega arith
-most_fields_lem ed Kind.SymbolClear = omega arith
-most_fields_lem ed Kind.Add = omega arith
-most_fields_lem ed Kind.Modify = omega arith
-most_fields_lem ed Kind.Delete = omega arith
-most_fields_lem ed Kind.Execution = omega arith
-most_fields_lem ed Kind.Trade = omega arith
-most_fields_lem ed Kind.TradeCancel = omega arith
-most_fields_lem ed Kind.Unknown = omega arith
+most_fields_lem ed k = leb-true (length (entries_of ed k)) 10 (of_any (λ ed k. leb (length (entries_of ed k)) 10) refl ed k)
 
 pub fields_inside : (ed : Edition) (k : Kind) (i : ℕ) → (form_at ed k i).at + (form_at ed k i).width ≤ 42
 fields_inside ed k i = past (λ f. f.form.at + f.form.width ≤ 42) ed k i (omega arith) (λ h. (form_ruled ed k i h).inside)
@@ -187,29 +150,22 @@ laid_told at (f ∷ fs) end e =
     let s = both_true {a = eqb f.form.at at} {b = laid_test (at + f.form.width) fs end} e in
     (eqb-true f.form.at at s.0, laid_told (at + f.form.width) fs end s.1)
 
-laid_rule : (ed : Edition) (k : Kind) → (type_of k ≡ 0 → ⊥) → laid_test 1 (entries_of ed k) (kind_length k) ≡ true
-unfolding kind_length length_of lookup table pick both
-laid_rule ed Kind.SystemTime h = refl
-laid_rule Edition.V13 Kind.SymbolUpdate h = refl
-laid_rule Edition.V13b Kind.SymbolUpdate h = refl
-laid_rule ed Kind.SystemState h = refl
-laid_rule ed Kind.TradingStatus h = refl
-laid_rule ed Kind.SymbolClear h = refl
-laid_rule ed Kind.Add h = refl
-laid_rule ed Kind.Modify h = refl
-laid_rule ed Kind.Delete h = refl
-laid_rule ed Kind.Execution h = refl
-laid_rule ed Kind.Trade h = refl
-laid_rule ed Kind.TradeCancel h = refl
-laid_rule ed Kind.Unknown h = absurd (h refl)
+-- a rule of the messages alone, which Unknown is none of
+abbrev known : Kind → Bool → Bool
+known k t = eqb (type_of k) 0 || t
+
+known_told : (k : Kind) (t : Bool) → known k t ≡ true → (type_of k ≡ 0 → ⊥) → t ≡ true
+known_told k t e h = rw (ne_eqb (type_of k) 0 h) at e
 
 pub laid : (ed : Edition) (k : Kind) → (type_of k ≡ 0 → ⊥) → Laid 1 (entries_of ed k) (kind_length k)
-laid ed k h = laid_told 1 (entries_of ed k) (kind_length k) (laid_rule ed k h)
+unfolding kind_length length_of lookup table pick both
+laid ed k h =
+    let test = λ (e : Edition) (l : Kind). laid_test 1 (entries_of e l) (kind_length l) in
+    laid_told 1 (entries_of ed k) (kind_length k) (known_told k (test ed k) (of_any (λ e l. known l (test e l)) refl ed k) h)
 
 -- ---- names
 -- a message's name names it
-pub name_back : (k : Kind) → (type_of k ≡ 0 → ⊥) → kind_named (name_of k) ≡ k
-unfolding kind_named same_bytes pick both
+pub name_back : (k : Kind) → (type_of k ≡ 0 → ⊥) → kind_named (name_of k) ≡ Some k
 name_back Kind.SystemTime h = refl
 name_back Kind.SymbolUpdate h = refl
 name_back Kind.SystemState h = refl
@@ -223,80 +179,47 @@ name_back Kind.Trade h = refl
 name_back Kind.TradeCancel h = refl
 name_back Kind.Unknown h = absurd (h refl)
 
+-- what is named is a message, with that name
+named_among : (s : List ℕ) (ks : List Kind) (k : Kind) → list_all (λ k. not (eqb (type_of k) 0)) ks ≡ true → find (λ k. bytes_eq (name_of k) s) ks ≡ Some k → (type_of k ≡ 0 → ⊥) × (name_of k ≡ s)
+named_among s [] k all e = absurd (cc e)
+named_among s (x ∷ ks) k all e = go (bytes_eq (name_of x) s) (eqb (type_of x) 0) refl refl (named_among s ks k)
+  where
+    go :
+        (t u : Bool) → bytes_eq (name_of x) s ≡ t → eqb (type_of x) 0 ≡ u →
+        (list_all (λ k. not (eqb (type_of k) 0)) ks ≡ true → find (λ k. bytes_eq (name_of k) s) ks ≡ Some k → (type_of k ≡ 0 → ⊥) × (name_of k ≡ s)) →
+        (type_of k ≡ 0 → ⊥) × (name_of k ≡ s)
+    go t true p q rest = absurd (true≢false (sym (rw q at all)))
+    go true false p q rest =
+        let same : x ≡ k = cc (rw p at e) in
+        rw (← same) ((λ z. absurd (true≢false (sym (eq-eqb (type_of x) 0 z) ∙ q))), (bytes_eq-Decides (name_of x) s).0 p)
+    go false false p q rest = rest (rw q at all) (rw p at e)
+
+pub named_known : (s : List ℕ) (k : Kind) → kind_named s ≡ Some k → (type_of k ≡ 0 → ⊥) × (name_of k ≡ s)
+named_known s k e = named_among s kinds k refl e
+
 pub name_solid : (k : Kind) → (type_of k ≡ 0 → ⊥) → (1 ≤ length (name_of k)) × (all_from 33 126 (name_of k) ≡ true)
 unfolding all_from both
-name_solid Kind.SystemTime h = (omega arith, refl)
-name_solid Kind.SymbolUpdate h = (omega arith, refl)
-name_solid Kind.SystemState h = (omega arith, refl)
-name_solid Kind.TradingStatus h = (omega arith, refl)
-name_solid Kind.SymbolClear h = (omega arith, refl)
-name_solid Kind.Add h = (omega arith, refl)
-name_solid Kind.Modify h = (omega arith, refl)
-name_solid Kind.Delete h = (omega arith, refl)
-name_solid Kind.Execution h = (omega arith, refl)
-name_solid Kind.Trade h = (omega arith, refl)
-name_solid Kind.TradeCancel h = (omega arith, refl)
-name_solid Kind.Unknown h = absurd (h refl)
+name_solid k h =
+    let r = both_true {a = leb 1 (length (name_of k))} {b = all_from 33 126 (name_of k)} (known_told k (both (leb 1 (length (name_of k))) (all_from 33 126 (name_of k))) (of_any (λ ed k. known k (both (leb 1 (length (name_of k))) (all_from 33 126 (name_of k)))) refl Edition.V13 k) h) in
+    (leb-true 1 (length (name_of k)) r.0, r.1)
 
 pub name_short : (k : Kind) → length (name_of k) ≤ 12
-name_short Kind.SystemTime = omega arith
-name_short Kind.SymbolUpdate = omega arith
-name_short Kind.SystemState = omega arith
-name_short Kind.TradingStatus = omega arith
-name_short Kind.SymbolClear = omega arith
-name_short Kind.Add = omega arith
-name_short Kind.Modify = omega arith
-name_short Kind.Delete = omega arith
-name_short Kind.Execution = omega arith
-name_short Kind.Trade = omega arith
-name_short Kind.TradeCancel = omega arith
-name_short Kind.Unknown = omega arith
+name_short k = leb-true (length (name_of k)) 12 (of_any (λ ed k. leb (length (name_of k)) 12) refl Edition.V13 k)
 
 -- ---- what fields that are left out have
 pub blank_length : (ed : Edition) (k : Kind) → length (blank_body ed k) ≡ 42
 unfolding blank_body
-blank_length ed Kind.SystemTime = refl
-blank_length ed Kind.SymbolUpdate = refl
-blank_length ed Kind.SystemState = refl
-blank_length ed Kind.TradingStatus = refl
-blank_length ed Kind.SymbolClear = refl
-blank_length ed Kind.Add = refl
-blank_length ed Kind.Modify = refl
-blank_length ed Kind.Delete = refl
-blank_length ed Kind.Execution = refl
-blank_length ed Kind.Trade = refl
-blank_length ed Kind.TradeCancel = refl
-blank_length ed Kind.Unknown = refl
+blank_length ed k = eqb-true (length (blank_body ed k)) 42 (of_any (λ ed k. eqb (length (blank_body ed k)) 42) refl ed k)
 
 pub blank_type : (ed : Edition) (k : Kind) → get_or (blank_body ed k) 0 0 ≡ type_of k
 unfolding blank_body
-blank_type ed Kind.SystemTime = refl
-blank_type ed Kind.SymbolUpdate = refl
-blank_type ed Kind.SystemState = refl
-blank_type ed Kind.TradingStatus = refl
-blank_type ed Kind.SymbolClear = refl
-blank_type ed Kind.Add = refl
-blank_type ed Kind.Modify = refl
-blank_type ed Kind.Delete = refl
-blank_type ed Kind.Execution = refl
-blank_type ed Kind.Trade = refl
-blank_type ed Kind.TradeCancel = refl
-blank_type ed Kind.Unknown = refl
+blank_type ed k = eqb-true (get_or (blank_body ed k) 0 0) (type_of k) (of_any (λ ed k. eqb (get_or (blank_body ed k) 0 0) (type_of k)) refl ed k)
 
 pub blank_behind : (ed : Edition) (k : Kind) → (type_of k ≡ 0 → ⊥) → drop (kind_length k) (blank_body ed k) ≡ replicate (42 - kind_length k) 0
 unfolding blank_body kind_length length_of lookup table pick
-blank_behind ed Kind.SystemTime h = refl
-blank_behind ed Kind.SymbolUpdate h = refl
-blank_behind ed Kind.SystemState h = refl
-blank_behind ed Kind.TradingStatus h = refl
-blank_behind ed Kind.SymbolClear h = refl
-blank_behind ed Kind.Add h = refl
-blank_behind ed Kind.Modify h = refl
-blank_behind ed Kind.Delete h = refl
-blank_behind ed Kind.Execution h = refl
-blank_behind ed Kind.Trade h = refl
-blank_behind ed Kind.TradeCancel h = refl
-blank_behind ed Kind.Unknown h = absurd (h refl)
+blank_behind ed k h =
+    let test = λ (e : Edition) (l : Kind). bytes_eq (drop (kind_length l) (blank_body e l)) (replicate (42 - kind_length l) 0) in
+    (bytes_eq-Decides (drop (kind_length k) (blank_body ed k)) (replicate (42 - kind_length k) 0)).0 (known_told k (test ed k) (of_any (λ e l. known l (test e l)) refl ed k) h)
 
 bytes_told : (b : List ℕ) → all_from 0 255 b ≡ true → Bytes b
 unfolding all_from
@@ -307,21 +230,6 @@ bytes_told (x ∷ b) e zero =
     omega (arith, leb-true x 255 l.1)
 bytes_told (x ∷ b) e (suc i) = bytes_told b (both_true {a = both (leb 0 x) (leb x 255)} {b = all_from 0 255 b} e).1 i
 
-blank_rule : (ed : Edition) (k : Kind) → all_from 0 255 (blank_body ed k) ≡ true
-unfolding blank_body all_from both
-blank_rule ed Kind.SystemTime = refl
-blank_rule Edition.V13 Kind.SymbolUpdate = refl
-blank_rule Edition.V13b Kind.SymbolUpdate = refl
-blank_rule ed Kind.SystemState = refl
-blank_rule ed Kind.TradingStatus = refl
-blank_rule ed Kind.SymbolClear = refl
-blank_rule ed Kind.Add = refl
-blank_rule ed Kind.Modify = refl
-blank_rule ed Kind.Delete = refl
-blank_rule ed Kind.Execution = refl
-blank_rule ed Kind.Trade = refl
-blank_rule ed Kind.TradeCancel = refl
-blank_rule ed Kind.Unknown = refl
-
 pub blank_bytes : (ed : Edition) (k : Kind) → Bytes (blank_body ed k)
-blank_bytes ed k = bytes_told (blank_body ed k) (blank_rule ed k)
+unfolding blank_body all_from both
+blank_bytes ed k = bytes_told (blank_body ed k) (of_any (λ ed k. all_from 0 255 (blank_body ed k)) refl ed k)

@@ -1,2 +1,3 @@
-pub mod RowLaws
+pub mod Every
 pub mod Laws
+pub mod RowLaws

@@ -1,16 +1,16 @@
 -- The table's rule, from one test that the checker computes over its pairs, and what it says of every type byte.
 -- Assumes nothing.
-use mathlib.Core.Path.{◌≡◌, refl, ap, ◌∙◌}
+use mathlib.Core.Path.{◌≡◌, refl, sym, ap, ◌∙◌}
 use mathlib.Core.List.{List, [], ◌∷◌}
 use mathlib.Core.Bool.{Bool, true, false}
 use mathlib.Core.Logic.{◌⊎◌, inl, inr}
 use Prim.Native.Nat.{ℕ, ◌+◌, ◌≤◌, ◌<◌}
 use native.Mathlib.Numerals.{add-one}
 use native.Mathlib.Omega.{arith}
-use lib.ListN.{length, get_or, drop}
+use lib.ListN.{length, get_or, drop, drop_of_length-le}
 use lib.Seq.{drop-cons}
 use lib.Dec.{eqb, leb}
-use borrow.Author.Tests.{eqb-true, leb-true}
+use borrow.Author.Tests.{eq-eqb, ne_eqb, eqb-true, leb-true}
 use Rattle.facts.specs.Limits.{entry_size}
 use Rattle.facts.specs.Pick.{pick, both}
 use Rattle.facts.proofs.Picks.{pick_ind, both_true}
@@ -18,10 +18,66 @@ use Rattle.kinds.specs.Table.{table, lookup, length_of, kind_of, type_of, kind_l
 use Rattle.kinds.specs.declared.Kind.{Kind}
 use Rattle.kinds.specs.declared.Pair.{Pair}
 
--- one pair of a table: what the search for t finds from pair i on
-pub lookup_at : (t : ℕ) (l : List Pair) (i : ℕ) (d : Pair) → i < length l → lookup t (drop i l) ≡ pick (eqb t (get_or l i d).code) (get_or l i d).len (lookup t (drop (i + 1) l))
-unfolding lookup
-lookup_at t l i d h = rw (drop-cons l i d, add-one) refl
+-- a walk of all pairs, which keeps the length of the last that has the type
+unfoldable pub walked : ℕ → ℕ → List Pair → ℕ
+walked t n [] = n
+walked t n (m ∷ rest) = walked t (pick (eqb t m.code) m.len n) rest
+
+-- what it keeps of one pair: its length, or what it had
+pub kept_new : (t a b n k : ℕ) → a ≡ t → k ≡ b → k ≡ pick (eqb t a) b n
+unfolding pick
+kept_new t a b n k h e = e ∙ simp (eq-eqb t a (sym h))
+
+pub kept_old : (t a b n k : ℕ) → (a ≡ t → ⊥) → k ≡ n → k ≡ pick (eqb t a) b n
+unfolding pick
+kept_old t a b n k h e = e ∙ simp (ne_eqb t a (λ q. h (sym q)))
+
+-- one pair of it
+pub walked_at : (t n k : ℕ) (l : List Pair) (i : ℕ) (d : Pair) → i < length l → k ≡ pick (eqb t (get_or l i d).code) (get_or l i d).len n → walked t k (drop (i + 1) l) ≡ walked t n (drop i l)
+unfolding walked
+walked_at t n k l i d h e = rw (e, drop-cons l i d, add-one) refl
+
+pub walked_end : (t n : ℕ) (l : List Pair) (i : ℕ) → length l ≤ i → walked t n (drop i l) ≡ n
+unfolding walked
+walked_end t n l i h = rw (drop_of_length-le l {i = i} h) refl
+
+-- a type is in no pair, and no pair's type is in a later one
+unfoldable pub lacks : ℕ → List Pair → Bool
+lacks t [] = true
+lacks t (m ∷ rest) = pick (eqb t m.code) false (lacks t rest)
+
+unfoldable pub apart : List Pair → Bool
+apart [] = true
+apart (m ∷ rest) = both (lacks m.code rest) (apart rest)
+
+table_apart : apart table ≡ true
+unfolding apart lacks table pick both
+table_apart = refl
+
+past : (t n : ℕ) (l : List Pair) → lacks t l ≡ true → walked t n l ≡ n
+unfolding walked lacks pick
+past t n [] h = refl
+past t n (m ∷ rest) h = go (eqb t m.code) h (past t n rest)
+  where
+    go : (x : Bool) → pick x false (lacks t rest) ≡ true → (lacks t rest ≡ true → walked t n rest ≡ n) → walked t (pick x m.len n) rest ≡ n
+    go true k ih = cc
+    go false k ih = ih k
+
+-- so the last pair that has the type is the first
+walked_lookup : (t : ℕ) (l : List Pair) → apart l ≡ true → walked t 0 l ≡ lookup t l
+unfolding walked apart lookup pick
+walked_lookup t [] h = refl
+walked_lookup t (m ∷ rest) h =
+    let s = both_true {a = lacks m.code rest} {b = apart rest} h in
+    go (eqb t m.code) refl s.0 (walked_lookup t rest s.1)
+  where
+    go : (x : Bool) → eqb t m.code ≡ x → lacks m.code rest ≡ true → walked t 0 rest ≡ lookup t rest → walked t (pick x m.len 0) rest ≡ pick x m.len (lookup t rest)
+    go true e k ih = let q : t ≡ m.code = eqb-true t m.code e in past t m.len rest (rw q k)
+    go false e k ih = ih
+
+pub walked_table : (t : ℕ) → walked t 0 table ≡ length_of t
+unfolding length_of
+walked_table t = walked_lookup t table table_apart
 
 -- a test of every pair of a table
 unfoldable pub pairs : (ℕ → ℕ → Bool) → List Pair → Bool

@@ -5,7 +5,7 @@ ghost use Rattle.std.specs.Prelude.{◌≡◌};
 ghost use Rattle.kinds.specs.Table.{length_of, kind_of};
 
 // The kind of a message; Unknown is refusal 3 (`refusal_of` of specs/; `type_refused` of body says that reading goes by it).
-#[derive(Clone, Copy)]
+#[derive(Clone, Copy, Debug, PartialEq, Eq)]
 pub enum Kind {
     SystemTime,
     SymbolUpdate,
@@ -21,7 +21,7 @@ pub enum Kind {
     Unknown,
 }
 
-#[derive(Clone, Copy)]
+#[derive(Clone, Copy, Debug, PartialEq, Eq)]
 pub struct Pair {
     pub code: u8,
     pub len: u8,
@@ -43,36 +43,35 @@ const TABLE: [Pair; 11] = [
 ];
 
 // The type byte decides the message.
-pub fn kind_of(t: u8) -> Kind
-    ensures { result ≡ kind_of t }
-{
-    match t {
-        49 => Kind::SystemTime,
-        1 => Kind::SymbolUpdate,
-        83 => Kind::SystemState,
-        4 => Kind::TradingStatus,
-        5 => Kind::SymbolClear,
-        20 => Kind::Add,
-        21 => Kind::Modify,
-        23 => Kind::Delete,
-        24 => Kind::Execution,
-        10 => Kind::Trade,
-        11 => Kind::TradeCancel,
-        _ => Kind::Unknown,
+impl From<u8> for Kind {
+    ghost from_gives = { λ t k. k ≡ kind_of t };
+
+    #[tactic(auto, unfolding(crate::specs::Table::kind_of, facts::specs::Pick::pick))]
+    fn from(t: u8) -> Kind {
+        match t {
+            49 => Kind::SystemTime,
+            1 => Kind::SymbolUpdate,
+            83 => Kind::SystemState,
+            4 => Kind::TradingStatus,
+            5 => Kind::SymbolClear,
+            20 => Kind::Add,
+            21 => Kind::Modify,
+            23 => Kind::Delete,
+            24 => Kind::Execution,
+            10 => Kind::Trade,
+            11 => Kind::TradeCancel,
+            _ => Kind::Unknown,
+        }
     }
 }
 
-// The length that the table gives a type, 0 where it has no such type. All pairs are looked at, from the last to the first, so that no
-// branch hangs on the type.
+// The length that the table gives a type, 0 where it has no such type. All pairs are looked at, since no type is in two of them, so that
+// no branch hangs on the type.
 pub fn length_of(t: u8) -> usize
     ensures { result ≡ length_of t }
 {
-    let all = TABLE;
-    let mut n: usize = 0;
-    let mut i: usize = 11;
-    while 0 < i {
-        i = i - 1;
-        let m = all[i];
+    let mut n = 0;
+    for m in TABLE {
         if m.code == t {
             n = m.len as usize;
         }

@@ -1,21 +1,20 @@
 -- A value of text comes back from the bytes that it is written of: as text, with its spaces behind it, or as digits, which are too many to be text.
 -- Assumes nothing.
 use mathlib.Core.Bool.{true}
+use Rattle.std.specs.Prelude.{Option, Some, None}
 use mathlib.Core.List.{List, [], ◌∷◌, ◌++◌}
 use mathlib.Core.Path.{◌≡◌, refl, sym, ap, ◌∙◌}
 use Prim.Native.Nat.{ℕ, suc, ◌+◌, ◌-◌, ◌*◌, ◌≤◌}
 use native.Mathlib.Omega.{arith}
 use lib.Dec.{eqb, leb}
-use lib.ListN.{length, take, drop, replicate, length-append, length-drop, length-replicate}
+use lib.ListN.{length, drop, replicate, length-append, length-drop, length-replicate}
 use borrow.Author.Tests.{le-leb, lt-leb, leb-true, eq-eqb, eqb-true}
 use Rattle.facts.specs.Pick.{pick, both}
-use Rattle.facts.specs.Same.{same_bytes}
 use Rattle.text.specs.Text.{trim_cons, trim_of}
 use Rattle.wire.specs.Le.{Bytes}
 use Rattle.words.specs.Types.{all_from}
 use Rattle.facts.proofs.Picks.{pick_ind, both_true}
-use Rattle.facts.proofs.SameLaws.{same_bytes_refl}
-use Rattle.letters.specs.Letters.{Got, none, some, all_hex, unhex, hex_of, hex_mark, is_plain, is_hex, plain_in, hex_in, text_in, text_of}
+use Rattle.letters.specs.Letters.{all_hex, unhex, hex_of, hex_mark, is_marked, is_plain, is_hex, plain_in, hex_in, text_in, text_of}
 use Rattle.letters.proofs.HexLaws.{hex_length, hex_solid, hex_digits, hex_back, unhex_length}
 
 -- ---- spaces at the end
@@ -50,21 +49,21 @@ trim_back (x ∷ v) = cons_back x (trim_of v) v (trim_back v)
 
 -- ---- what is written
 abbrev Back : List ℕ → List ℕ → Type 0
-Back v t = text_in (length v) t ≡ some v
+Back v t = text_in (length v) t ≡ Some v
 
 plain_back : (v : List ℕ) → is_plain (trim_of v) ≡ true → Back v (trim_of v)
 unfolding text_in plain_in pick
 plain_back v e =
     let b = trim_back v in
-    rw (le-leb (length (trim_of v)) (length v) b.0, e) (ap some b.1)
+    rw (le-leb (length (trim_of v)) (length v) b.0, e) (ap Some b.1)
 
 marked_back : (v : List ℕ) → Bytes v → Back v (hex_mark ++ hex_of v)
 unfolding text_in hex_in is_hex pick both
 marked_back v h =
     let n : suc (suc (length (hex_of v))) ≡ 2 + 2 * length v = omega (arith, hex_length v) in
-    rw (lt-leb (suc (suc (length (hex_of v)))) (length v) (omega arith), eq-eqb (suc (suc (length (hex_of v)))) (2 + 2 * length v) n, same_bytes_refl hex_mark, hex_digits v h) (ap some (hex_back v h))
+    rw (lt-leb (suc (suc (length (hex_of v)))) (length v) (omega arith), eq-eqb (suc (suc (length (hex_of v)))) (2 + 2 * length v) n, hex_digits v h) (ap Some (hex_back v h))
 
-pub text_back : (v : List ℕ) → Bytes v → text_in (length v) (text_of v) ≡ some v
+pub text_back : (v : List ℕ) → Bytes v → text_in (length v) (text_of v) ≡ Some v
 unfolding text_of
 text_back v h = pick_ind (Back v) (is_plain (trim_of v)) (trim_of v) (hex_mark ++ hex_of v) (plain_back v) (λ e. marked_back v h)
 
@@ -91,16 +90,16 @@ text_short v =
     (λ e. omega (arith, hex_length v))
 
 -- ---- what is read
-abbrev Long : ℕ → Got → Type 0
-Long w g = (v : List ℕ) → g ≡ some v → length v ≡ w
+abbrev Long : ℕ → Option (List ℕ) → Type 0
+Long w g = (v : List ℕ) → g ≡ Some v → length v ≡ w
 
-none_long : (w : ℕ) → Long w none
+none_long : (w : ℕ) → Long w None
 none_long w v e = cc
 
 plain_long : (w : ℕ) (s : List ℕ) → length s ≤ w → Long w (plain_in w s)
 unfolding plain_in
 plain_long w s h =
-    pick_ind (Long w) (is_plain s) (some (s ++ replicate (w - length s) 32)) none
+    pick_ind (Long w) (is_plain s) (Some (s ++ replicate (w - length s) 32)) None
     (λ e v p.
     let same : s ++ replicate (w - length s) 32 ≡ v = cc in
     sym (ap length same) ∙ rw (length-append, length-replicate) (omega arith))
@@ -109,14 +108,14 @@ plain_long w s h =
 hex_long : (w : ℕ) (s : List ℕ) → Long w (hex_in w s)
 unfolding hex_in is_hex
 hex_long w s =
-    pick_ind (Long w) (both (eqb (length s) (2 + 2 * w)) (both (same_bytes (take 2 s) hex_mark) (all_hex (drop 2 s)))) (some (unhex (drop 2 s))) none
+    pick_ind (Long w) (both (eqb (length s) (2 + 2 * w)) (both (is_marked s) (all_hex (drop 2 s)))) (Some (unhex (drop 2 s))) None
     (λ e v p.
-    let l : length s ≡ 2 + 2 * w = eqb-true (length s) (2 + 2 * w) (both_true {a = eqb (length s) (2 + 2 * w)} {b = both (same_bytes (take 2 s) hex_mark) (all_hex (drop 2 s))} e).0 in
+    let l : length s ≡ 2 + 2 * w = eqb-true (length s) (2 + 2 * w) (both_true {a = eqb (length s) (2 + 2 * w)} {b = both (is_marked s) (all_hex (drop 2 s))} e).0 in
     let same : unhex (drop 2 s) ≡ v = cc in
     sym (ap length same) ∙ unhex_length (drop 2 s) w (rw length-drop (omega arith)))
     (λ e. none_long w)
 
-pub text_length : (w : ℕ) (s v : List ℕ) → text_in w s ≡ some v → length v ≡ w
+pub text_length : (w : ℕ) (s v : List ℕ) → text_in w s ≡ Some v → length v ≡ w
 unfolding text_in
 text_length w s v p =
     pick_ind (Long w) (leb (length s) w) (plain_in w s) (hex_in w s)

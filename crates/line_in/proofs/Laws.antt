@@ -1,69 +1,77 @@
--- The words of a line from a place on: none, a comment, or a word and those behind it.
+-- Where fields lie, and what a field that was read leaves of the body.
 -- Assumes nothing.
-use Prim.Native.Nat.{ℕ, ◌+◌, ◌-◌, ◌≤◌, ◌<◌}
-use mathlib.Core.Path.{◌≡◌, refl, sym, ap, ◌∙◌}
-use mathlib.Core.Bool.{true, false}
-use mathlib.Core.List.{List, [], ◌∷◌}
-use native.Mathlib.Omega.{arith}
-use lib.ListN.{length, take, drop, get_or, length-drop, drop_of_length-le}
-use lib.Seq.{drop-drop, get_or-take, get_or-drop}
-use borrow.Author.Tests.{eq-eqb, ne_eqb}
+use Rattle.std.proofs.Common.{◌≡◌, refl, sym, ap, ◌∙◌, ◌==◌, ℕ, suc, ◌+◌, ◌-◌, ◌≤◌, ◌<◌, true, false, true≢false, List, [], ◌∷◌, ◌++◌, length, take, drop, get_or, set, Option, Some, None, MatchOption, option_map, slice_get, is_some, is_err, unwrap_or, Result, Ok, Err, arith, add-one, length-take-le, length-drop, drop-drop, append_assoc}
+use lib.Seq.{sets, sets-eq}
+use Rattle.std.proofs.lemmas.List.Quantifiers.{position-Some}
 use Rattle.facts.specs.Pick.{pick}
-use Rattle.spans.specs.Spans.{Word, word, blanks, filled, words_at, is_note, uncommented}
-use Rattle.spans.proofs.Laws.{words_start, words_more, start_fills}
+use Rattle.editions.specs.declared.Edition.{Edition}
+use Rattle.kinds.specs.declared.Kind.{Kind}
+use Rattle.letters.specs.Answer.{answer}
+use Rattle.letters.specs.declared.Malformed.{Malformed}
+use Rattle.values.specs.Values.{value_in}
+use Rattle.values.proofs.Laws.{value_length}
+use Rattle.keys.specs.Keys.{entries_of, no_entry, form_at}
+use Rattle.keys.specs.declared.Form.{Form}
+use Rattle.keys.proofs.Laws.{most_fields_lem}
+use Rattle.line_in.specs.Lines.{field_at, take_field, take_value, take_all}
+use Rattle.line_in.specs.declared.Draft.{Draft}
+use Rattle.line_in.specs.declared.Slip.{Slip}
+use Rattle.spans.specs.Spans.{Word}
+use Rattle.spans.specs.Left.{told}
+use Rattle.spans.specs.declared.Word.{Word as Told}
 
--- the words from place i of the line s on, up to a comment
-abbrev pub rest : List ℕ → ℕ → List Word
-rest s i = uncommented (words_at i (drop i s))
+pub field_inside : (ed : Edition) (k : Kind) (place i : ℕ) → field_at ed k place ≡ Some i → i < 10
+field_inside ed k place i e = omega (arith, (position-Some (λ f. f.form.at == place) (entries_of ed k) i no_entry e).0, most_fields_lem ed k)
 
--- a place that a word starts at, if there is a byte there
-abbrev pub Starts : List ℕ → ℕ → Type 0
-Starts s at = at < length s → 0 < filled (drop at s)
+-- ---- a field that was lent by itself
+abbrev lent : List ℕ → ℕ → ℕ → List ℕ
+lent b at w = take (at + w - at) (drop at b)
 
-module _ (s : List ℕ) (i at : ℕ) (e : at ≡ i + blanks (drop i s)) where
-  -- blanks in front of a word are passed over
-  pub words_from : words_at i (drop i s) ≡ words_at at (drop at s)
-  words_from = words_start i (drop i s) ∙ rw (e, ← drop-drop (blanks (drop i s)) i s) refl
+module _ (b : List ℕ) (at w : ℕ) (fits : at + w ≤ length b) where
+  lent_long : length (lent b at w) ≡ w
+  lent_long =
+      let n : at + w - at ≡ w = omega arith in
+      rw n (length-take-le w (drop at b) (rw length-drop (omega arith)))
 
-  pub rest_from : rest s i ≡ rest s at
-  rest_from = ap uncommented words_from
+  stored : (v : List ℕ) → length v ≡ w → take at b ++ (v ++ drop (at + w - at) (drop at b)) ≡ sets b at v
+  stored v n =
+      let z : at + w - at ≡ length v = omega arith in
+      let m : at + length v ≤ length b = omega arith in
+      rw (z, drop-drop (length v) at b) (sym (sets-eq v b at m ∙ append_assoc (take at b) v (drop (at + length v) b)))
 
-  pub starts : Starts s at
-  starts h =
-      let f = start_fills (drop i s) (rw length-drop (omega arith)) in
-      rw (e, ← drop-drop (blanks (drop i s)) i s) f
+-- what a value said stands in the field's place, and the column of the value beside it
+pub field_taken :
+    (d : Draft) (i at place : ℕ) (f : Form) (s new : List ℕ) (r : Result (Unit {0}) Malformed) →
+    f ≡ form_at d.edition d.kind i →
+    f.at + f.width ≤ length d.body →
+    is_some (get_or d.columns i None) ≡ false →
+    r ≡ answer (value_in f.style (length (lent d.body f.at f.width)) s) →
+    new ≡ unwrap_or (value_in f.style (length (lent d.body f.at f.width)) s) (lent d.body f.at f.width) →
+    is_err r ≡ false →
+    Ok (record d { body = take f.at d.body ++ (new ++ drop (f.at + f.width - f.at) (drop f.at d.body)); columns = set d.columns i (Some (place + 1)) }) ≡ take_field d i at place s
+unfolding take_field take_value pick
+field_taken d i at place f s new r form fits free told kept well =
+    rw (free, add-one, ← form) (go (value_in f.style f.width s) refl)
+  where
+    long : length (lent d.body f.at f.width) ≡ f.width
+    long = lent_long d.body f.at f.width fits
 
-module _ (s : List ℕ) (at : ℕ) where
-  pub words_end : length s ≤ at → words_at at (drop at s) ≡ []
-  unfolding words_at
-  words_end h = rw (drop_of_length-le s h) refl
+    go : (g : Option (List ℕ)) → value_in f.style f.width s ≡ g → Ok (record d { body = take f.at d.body ++ (new ++ drop (f.at + f.width - f.at) (drop f.at d.body)); columns = set d.columns i (Some (suc place)) }) ≡ take_value g i f.at place d
+    go None e =
+        let bad : is_err r ≡ true = ap is_err ((rw long at told) ∙ ap answer e) in
+        absurd (true≢false (sym bad ∙ well))
+    go (Some v) e =
+        let said : new ≡ v = (rw long at kept) ∙ ap (λ (g : Option (List ℕ)). unwrap_or g (lent d.body f.at f.width)) e in
+        let there = ap (λ (l : List ℕ). take f.at d.body ++ (l ++ drop (f.at + f.width - f.at) (drop f.at d.body))) said ∙ stored d.body f.at f.width fits v (value_length f.style f.width s v e) in
+        ap (λ (b : List ℕ). Ok (record d { body = b; columns = set d.columns i (Some (suc place)) })) there
 
-  pub rest_end : length s ≤ at → rest s at ≡ []
-  unfolding uncommented
-  rest_end h = rw (words_end h) refl
+-- ---- words, one after another
+pub taken_err : (ws : List Word) (x : Slip) → take_all ws (Err x) ≡ Err x
+unfolding take_all
+taken_err [] x = refl
+taken_err (w ∷ ws) x = refl
 
-  -- the word that starts at a place, and those behind it
-  pub words_word : (end : ℕ) → end ≡ at + filled (drop at s) → at < length s → Starts s at → words_at at (drop at s) ≡ word at (take (end - at) (drop at s)) ∷ words_at end (drop end s)
-  words_word end e l h =
-      let k : end - at ≡ filled (drop at s) = omega arith in
-      words_more at (drop at s) (h l) ∙ rw (k, e, drop-drop (filled (drop at s)) at s) refl
-
-  -- its first byte is the byte at that place
-  lead : (n : ℕ) → 0 < n → get_or (take n (drop at s)) 0 0 ≡ get_or s at 0
-  lead n h = get_or-take n (drop at s) 0 0 h ∙ get_or-drop at s 0 0 ∙ ap (λ (j : ℕ). get_or s j 0) (omega arith)
-
-  pub is_note_lem : (end : ℕ) → end ≡ at + filled (drop at s) → at < length s → Starts s at → get_or s at 0 ≡ 35 → is_note (word at (take (end - at) (drop at s))) ≡ true
-  unfolding is_note
-  is_note_lem end e l h b = eq-eqb (get_or (take (end - at) (drop at s)) 0 0) 35 (lead (end - at) (omega (arith, h l)) ∙ b)
-
-  pub no_note : (end : ℕ) → end ≡ at + filled (drop at s) → at < length s → Starts s at → (get_or s at 0 ≡ 35 → ⊥) → is_note (word at (take (end - at) (drop at s))) ≡ false
-  unfolding is_note
-  no_note end e l h b = ne_eqb (get_or (take (end - at) (drop at s)) 0 0) 35 (λ q. b (sym (lead (end - at) (omega (arith, h l))) ∙ q))
-
-  pub rest_note : at < length s → Starts s at → get_or s at 0 ≡ 35 → rest s at ≡ []
-  unfolding uncommented pick
-  rest_note l h b = rw (words_word (at + filled (drop at s)) refl l h, is_note_lem (at + filled (drop at s)) refl l h b) refl
-
-  pub rest_word : (end : ℕ) → end ≡ at + filled (drop at s) → at < length s → Starts s at → (get_or s at 0 ≡ 35 → ⊥) → rest s at ≡ word at (take (end - at) (drop at s)) ∷ rest s end
-  unfolding uncommented pick
-  rest_word end e l h b = rw (words_word end e l h, no_note end e l h b) refl
+-- the word that the iterator gives is the first of those that are left, and it leaves the others
+pub next_is : (o : Option Told) (ws rest : List Word) → MatchOption o ((ws ≡ []) × (rest ≡ [])) (λ w. ws ≡ told w ∷ rest) → (option_map told o ≡ slice_get ws 0) × (rest ≡ drop 1 ws)
+next_is None ws rest m = (rw m.0 refl, rw (m.0, m.1) refl)
+next_is (Some w) ws rest m = (rw m refl, rw m refl)

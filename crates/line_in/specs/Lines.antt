@@ -1,152 +1,144 @@
 -- What a line says (docs/TEXT.md, "What a line says"): a record, or where it is wrong and what was expected there.
-use Rattle.std.specs.Prelude.{ℕ, suc, ◌+◌, ◌/◌, List, [], ◌∷◌, length, take, drop, get_or, set, replicate, eqb, leb, ltb}
+use Rattle.std.specs.Prelude.{ℕ, suc, ◌+◌, ◌&&◌, ◌==◌, List, [], ◌∷◌, length, take, drop, get_or, slice_get, set, replicate, Option, Some, None, is_some, is_none, unwrap_or, Result, Ok, Err, position, zip}
 use Rattle.std.proofs.lemmas.List.Edits.{sets}
 use Rattle.facts.specs.Limits.{last_number}
-use Rattle.facts.specs.Pick.{pick, both}
-use Rattle.facts.specs.Search.{first}
-use Rattle.facts.specs.declared.Found.{Found}
+use Rattle.facts.specs.Pick.{pick}
 use Rattle.editions.specs.declared.Edition.{Edition}
-use Rattle.kinds.specs.Table.{type_of, kind_length}
+use Rattle.kinds.specs.Table.{kind_length}
 use Rattle.kinds.specs.declared.Kind.{Kind}
-use Rattle.body.specs.Read.{judge_body, judged_code}
-use Rattle.spans.specs.Spans.{Word, words_at, is_note, uncommented, place_of}
+use Rattle.fields.specs.declared.Fault.{Fault}
+use Rattle.body.specs.Read.{judge_body}
+use Rattle.spans.specs.Spans.{Word, opened, is_note, uncommented, line_most}
 use Rattle.figures.specs.Figures.{number_in}
-use Rattle.figures.specs.declared.Figure.{Figure}
-use Rattle.letters.specs.Letters.{Got, none, some}
 use Rattle.values.specs.Values.{value_in}
 use Rattle.keys.specs.Keys.{Entry, kind_named, entries_of, form_at, key_named, blank_body}
 use Rattle.line_in.specs.declared.Expected.{Expected}
 use Rattle.line_in.specs.declared.Slip.{Slip}
+use Rattle.line_in.specs.declared.Draft.{Draft}
 use Rattle.line_in.specs.declared.Line.{Line}
-use Rattle.line_in.specs.declared.Took.{Took}
-
--- ---- what is told
--- "by the column, from 1 and counted in bytes, and by what was expected there": at the byte at place i, of a field of a message where there is one
-abbrev pub slip_at : ℕ → Expected → Kind → ℕ → Slip
-slip_at i what k field = record { column = suc i; expected = what; kind = k; field = field }
-
--- the answer, and the 42 bytes for a body after it
-pub record Reading : Type 0 where
-  pub line : Line
-  pub body : List ℕ
-
-abbrev pub reading : Line → List ℕ → Reading
-reading l b = record { line = l; body = b }
+use Rattle.line_in.specs.Slips.{slip_at}
 
 -- ---- the fields
--- a body so far, and for each field the column of its value, 0 while it is not written
-pub record Draft : Type 0 where
-  pub body : List ℕ
-  pub given : List ℕ
-
-abbrev pub draft : List ℕ → List ℕ → Draft
-draft b g = record { body = b; given = g }
-
--- what became of words: all are taken, or one is wrong
-pub data Taken : Type 0 where
-  well : Draft → Taken
-  slipped : Slip → Taken
-
--- what the code tells of it: its answer, and of words that are taken the body so far and the columns
-abbrev pub took_as : Took → List ℕ → List ℕ → Taken
-took_as Took.Well b g = well (draft b g)
-took_as (Took.Wrong x) b g = slipped x
-
--- "its value has not the field's form": told at "the first byte behind the `=`", which is at place v
-unfoldable pub take_value : Got → Kind → ℕ → ℕ → ℕ → Draft → Taken
-take_value none k i at v d = slipped (slip_at v Expected.Value k i)
-take_value (some s) k i at v d = well (draft (sets d.body at s) (set d.given i (suc v)))
-
--- "its key stood before": told at the word's first byte, at place w
-unfoldable pub take_field : Edition → Kind → Found → ℕ → ℕ → List ℕ → Draft → Taken
-take_field ed k Found.Nothing w v s d = slipped (slip_at w Expected.Key k 0)
-take_field ed k (Found.At i) w v s d =
-    pick (eqb (get_or d.given i 0) 0)
-    (take_value (value_in (form_at ed k i).style (form_at ed k i).width s) k i (form_at ed k i).at v d)
-    (slipped (slip_at w Expected.Once k i))
-
--- "The key of a word is what stands before its first `=`, the value what stands behind it" (61 is `=`); "it has no `=`, or what stands before it is no key of this message"
-unfoldable pub take_word : Edition → Kind → Word → Draft → Taken
-take_word ed k w d =
-    let p = place_of 61 w.bytes in
-    pick (ltb p (length w.bytes))
-    (take_field ed k (key_named ed k (take p w.bytes)) w.at (w.at + suc p) (drop (suc p) w.bytes) d)
-    (slipped (slip_at w.at Expected.Key k 0))
-
--- "then word by word, from the left"
-unfoldable pub take_all : Edition → Kind → List Word → Taken → Taken
-take_all ed k [] t = t
-take_all ed k (w ∷ ws) (slipped x) = slipped x
-take_all ed k (w ∷ ws) (well d) = take_all ed k ws (take_word ed k w d)
-
--- "a field that has to be written was not: the first in the table"; i is where the fields begin
-unfoldable pub missing : ℕ → List Entry → List ℕ → Found
-missing i [] g = Found.Nothing
-missing i (f ∷ fs) g = pick (both f.form.needed (eqb (get_or g i 0) 0)) (Found.At i) (missing (suc i) fs g)
-
--- the field whose first byte is at a place of the body
-unfoldable pub field_at : Edition → Kind → ℕ → Found
-field_at ed k o = first (λ f. eqb f.form.at o) 0 (entries_of ed k)
-
--- "the first byte of its value"; a field that was left out, none of whose defaults is out of range, would be told behind the line
-unfoldable pub column_of : List ℕ → ℕ → ℕ → ℕ
-column_of g i end = pick (eqb (get_or g i 0) 0) (suc end) (get_or g i 0)
-
--- "a field is out of range: the first by its place in the body", at o
-unfoldable pub out_of_range : Kind → Found → List ℕ → ℕ → Slip
-out_of_range k (Found.At i) g end = record { column = column_of g i end; expected = Expected.Range; kind = k; field = i }
-out_of_range k Found.Nothing g end = slip_at end Expected.Range k 0
-
--- the body, whose fields are all written: a record, where the reader of the edition takes it (c is 0), or out of range; c tells the place too, above 8 bits
-unfoldable pub by_code : ℕ → Edition → ℕ → Kind → ℕ → Draft → List ℕ → Reading
-by_code c ed n k end d out =
-    pick (eqb c 0) (reading (Line.Record n (kind_length k)) d.body) (reading (Line.Wrong (out_of_range k (field_at ed k (c / 256)) d.given end)) out)
-
--- "The message must be one that the reader of the edition takes"
-unfoldable pub judged : Edition → ℕ → Kind → ℕ → Draft → List ℕ → Reading
-judged ed n k end d out = by_code (judged_code (judge_body ed (take (kind_length k) d.body))) ed n k end d out
-
-unfoldable pub whole : Edition → ℕ → Kind → ℕ → Draft → List ℕ → Found → Reading
-whole ed n k end d out (Found.At i) = reading (Line.Wrong (slip_at end Expected.Needed k i)) out
-whole ed n k end d out Found.Nothing = judged ed n k end d out
-
-unfoldable pub finished : Edition → ℕ → Kind → ℕ → Taken → List ℕ → Reading
-finished ed n k end (slipped x) out = reading (Line.Wrong x) out
-finished ed n k end (well d) out = whole ed n k end d out (missing 0 (entries_of ed k) d.given)
-
--- ---- the line
 -- no message has more fields
 abbrev pub most_fields : ℕ
 most_fields = 10
 
+-- a record whose fields are all left out
 abbrev pub blank_draft : Edition → Kind → Draft
-blank_draft ed k = draft (blank_body ed k) (replicate most_fields 0)
+blank_draft ed k = record { edition = ed; kind = k; length = kind_length k; body = blank_body ed k; columns = replicate most_fields None }
+
+abbrev pub entries : Draft → List Entry
+entries d = entries_of d.edition d.kind
+
+-- field i with the bytes that its value says, which stands at a place of the line; "its value has not the field's form": told at "the first byte behind the `=`"
+unfoldable pub take_value : Option (List ℕ) → ℕ → ℕ → ℕ → Draft → Result Draft Slip
+take_value None i at place d = Err (slip_at place (Expected.Value d.kind i))
+take_value (Some v) i at place d = Ok (record d { body = sets d.body at v; columns = set d.columns i (Some (suc place)) })
+
+-- "its key stood before": told at the word's first byte
+unfoldable pub take_field : Draft → ℕ → ℕ → ℕ → List ℕ → Result Draft Slip
+take_field d i at place s =
+    let f = form_at d.edition d.kind i in
+    pick (is_some (get_or d.columns i None)) (Err (slip_at at (Expected.Once d.kind i))) (take_value (value_in f.style f.width s) i f.at place d)
+
+-- "what stands before it is no key of this message"; the `=` is at place p of the word
+unfoldable pub take_keyed : Option ℕ → ℕ → Word → Draft → Result Draft Slip
+take_keyed None p w d = Err (slip_at w.at (Expected.Key d.kind))
+take_keyed (Some i) p w d = take_field d i w.at (w.at + p + 1) (drop (p + 1) w.bytes)
+
+-- "The key of a word is what stands before its first `=`, the value what stands behind it"; "it has no `=`"
+unfoldable pub take_parted : Option ℕ → Word → Draft → Result Draft Slip
+take_parted None w d = Err (slip_at w.at (Expected.Key d.kind))
+take_parted (Some p) w d = take_keyed (key_named d.edition d.kind (take p w.bytes)) p w d
+
+-- 61 is `=`
+unfoldable pub take_word : Word → Draft → Result Draft Slip
+take_word w d = take_parted (position (λ x. x == 61) w.bytes) w d
+
+-- "then word by word, from the left"
+unfoldable pub take_all : List Word → Result Draft Slip → Result Draft Slip
+take_all [] t = t
+take_all (w ∷ ws) (Err x) = Err x
+take_all (w ∷ ws) (Ok d) = take_all ws (take_word w d)
+
+-- "a field that has to be written was not: the first in the table"
+unfoldable pub missing : Draft → Option ℕ
+missing d = position (λ p. p.0.form.needed && is_none p.1) (zip (entries d) d.columns)
+
+-- ---- the record
+-- the field whose first byte is at a place of the body
+abbrev pub field_at : Edition → Kind → ℕ → Option ℕ
+field_at ed k place = position (λ f. f.form.at == place) (entries_of ed k)
+
+-- told at the first byte of the field's value; a field that was left out, none of whose defaults is out of range, would be told behind the line
+unfoldable pub range_at : Option ℕ → Draft → ℕ → Slip
+range_at None d end = slip_at end (Expected.Range d.kind 0)
+range_at (Some i) d end = record { column = unwrap_or (get_or d.columns i None) (suc end); expected = Expected.Range d.kind i }
+
+-- "a field is out of range: the first by its place in the body", told at "the first byte of its value"
+unfoldable pub range_slip : Draft → ℕ → ℕ → Slip
+range_slip d place end = range_at (field_at d.edition d.kind place) d end
+
+-- the body, whose fields are all written: a record, where the reader of the edition takes it, or out of range
+unfoldable pub judged_as : Result Kind Fault → ℕ → ℕ → Draft → Result Line Slip
+judged_as (Ok k) n end d = Ok (Line.Record n d.body d.length)
+judged_as (Err f) n end d = Err (range_slip d f.at end)
+
+-- "The message must be one that the reader of the edition takes"
+unfoldable pub judged : ℕ → ℕ → Draft → Result Line Slip
+judged n end d = judged_as (judge_body d.edition (take d.length d.body)) n end d
+
+unfoldable pub whole : Option ℕ → ℕ → ℕ → Draft → Result Line Slip
+whole (Some i) n end d = Err (slip_at end (Expected.Needed d.kind i))
+whole None n end d = judged n end d
+
+unfoldable pub finished : ℕ → ℕ → Draft → Result Line Slip
+finished n end d = whole (missing d) n end d
+
+unfoldable pub ended : ℕ → ℕ → Result Draft Slip → Result Line Slip
+ended n end (Err x) = Err x
+ended n end (Ok d) = finished n end d
+
+-- ---- the line
+-- "The sequence number is digits, from 1 to 1,000,000,000,000"
+unfoldable pub numbered : Option ℕ → ℕ → Result ℕ Slip
+numbered None at = Err (slip_at at Expected.Number)
+numbered (Some n) at = pick (n == 0) (Err (slip_at at Expected.Number)) (Ok n)
+
+unfoldable pub number_of : Word → Result ℕ Slip
+number_of w = numbered (number_in last_number w.bytes) w.at
 
 -- "the second word is no name"
-unfoldable pub of_kind : Edition → ℕ → Kind → ℕ → ℕ → List Word → List ℕ → Reading
-of_kind ed n k at end ws out =
-    pick (eqb (type_of k) 0) (reading (Line.Wrong (slip_at at Expected.Name Kind.Unknown 0)) out) (finished ed n k end (take_all ed k ws (well (blank_draft ed k))) out)
+unfoldable pub named : Option Kind → ℕ → Result Kind Slip
+named None at = Err (slip_at at Expected.Name)
+named (Some k) at = Ok k
 
 -- "there is no second word", told behind the line's last byte
-unfoldable pub named : Edition → ℕ → ℕ → List Word → List ℕ → Reading
-named ed n end [] out = reading (Line.Wrong (slip_at end Expected.Name Kind.Unknown 0)) out
-named ed n end (w ∷ ws) out = of_kind ed n (kind_named w.bytes) w.at end ws out
+unfoldable pub kind_of : Option Word → ℕ → Result Kind Slip
+kind_of None end = Err (slip_at end Expected.Name)
+kind_of (Some w) end = pick (is_note w) (Err (slip_at end Expected.Name)) (named (kind_named w.bytes) w.at)
 
--- "The sequence number is digits, from 1 to 1,000,000,000,000"
-unfoldable pub numbered : Edition → Figure → ℕ → ℕ → List Word → List ℕ → Reading
-numbered ed Figure.Not at end ws out = reading (Line.Wrong (slip_at at Expected.Number Kind.Unknown 0)) out
-numbered ed (Figure.Is n) at end ws out = pick (eqb n 0) (reading (Line.Wrong (slip_at at Expected.Number Kind.Unknown 0)) out) (named ed n end ws out)
+-- the message and its fields, behind a number
+unfoldable pub of_kind : Edition → ℕ → Result Kind Slip → List Word → ℕ → Result Line Slip
+of_kind ed n (Err x) ws end = Err x
+of_kind ed n (Ok k) ws end = ended n end (take_all (uncommented ws) (Ok (blank_draft ed k)))
+
+unfoldable pub of_number : Edition → Result ℕ Slip → List Word → ℕ → Result Line Slip
+of_number ed (Err x) ws end = Err x
+of_number ed (Ok n) ws end = of_kind ed n (kind_of (slice_get ws 0) end) (drop 1 ws) end
+
+unfoldable pub read_record : Edition → Word → List Word → ℕ → Result Line Slip
+read_record ed w ws end = of_number ed (number_of w) ws end
 
 -- "A line without a word is a blank line", "A line that is a comment stands for nothing", "Any other line is a record"
-unfoldable pub of_words : Edition → ℕ → List Word → List ℕ → Reading
-of_words ed end [] out = reading Line.Blank out
-of_words ed end (w ∷ ws) out = pick (is_note w) (reading Line.Comment out) (numbered ed (number_in last_number w.bytes) w.at end (uncommented ws) out)
+unfoldable pub of_words : Edition → List Word → ℕ → Result Line Slip
+of_words ed [] end = Ok Line.Blank
+of_words ed (w ∷ ws) end = pick (is_note w) (Ok Line.Comment) (read_record ed w ws end)
 
--- "A line has at most 4,096 bytes"
-abbrev pub line_most : ℕ
-line_most = 4096
+unfoldable pub of_line : Edition → Option (List Word) → ℕ → Result Line Slip
+of_line ed None end = Err (slip_at line_most Expected.Shorter)
+of_line ed (Some ws) end = of_words ed ws end
 
--- what a line s says; `out` is what the 42 bytes for a body were before, which only a record changes
-unfoldable pub read_line : Edition → List ℕ → List ℕ → Reading
-read_line ed s out =
-    pick (leb (length s) line_most) (of_words ed (length s) (words_at 0 s) out) (reading (Line.Wrong (slip_at line_most Expected.Shorter Kind.Unknown 0)) out)
+-- what a line s says
+unfoldable pub read_line : Edition → List ℕ → Result Line Slip
+read_line ed s = of_line ed (opened s) (length s)

@@ -1,317 +1,246 @@
 // Reads a line of a morning's text: a record, or at which column it is wrong and what was expected there (docs/TEXT.md).
 #![tactic(auto)]
 
-ghost use Rattle.std.specs.Prelude.{◌≡◌, ◌+◌, ◌-◌, ◌≤◌, ◌<◌, length, take, drop, eqb};
-ghost use Rattle.facts.specs.Limits.{last_number};
-ghost use Rattle.facts.specs.Pick.{both};
-ghost use Rattle.kinds.specs.Table.{kind_length};
-ghost use Rattle.keys.specs.Keys.{entries_of, kind_named};
-ghost use Rattle.figures.specs.Figures.{number_in};
-ghost use Rattle.spans.specs.Spans.{word, words_at, uncommented};
-ghost use Rattle.line_in.specs.Lines.{slip_at, reading, draft, well, took_as, take_field, take_word, take_all, missing, field_at, column_of, out_of_range, judged, finished, blank_draft, of_kind, named, numbered, read_line};
+ghost use Rattle.std.specs.Prelude.{◌≡◌, ◌+◌, ◌<◌, ◌≤◌, length, Ok, option_map};
+ghost use Rattle.keys.specs.Keys.{entries_of, form_at};
+ghost use Rattle.spans.specs.Spans.{line_most, uncommented};
+ghost use Rattle.spans.specs.Left.{told, words_left};
+ghost use Rattle.line_in.specs.Slips.{slip_at};
+ghost use Rattle.line_in.specs.Lines.{blank_draft, take_field, take_word, take_all, missing, field_at, range_slip, finished, number_of, kind_of, read_record, read_line};
 
 use editions::Edition;
-use facts::Found;
-use figures::Figure;
+use keys::Form;
 use kinds::Kind;
+use spans::{LINE_MOST, Word, Words};
 
-// What was expected where a line is wrong.
-#[derive(Clone, Copy)]
+// What was expected where a line is wrong; of a message and of its field, where there is one.
+#[derive(Clone, Copy, PartialEq, Eq, Debug)]
 pub enum Expected {
     Shorter,
     Number,
     Name,
-    Key,
-    Once,
-    Value,
-    Needed,
-    Range,
+    Key(Kind),
+    Once(Kind, usize),
+    Value(Kind, usize),
+    Needed(Kind, usize),
+    Range(Kind, usize),
 }
 
-// Where a line is wrong, from 1, and what was expected there: of which message and field, where there is one.
-#[derive(Clone, Copy)]
+// Where a line is wrong, from 1, and what was expected there.
+#[derive(Clone, Copy, PartialEq, Eq, Debug)]
 pub struct Slip {
     pub column: usize,
     pub expected: Expected,
-    pub kind: Kind,
-    pub field: usize,
 }
 
-// What a line is: of a record its number and its body's length.
-#[derive(Clone, Copy)]
+// What a line is; of a record its number, and its body, which has so many bytes and zeros behind them.
+#[derive(Clone, Copy, PartialEq, Eq, Debug)]
 pub enum Line {
     Blank,
     Comment,
-    Record(u64, usize),
-    Wrong(Slip),
+    Record {
+        number: u64,
+        body: [u8; 42],
+        length: usize,
+    },
 }
-
-// What became of words.
-#[derive(Clone, Copy)]
-pub enum Took {
-    Well,
-    Wrong(Slip),
-}
-
-// The longest line.
-pub const LINE_MOST: usize = 4096;
 
 // At the byte at a place of the line, whose columns count from 1.
-fn slip_at(at: usize, what: Expected, k: Kind, field: usize) -> Slip
-    requires { at ≤ 4096 }
-    ensures { result ≡ slip_at at what k field }
+fn slip_at(place: usize, expected: Expected) -> Slip
+    requires { place ≤ line_most }
+    ensures { result ≡ slip_at place expected }
 {
     Slip {
-        column: at + 1,
-        expected: what,
-        kind: k,
-        field: field,
+        column: place + 1,
+        expected,
     }
 }
 
-// The value of field i, which is written once; the word starts at w, the value at v.
+// A record so far: its message, its body of so many bytes, and of each field the column of its value, where that is written.
+#[derive(Clone, Copy, PartialEq, Eq, Debug)]
+pub struct Draft {
+    pub edition: Edition,
+    pub kind: Kind,
+    pub length: usize,
+    pub body: [u8; 42],
+    pub columns: [Option<usize>; 10],
+}
+
+// A record whose fields are all left out.
+#[tactic(auto, using(keys::proofs::Laws::blank_type), unfolding(kinds::specs::Table::kind_length))]
+fn blank_draft(edition: Edition, kind: Kind) -> Draft
+    ensures { result ≡ blank_draft edition kind }
+{
+    let body = keys::blank_body(edition, kind);
+    Draft {
+        edition,
+        kind,
+        length: kinds::length_of(body[0]),
+        body,
+        columns: [None; 10],
+    }
+}
+
+// The form of a message's field i.
+#[tactic(auto, using(keys::proofs::Laws::fields_inside))]
+fn form_at(e: Edition, k: Kind, i: usize) -> Form
+    requires { i < length (entries_of e k) }
+    ensures form { result ≡ form_at e k i }
+    ensures inside { result.at + result.width ≤ 42 }
+{
+    keys::rows(e, k)[i].form
+}
+
+// The value of field i, which is written once; its word stands at one place of the line, and itself at another.
+#[tactic(auto, unfolding(crate::specs::Lines::take_field, crate::specs::Lines::take_value, facts::specs::Pick::pick))]
 fn take_field(
-    e: Edition,
-    k: Kind,
+    mut draft: Draft,
     i: usize,
-    w: usize,
-    v: usize,
-    s: &[u8],
-    body: &mut [u8; 42],
-    given: &mut [usize; 10],
-) -> Took
-    requires { (i < 10) × (w ≤ 4096) × (v ≤ 4096) }
-    ensures { took_as result body.new given.new ≡ take_field e k (Found.At i) w v s.now (draft body.old given.old) }
-{
-    if given[i] != 0 {
-        return Took::Wrong(slip_at(w, Expected::Once, k, i));
-    }
-    let f = keys::form_at(e, k, i);
-    let style = f.style;
-    if !values::value_in(style, s, body, f.at, f.width) {
-        return Took::Wrong(slip_at(v, Expected::Value, k, i));
-    }
-    given[i] = v + 1;
-    Took::Well
-}
-
-// A word that is a key and its value; `at` is where it starts in the line.
-fn take_word(
-    e: Edition,
-    k: Kind,
-    w: &[u8],
     at: usize,
-    body: &mut [u8; 42],
-    given: &mut [usize; 10],
-) -> Took
-    requires { at + length w.now ≤ 4096 }
-    ensures { took_as result body.new given.new ≡ take_word e k (word at w.now) (draft body.old given.old) }
+    place: usize,
+    value: &[u8],
+) -> Result<Draft, Slip>
+    requires known { i < length (entries_of draft.edition draft.kind) }
+    requires word { at ≤ line_most }
+    requires behind { place ≤ line_most }
+    ensures { result ≡ take_field draft i at place value.now }
 {
-    let p = spans::place_of(w, b'=');
-    if w.len() <= p {
-        return Took::Wrong(slip_at(at, Expected::Key, k, 0));
+    if draft.columns[i].is_some() {
+        return Err(slip_at(at, Expected::Once(draft.kind, i)));
     }
-    match keys::key_named(e, k, &w[..p]) {
-        Found::Nothing => Took::Wrong(slip_at(at, Expected::Key, k, 0)),
-        Found::At(i) => take_field(e, k, i, at, at + (p + 1), &w[p + 1..], body, given),
+    let f = form_at(draft.edition, draft.kind, i);
+    let field = &mut draft.body[f.at..f.at + f.width];
+    if values::value_in(f.style, value, field).is_err() {
+        return Err(slip_at(place, Expected::Value(draft.kind, i)));
     }
+    draft.columns[i] = Some(place + 1);
+    Ok(draft)
 }
 
-// All words from `from` on, up to a comment.
-fn take_all(
-    e: Edition,
-    k: Kind,
-    s: &[u8],
-    from: usize,
-    body: &mut [u8; 42],
-    given: &mut [usize; 10],
-) -> Took
-    requires { (length s.now ≤ 4096) × (from ≤ length s.now) }
-    ensures { took_as result body.new given.new ≡ take_all e k (uncommented (words_at from (drop from s.now))) (well (draft body.old given.old)) }
+// A word that is a key and its value.
+#[tactic(auto, using(keys::proofs::Laws::named_inside), unfolding(crate::specs::Lines::take_word, crate::specs::Lines::take_parted, crate::specs::Lines::take_keyed))]
+fn take_word(draft: Draft, w: Word<'_>) -> Result<Draft, Slip>
+    ensures { result ≡ take_word (told w.entry) draft }
 {
-    let mut at = spans::word_start(s, from);
-    while at < s.len() {
-        if s[at] == b'#' {
-            return Took::Well;
-        }
-        let end = spans::word_end(s, at);
-        match take_word(e, k, &s[at..end], at, body, given) {
-            Took::Wrong(x) => {
-                return Took::Wrong(x);
-            }
-            Took::Well => {
-                at = spans::word_start(s, end);
-            }
-        }
-    }
-    Took::Well
+    let unknown = slip_at(w.at, Expected::Key(draft.kind));
+    let p = spans::place_of(w.bytes, b'=').ok_or(unknown)?;
+    let i = keys::key_named(draft.edition, draft.kind, &w.bytes[..p]).ok_or(unknown)?;
+    take_field(draft, i, w.at, w.at + p + 1, &w.bytes[p + 1..])
 }
 
-// Whether a field that has to be written was not.
-fn is_missing(needed: bool, column: usize) -> bool
-    ensures { result ≡ both needed (eqb column 0) }
+// All words up to a comment.
+#[tactic(auto, using(crate::proofs::Laws::taken_err), unfolding(crate::specs::Lines::take_all, spans::specs::Spans::uncommented, facts::specs::Pick::pick))]
+fn take_all(start: Draft, words: Words<'_>) -> Result<Draft, Slip>
+    ensures { result ≡ take_all (uncommented (words_left words.entry)) (Ok start) }
 {
-    if needed {
-        return column == 0;
+    let mut draft = start;
+    for w in words {
+        if w.is_note() {
+            break;
+        }
+        draft = take_word(draft, w)?;
     }
-    false
+    Ok(draft)
 }
 
 // The first field that has to be written and was not.
-fn first_missing(e: Edition, k: Kind, given: &[usize; 10]) -> Found
-    ensures { result ≡ missing 0 (entries_of e k) given.now }
+#[tactic(auto, unfolding(crate::specs::Lines::missing))]
+fn missing(draft: &Draft) -> Option<usize>
+    ensures { result ≡ missing draft.now }
 {
-    let n = keys::field_count(e, k);
-    let mut i: usize = 0;
-    while i < n {
-        let f = keys::form_at(e, k, i);
-        if is_missing(f.needed, given[i]) {
-            return Found::At(i);
-        }
-        i += 1;
-    }
-    Found::Nothing
+    keys::rows(draft.edition, draft.kind)
+        .iter()
+        .zip(&draft.columns)
+        .position(|(row, column)| row.form.needed && column.is_none())
 }
 
 // The field whose first byte is at a place of the body.
-fn field_at(e: Edition, k: Kind, o: usize) -> Found
-    ensures { result ≡ field_at e k o }
+fn field_at(e: Edition, k: Kind, place: usize) -> Option<usize>
+    ensures { result ≡ field_at e k place }
 {
-    let n = keys::field_count(e, k);
-    let mut i: usize = 0;
-    while i < n {
-        let f = keys::form_at(e, k, i);
-        if f.at == o {
-            return Found::At(i);
-        }
-        i += 1;
-    }
-    Found::Nothing
+    keys::rows(e, k).iter().position(|row| row.form.at == place)
 }
 
-// Where the value of a field was written.
-fn column_of(given: &[usize; 10], i: usize, end: usize) -> usize
-    requires { (i < 10) × (end ≤ 4096) }
-    ensures { result ≡ column_of given.now i end }
+// A field out of range, whose first byte is at a place of the body.
+#[tactic(auto, using(crate::proofs::Laws::field_inside), unfolding(crate::specs::Lines::range_slip, crate::specs::Lines::range_at))]
+fn range_slip(draft: &Draft, place: usize, end: usize) -> Slip
+    requires { end ≤ line_most }
+    ensures { result ≡ range_slip draft.now place end }
 {
-    let c = given[i];
-    if c == 0 {
-        return end + 1;
-    }
-    c
-}
-
-fn out_of_range(e: Edition, k: Kind, o: usize, given: &[usize; 10], end: usize) -> Slip
-    requires { end ≤ 4096 }
-    ensures { result ≡ out_of_range k (field_at e k o) given.now end }
-{
-    match field_at(e, k, o) {
-        Found::At(i) => Slip {
-            column: column_of(given, i, end),
-            expected: Expected::Range,
-            kind: k,
-            field: i,
+    let k = draft.kind;
+    match field_at(draft.edition, k, place) {
+        Some(i) => Slip {
+            column: draft.columns[i].unwrap_or(end + 1),
+            expected: Expected::Range(k, i),
         },
-        Found::Nothing => slip_at(end, Expected::Range, k, 0),
+        None => slip_at(end, Expected::Range(k, 0)),
     }
 }
 
-// All fields are written: the body, if the reader takes it.
-fn judge(
-    e: Edition,
-    n: u64,
-    k: Kind,
-    len: usize,
-    end: usize,
-    body: [u8; 42],
-    given: &[usize; 10],
-    out: &mut [u8; 42],
-) -> Line
-    requires { (len ≡ kind_length k) × (len ≤ 42) × (end ≤ 4096) }
-    ensures { reading result out.new ≡ judged e n k end (draft body given.now) out.old }
+// The record whose words are all taken, if the reader takes it.
+#[tactic(auto, unfolding(crate::specs::Lines::finished, crate::specs::Lines::whole, crate::specs::Lines::judged, crate::specs::Lines::judged_as))]
+fn finish(draft: Draft, number: u64, end: usize) -> Result<Line, Slip>
+    requires { end ≤ line_most }
+    ensures { result ≡ finished number end draft }
 {
-    let c = body::judge(e, &body[..len]);
-    if c != 0 {
-        return Line::Wrong(out_of_range(e, k, c / 256, given, end));
+    if let Some(i) = missing(&draft) {
+        return Err(slip_at(end, Expected::Needed(draft.kind, i)));
     }
-    *out = body;
-    Line::Record(n, len)
-}
-
-// The fields of a message, from `from` on.
-fn read_fields(e: Edition, n: u64, k: Kind, s: &[u8], from: usize, out: &mut [u8; 42]) -> Line
-    requires { (length s.now ≤ 4096) × (from ≤ length s.now) }
-    ensures { reading result out.new ≡ finished e n k (length s.now) (take_all e k (uncommented (words_at from (drop from s.now))) (well (blank_draft e k))) out.old }
-{
-    let mut body = keys::blank_body(e, k);
-    let len = kinds::length_of(body[0]);
-    let mut given = [0usize; 10];
-    match take_all(e, k, s, from, &mut body, &mut given) {
-        Took::Wrong(x) => Line::Wrong(x),
-        Took::Well => match first_missing(e, k, &given) {
-            Found::At(i) => Line::Wrong(slip_at(s.len(), Expected::Needed, k, i)),
-            Found::Nothing => judge(e, n, k, len, s.len(), body, &given, out),
-        },
+    match body::judge_body(draft.edition, text::front(&draft.body, draft.length)) {
+        Ok(_) => Ok(Line::Record {
+            number,
+            body: draft.body,
+            length: draft.length,
+        }),
+        Err(f) => Err(range_slip(&draft, f.at, end)),
     }
 }
 
-// The message that a word names, and its fields behind it.
-fn read_kind(e: Edition, n: u64, s: &[u8], at: usize, end: usize, out: &mut [u8; 42]) -> Line
-    requires { (length s.now ≤ 4096) × (at ≤ end) × (end ≤ length s.now) }
-    ensures { reading result out.new ≡ of_kind e n (kind_named (take (end - at) (drop at s.now))) at (length s.now) (uncommented (words_at end (drop end s.now))) out.old }
+// The sequence number that the first word is.
+#[tactic(auto, unfolding(crate::specs::Lines::number_of, crate::specs::Lines::numbered, facts::specs::Pick::pick))]
+fn number_of(w: Word<'_>) -> Result<u64, Slip>
+    ensures { result ≡ number_of (told w.entry) }
 {
-    let k = keys::kind_named(&s[at..end]);
-    let blank = keys::blank_body(e, k);
-    if blank[0] == 0 {
-        return Line::Wrong(slip_at(at, Expected::Name, Kind::Unknown, 0));
-    }
-    read_fields(e, n, k, s, end, out)
-}
-
-// The name of a message and its fields, from `from` on.
-fn read_named(e: Edition, n: u64, s: &[u8], from: usize, out: &mut [u8; 42]) -> Line
-    requires { (length s.now ≤ 4096) × (from ≤ length s.now) }
-    ensures { reading result out.new ≡ named e n (length s.now) (uncommented (words_at from (drop from s.now))) out.old }
-{
-    let at = spans::word_start(s, from);
-    if s.len() <= at {
-        return Line::Wrong(slip_at(s.len(), Expected::Name, Kind::Unknown, 0));
-    }
-    if s[at] == b'#' {
-        return Line::Wrong(slip_at(s.len(), Expected::Name, Kind::Unknown, 0));
-    }
-    read_kind(e, n, s, at, spans::word_end(s, at), out)
-}
-
-// A number and what stands behind it.
-fn read_numbered(e: Edition, s: &[u8], at: usize, end: usize, out: &mut [u8; 42]) -> Line
-    requires { (length s.now ≤ 4096) × (at ≤ end) × (end ≤ length s.now) }
-    ensures { reading result out.new ≡ numbered e (number_in last_number (take (end - at) (drop at s.now))) at (length s.now) (uncommented (words_at end (drop end s.now))) out.old }
-{
-    match figures::number_in(&s[at..end], facts::LAST_NUMBER) {
-        Figure::Not => Line::Wrong(slip_at(at, Expected::Number, Kind::Unknown, 0)),
-        Figure::Is(n) => {
-            if n == 0 {
-                return Line::Wrong(slip_at(at, Expected::Number, Kind::Unknown, 0));
-            }
-            read_named(e, n, s, end, out)
-        }
+    match figures::number_in(w.bytes, facts::LAST_NUMBER) {
+        Some(n) if n != 0 => Ok(n),
+        _ => Err(slip_at(w.at, Expected::Number)),
     }
 }
 
-// What a line says. Its body goes to `out`, with zeros behind it, where it is a record; else `out` stays as it is.
-pub fn read_line(e: Edition, s: &[u8], out: &mut [u8; 42]) -> Line
-    ensures { reading result out.new ≡ read_line e s.now out.old }
+// The message that the second word names, if there is one before a comment.
+#[tactic(auto, unfolding(crate::specs::Lines::kind_of, crate::specs::Lines::named, facts::specs::Pick::pick))]
+fn kind_of(second: Option<Word<'_>>, end: usize) -> Result<Kind, Slip>
+    requires { end ≤ line_most }
+    ensures { result ≡ kind_of (option_map told second.entry) end }
 {
-    if LINE_MOST < s.len() {
-        return Line::Wrong(slip_at(LINE_MOST, Expected::Shorter, Kind::Unknown, 0));
+    match second {
+        Some(w) if !w.is_note() => keys::kind_named(w.bytes).ok_or(slip_at(w.at, Expected::Name)),
+        _ => Err(slip_at(end, Expected::Name)),
     }
-    let at = spans::word_start(s, 0);
-    if s.len() <= at {
-        return Line::Blank;
+}
+
+// A line that begins with a word, and no comment.
+#[tactic(auto, using(crate::proofs::Laws::next_is), unfolding(crate::specs::Lines::read_record, crate::specs::Lines::of_number, crate::specs::Lines::of_kind, crate::specs::Lines::ended))]
+fn read_record(e: Edition, first: Word<'_>, rest: Words<'_>, end: usize) -> Result<Line, Slip>
+    requires { end ≤ line_most }
+    ensures { result ≡ read_record e (told first.entry) (words_left rest.entry) end }
+{
+    let mut words = rest;
+    let number = number_of(first)?;
+    let kind = kind_of(words.next(), end)?;
+    let draft = take_all(blank_draft(e, kind), words)?;
+    finish(draft, number, end)
+}
+
+// What a line says.
+#[tactic(auto, unfolding(crate::specs::Lines::read_line, crate::specs::Lines::of_line, crate::specs::Lines::of_words, facts::specs::Pick::pick))]
+pub fn read_line(e: Edition, s: &[u8]) -> Result<Line, Slip>
+    ensures { result ≡ read_line e s.now }
+{
+    let mut words = Words::new(s).ok_or(slip_at(LINE_MOST, Expected::Shorter))?;
+    match words.next() {
+        None => Ok(Line::Blank),
+        Some(w) if w.is_note() => Ok(Line::Comment),
+        Some(w) => read_record(e, w, words, s.len()),
     }
-    if s[at] == b'#' {
-        return Line::Comment;
-    }
-    read_numbered(e, s, at, spans::word_end(s, at), out)
 }

@@ -21,9 +21,10 @@ use Rattle.layout.specs.Layout.{shapes, fields_in}
 use Rattle.body.specs.Faults.{tests}
 use Rattle.body.specs.Ranges.{price_ok}
 use Rattle.body.proofs.Laws.{AllHold}
-use Rattle.values.specs.Suits.{suited, Suits}
+use Rattle.values.specs.Suits.{Suits}
 use Rattle.styles.specs.declared.Style.{Style}
-use Rattle.keys.specs.Laid.{wide}
+use Rattle.styles.specs.Widths.{suited, wide}
+use Rattle.keys.proofs.Every.{of_any}
 use Rattle.keys.proofs.Laws.{fields_inside, suits_width}
 use Rattle.keys.specs.Keys.{Entry, entries_of, no_entry, key_at, form_at, name_of}
 
@@ -40,36 +41,13 @@ unmarked_at (f ∷ fs) (suc i) h = unmarked_at fs i (both_true {a = not (eqb (ge
 
 all_unmarked : (ed : Edition) (k : Kind) → unmarked (entries_of ed k) ≡ true
 unfolding unmarked both
-all_unmarked ed Kind.SystemTime = refl
-all_unmarked Edition.V13 Kind.SymbolUpdate = refl
-all_unmarked Edition.V13b Kind.SymbolUpdate = refl
-all_unmarked ed Kind.SystemState = refl
-all_unmarked ed Kind.TradingStatus = refl
-all_unmarked ed Kind.SymbolClear = refl
-all_unmarked ed Kind.Add = refl
-all_unmarked ed Kind.Modify = refl
-all_unmarked ed Kind.Delete = refl
-all_unmarked ed Kind.Execution = refl
-all_unmarked ed Kind.Trade = refl
-all_unmarked ed Kind.TradeCancel = refl
-all_unmarked ed Kind.Unknown = refl
+all_unmarked = of_any (λ ed k. unmarked (entries_of ed k)) refl
 
 pub key_unmarked : (ed : Edition) (k : Kind) (i : ℕ) → eqb (get_or (key_at ed k i) 0 0) 35 ≡ false
 key_unmarked ed k i = unmarked_at (entries_of ed k) i (all_unmarked ed k)
 
 pub name_unmarked : (k : Kind) → eqb (get_or (name_of k) 0 0) 35 ≡ false
-name_unmarked Kind.SystemTime = refl
-name_unmarked Kind.SymbolUpdate = refl
-name_unmarked Kind.SystemState = refl
-name_unmarked Kind.TradingStatus = refl
-name_unmarked Kind.SymbolClear = refl
-name_unmarked Kind.Add = refl
-name_unmarked Kind.Modify = refl
-name_unmarked Kind.Delete = refl
-name_unmarked Kind.Execution = refl
-name_unmarked Kind.Trade = refl
-name_unmarked Kind.TradeCancel = refl
-name_unmarked Kind.Unknown = refl
+name_unmarked k = not-true (eqb (get_or (name_of k) 0 0) 35) (of_any (λ ed k. not (eqb (get_or (name_of k) 0 0) 35)) refl Edition.V13 k)
 
 -- ---- prices: what is at the place of a field
 abbrev Fit : Style → ℕ → List ℕ → Type 0

@@ -1,8 +1,10 @@
 pub mod Texts
 pub mod Entries
+pub mod Drafts
+pub mod Missing
 pub mod Walk
 pub mod Short
-pub mod Back
 pub mod Plain
+pub mod Back
 pub mod SaidLaws
 pub mod Said

@@ -22,7 +22,7 @@ use Rattle.text.specs.Text.{decimal_of, first_texts}
 use Rattle.figures.proofs.Laws.{decimal_solid}
 use Rattle.keys.specs.Keys.{entries_of, form_at, name_of, blank_body}
 use Rattle.keys.proofs.Laws.{name_solid}
-use Rattle.line_out.specs.Lines.{is_shown, field_text, line_by, record_line}
+use Rattle.line_out.specs.Lines.{is_shown, field_by, field_text, line_by, record_line}
 use Rattle.figures.proofs.PlaceLaws.{all_join}
 use Rattle.lines.proofs.Walk.{field_word, word_solid}
 
@@ -41,7 +41,7 @@ texts_plain f zero h = refl
 texts_plain f (suc n) h = all_join 32 126 (first_texts f n) (f n) (texts_plain f n (λ i l. h i (omega arith))) (h n (omega arith))
 
 field_plain : (ed : Edition) (k : Kind) (c : List ℕ) → Bytes c → (i : ℕ) → i < length (entries_of ed k) → all_from 32 126 (field_text ed k c i) ≡ true
-unfolding field_text all_from both
+unfolding field_by all_from both
 field_plain ed k c bytes i h =
     pick_ind (λ (s : List ℕ). all_from 32 126 s ≡ true) (is_shown (form_at ed k i) c (blank_body ed k)) (32 ∷ field_word ed k c i) []
     (λ e. solid_plain (field_word ed k c i) (word_solid ed k c bytes i h))

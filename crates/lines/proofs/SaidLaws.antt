@@ -13,26 +13,28 @@ use lib.Seq.{sets, sets-eq, length-sets, take_at, drop_at, length-take-le, take-
 use lib.Dec.{eqb, ltb}
 use borrow.Author.Tests.{eqb-true}
 use Rattle.facts.specs.Pick.{pick, both}
-use Rattle.facts.specs.Same.{same_bytes}
 use Rattle.facts.specs.Sums.{sum_by, only_if, count_by}
-use Rattle.facts.specs.declared.Found.{Found}
+use Rattle.std.proofs.Common.{Option, Some, None, is_some, not, ◌||◌, Result, Ok, Err, bytes_eq, ◌==◌, add-one, true≢false, if◌then◌else◌, eq-eqb}
+use Rattle.std.proofs.lemmas.Slice.Eq.{bytes_eq-Decides}
 use Rattle.facts.proofs.Picks.{pick_ind, both_true, refuted}
-use Rattle.facts.proofs.SameLaws.{same_bytes_eq}
-use Rattle.facts.proofs.Searches.{first_at}
 use Rattle.editions.specs.declared.Edition.{Edition}
 use Rattle.kinds.specs.Table.{type_of, kind_length}
 use Rattle.kinds.specs.declared.Kind.{Kind}
 use Rattle.spans.specs.Spans.{Word, place_of}
-use Rattle.letters.specs.Letters.{Got, none, some}
 use Rattle.values.specs.Values.{value_in}
 use Rattle.values.proofs.Laws.{value_length}
 use Rattle.keys.specs.Keys.{Entry, entries_of, no_entry, key_at, form_at, key_named}
 use Rattle.keys.specs.Laid.{Laid}
-use Rattle.keys.proofs.Laws.{key_back, named_inside, fields_inside, laid}
+use Rattle.keys.proofs.Every.{of_any}
+use Rattle.keys.proofs.Laws.{key_back, named_inside, named_key, fields_inside, laid}
 use Rattle.line_out.specs.Lines.{part}
-use Rattle.line_in.specs.Lines.{Draft, Taken, well, slipped, slip_at, take_value, take_field, take_word, take_all}
+use Rattle.line_in.specs.Lines.{take_value, take_field, take_keyed, take_parted, take_word, take_all}
+use Rattle.line_in.specs.Slips.{slip_at}
+use Rattle.line_in.specs.declared.Draft.{Draft}
 use Rattle.line_in.specs.declared.Expected.{Expected}
-use Rattle.line_in.proofs.FieldLaws.{take_slipped}
+use Rattle.line_in.specs.declared.Slip.{Slip}
+use Rattle.line_in.proofs.Laws.{taken_err}
+use Rattle.lines.proofs.Drafts.{draft}
 use Rattle.lines.specs.Said.{key_in, behind_key, names}
 
 -- ---- bytes that are stored, and parts of the body
@@ -76,18 +78,13 @@ laid_apart (f ∷ fs) a end l (suc i) (suc j) h m = laid_apart fs (a + f.form.wi
 
 -- what has a field is a message
 message_of : (ed : Edition) (k : Kind) (i : ℕ) → i < length (entries_of ed k) → type_of k ≡ 0 → ⊥
-message_of ed Kind.SystemTime i h e = omega arith
-message_of ed Kind.SymbolUpdate i h e = omega arith
-message_of ed Kind.SystemState i h e = omega arith
-message_of ed Kind.TradingStatus i h e = omega arith
-message_of ed Kind.SymbolClear i h e = omega arith
-message_of ed Kind.Add i h e = omega arith
-message_of ed Kind.Modify i h e = omega arith
-message_of ed Kind.Delete i h e = omega arith
-message_of ed Kind.Execution i h e = omega arith
-message_of ed Kind.Trade i h e = omega arith
-message_of ed Kind.TradeCancel i h e = omega arith
-message_of ed Kind.Unknown i h e = not-suc-le-zero h
+message_of ed k i h e =
+    let none : length (entries_of ed k) ≡ 0 = go (eqb (type_of k) 0) (eq-eqb (type_of k) 0 e) (of_any (λ ed k. not (eqb (type_of k) 0) || (length (entries_of ed k) == 0)) refl ed k) in
+    omega arith
+  where
+    go : (t : Bool) → t ≡ true → (not t || (length (entries_of ed k) == 0)) ≡ true → length (entries_of ed k) ≡ 0
+    go true z q = eqb-true (length (entries_of ed k)) 0 q
+    go false z q = absurd (true≢false (sym z))
 
 pub field_within : (ed : Edition) (k : Kind) (i : ℕ) → i < length (entries_of ed k) → (1 ≤ (form_at ed k i).at) × ((form_at ed k i).at + (form_at ed k i).width ≤ kind_length k)
 field_within ed k i h = laid_from (entries_of ed k) 1 (kind_length k) (laid ed k (message_of ed k i h)) i h
@@ -117,73 +114,66 @@ module _ (ed : Edition) (k : Kind) (j : ℕ) (here : j < length (entries_of ed k
 -- ---- one word that is taken
 pub record Step (ed : Edition) (k : Kind) (w : Word) (d e : Draft) : Type 0 where
   pub field : ℕ
-  pub inside : field < length (entries_of ed k)
   pub parted : ltb (place_of 61 w.bytes) (length w.bytes) ≡ true
-  pub key : key_named ed k (key_in w.bytes) ≡ Found.At field
-  pub fresh : get_or d.given field 0 ≡ 0
+  pub key : key_named ed k (key_in w.bytes) ≡ Some field
+  pub fresh : is_some (get_or d.columns field None) ≡ false
   pub value : List ℕ
-  pub says : value_in (form_at ed k field).style (form_at ed k field).width (behind_key w.bytes) ≡ some value
+  pub says : value_in (form_at ed k field).style (form_at ed k field).width (behind_key w.bytes) ≡ Some value
   pub column : ℕ
-  pub body_is : e.body ≡ sets d.body (form_at ed k field).at value
-  pub given_is : e.given ≡ set d.given field (suc column)
+  pub taken : e ≡ draft ed k (sets d.body (form_at ed k field).at value) (set d.columns field (Some column))
 
-abbrev Stepped : Edition → Kind → Word → Draft → Taken → Type 0
-Stepped ed k w d (well e) = Step ed k w d e
-Stepped ed k w d (slipped x) = Unit {0}
+abbrev Stepped : Edition → Kind → Word → Draft → Result Draft Slip → Type 0
+Stepped ed k w d (Ok e) = Step ed k w d e
+Stepped ed k w d (Err x) = Unit {0}
 
-module _ (ed : Edition) (k : Kind) (w : Word) (d : Draft) where
-  value_step : (i v : ℕ) → ltb (place_of 61 w.bytes) (length w.bytes) ≡ true → key_named ed k (key_in w.bytes) ≡ Found.At i → get_or d.given i 0 ≡ 0 → (g : Got) → value_in (form_at ed k i).style (form_at ed k i).width (behind_key w.bytes) ≡ g → Stepped ed k w d (take_value g k i (form_at ed k i).at v d)
+module _ (ed : Edition) (k : Kind) (w : Word) (b : List ℕ) (g : List (Option ℕ)) where
+  abbrev at_place : ℕ
+  at_place = place_of 61 w.bytes
+
+  abbrev So : Result Draft Slip → Type 0
+  So = Stepped ed k w (draft ed k b g)
+
+  value_step : (i v : ℕ) → ltb at_place (length w.bytes) ≡ true → key_named ed k (key_in w.bytes) ≡ Some i → is_some (get_or g i None) ≡ false → (t : Option (List ℕ)) → value_in (form_at ed k i).style (form_at ed k i).width (behind_key w.bytes) ≡ t → So (take_value t i (form_at ed k i).at v (draft ed k b g))
   unfolding take_value
-  value_step i v p n z none q = tt
-  value_step i v p n z (some s) q = record {
-    field = i;
-    inside = named_inside ed k (key_in w.bytes) i n;
-    parted = p;
-    key = n;
-    fresh = z;
-    value = s;
-    says = q;
-    column = v;
-    body_is = refl;
-    given_is = refl;
-  }
+  value_step i v p n z None q = tt
+  value_step i v p n z (Some s) q = record { field = i; parted = p; key = n; fresh = z; value = s; says = q; column = suc v; taken = refl }
 
-  field_step : ltb (place_of 61 w.bytes) (length w.bytes) ≡ true → (f : Found) → key_named ed k (key_in w.bytes) ≡ f → (a v : ℕ) → Stepped ed k w d (take_field ed k f a v (behind_key w.bytes) d)
-  unfolding take_field
-  field_step p Found.Nothing n a v = tt
-  field_step p (Found.At i) n a v =
-      pick_ind (Stepped ed k w d) (eqb (get_or d.given i 0) 0)
-      (take_value (value_in (form_at ed k i).style (form_at ed k i).width (behind_key w.bytes)) k i (form_at ed k i).at v d)
-      (slipped (slip_at a Expected.Once k i))
-      (λ z. value_step i v p n (eqb-true (get_or d.given i 0) 0 z) (value_in (form_at ed k i).style (form_at ed k i).width (behind_key w.bytes)) refl)
+  key_step : ltb at_place (length w.bytes) ≡ true → (f : Option ℕ) → key_named ed k (key_in w.bytes) ≡ f → So (take_keyed f at_place w (draft ed k b g))
+  unfolding take_keyed take_field behind_key
+  key_step p None n = tt
+  key_step p (Some i) n =
+      let v : ℕ = w.at + at_place + 1 in
+      let f = form_at ed k i in
+      pick_ind So (is_some (get_or g i None)) (Err (slip_at w.at (Expected.Once k i)))
+      (take_value (value_in f.style f.width (drop (at_place + 1) w.bytes)) i f.at v (draft ed k b g))
       (λ z. tt)
+      (λ z. value_step i v p n z (value_in f.style f.width (drop (at_place + 1) w.bytes)) (rw (add-one at_place) refl))
 
-  pub word_step : Stepped ed k w d (take_word ed k w d)
-  unfolding take_word key_in behind_key
-  word_step =
-      pick_ind (Stepped ed k w d) (ltb (place_of 61 w.bytes) (length w.bytes))
-      (take_field ed k (key_named ed k (key_in w.bytes)) w.at (w.at + suc (place_of 61 w.bytes)) (behind_key w.bytes) d)
-      (slipped (slip_at w.at Expected.Key k 0))
-      (λ p. field_step p (key_named ed k (key_in w.bytes)) refl w.at (w.at + suc (place_of 61 w.bytes)))
-      (λ p. tt)
+  pub word_step : So (take_word w (draft ed k b g))
+  unfolding take_word take_parted key_in
+  word_step = go (ltb at_place (length w.bytes)) refl
+    where
+      go : (t : Bool) → ltb at_place (length w.bytes) ≡ t → So (take_parted (if t then Some at_place else None) w (draft ed k b g))
+      go true p = key_step p (key_named ed k (key_in w.bytes)) refl
+      go false p = tt
 
 -- it names its own field and no other
 module _ (ed : Edition) (k : Kind) (w : Word) (d e : Draft) (s : Step ed k w d e) where
+  pub inside : s.field < length (entries_of ed k)
+  inside = named_inside ed k (key_in w.bytes) s.field s.key
+
   pub names_own : names ed k s.field w ≡ true
-  unfolding names key_named both
-  names_own =
-      let f = first_at (λ (x : Entry). same_bytes (key_in w.bytes) x.key) 0 (entries_of ed k) s.field no_entry s.key in
-      let z : s.field - 0 ≡ s.field = omega arith in
-      rw s.parted (rw z at f.2)
+  unfolding names both
+  names_own = rw s.parted ((bytes_eq-Decides (key_at ed k s.field) (key_in w.bytes)).1 (named_key ed k (key_in w.bytes) s.field s.key))
 
   pub names_other : (i : ℕ) → i < length (entries_of ed k) → i ≢ s.field → names ed k i w ≡ false
   unfolding names
   names_other i h n =
-      sym (refuted (both (ltb (place_of 61 w.bytes) (length w.bytes)) (same_bytes (key_in w.bytes) (key_at ed k i)))
+      sym (refuted (both (ltb (place_of 61 w.bytes) (length w.bytes)) (bytes_eq (key_at ed k i) (key_in w.bytes)))
       (λ q.
-      let t = both_true {a = ltb (place_of 61 w.bytes) (length w.bytes)} {b = same_bytes (key_in w.bytes) (key_at ed k i)} q in
-      let same : key_in w.bytes ≡ key_at ed k i = same_bytes_eq (key_in w.bytes) (key_at ed k i) t.1 in
-      let back : Found.At i ≡ Found.At s.field = sym (key_back ed k i h) ∙ (ap (key_named ed k) (sym same) ∙ s.key) in
+      let t = both_true {a = ltb (place_of 61 w.bytes) (length w.bytes)} {b = bytes_eq (key_at ed k i) (key_in w.bytes)} q in
+      let same : key_at ed k i ≡ key_in w.bytes = (bytes_eq-Decides (key_at ed k i) (key_in w.bytes)).0 t.1 in
+      let back : Some i ≡ Some s.field = sym (key_back ed k i h) ∙ (ap (key_named ed k) same ∙ s.key) in
       let r : i ≡ s.field = cc in
       n r))
 
@@ -191,33 +181,32 @@ module _ (ed : Edition) (k : Kind) (w : Word) (d e : Draft) (s : Step ed k w d e
   value_fits = value_length (form_at ed k s.field).style (form_at ed k s.field).width (behind_key w.bytes) s.value s.says
 
   pub step_long : length d.body ≡ 42 → length e.body ≡ 42
-  step_long l = rw (s.body_is, length-sets d.body (form_at ed k s.field).at s.value) l
+  step_long l = rw (s.taken, length-sets d.body (form_at ed k s.field).at s.value) l
 
-  pub step_room : (n : ℕ) → n ≤ length d.given → n ≤ length e.given
-  step_room n h = rw (s.given_is, length-set d.given s.field (suc s.column)) h
+  pub step_room : (n : ℕ) → n ≤ length d.columns → n ≤ length e.columns
+  step_room n h = rw (s.taken, length-set d.columns s.field (Some s.column)) h
 
-  pub given_own : length (entries_of ed k) ≤ length d.given → 0 < get_or e.given s.field 0
-  given_own h = rw (s.given_is, get_or-set_same d.given s.field (suc s.column) 0 (omega (arith, s.inside))) (omega arith)
+  pub given_own : length (entries_of ed k) ≤ length d.columns → is_some (get_or e.columns s.field None) ≡ true
+  given_own h = rw (s.taken, get_or-set_same d.columns s.field (Some s.column) None (omega (arith, inside))) refl
 
-  pub given_other : (i : ℕ) → i ≢ s.field → get_or e.given i 0 ≡ get_or d.given i 0
-  given_other i n = rw s.given_is (get_or-set_other d.given s.field i (suc s.column) 0 n)
+  pub given_other : (i : ℕ) → i ≢ s.field → get_or e.columns i None ≡ get_or d.columns i None
+  given_other i n = rw s.taken (get_or-set_other d.columns s.field i (Some s.column) None n)
 
 -- ---- all words
 pub data Run (ed : Edition) (k : Kind) : List Word → Draft → Draft → Type 0 where
   done : {d : Draft} → Run ed k [] d d
   more : {w : Word} {ws : List Word} {d e f : Draft} → Step ed k w d e → Run ed k ws e f → Run ed k (w ∷ ws) d f
 
-pub run : (ed : Edition) (k : Kind) (ws : List Word) (d e : Draft) → take_all ed k ws (well d) ≡ well e → Run ed k ws d e
+pub run : (ed : Edition) (k : Kind) (ws : List Word) (b : List ℕ) (g : List (Option ℕ)) (e : Draft) → take_all ws (Ok (draft ed k b g)) ≡ Ok e → Run ed k ws (draft ed k b g) e
 unfolding take_all
-run ed k [] d e h = let q : d ≡ e = cc in subst (λ (x : Draft). Run ed k [] d x) q done
-run ed k (w ∷ ws) d e h = go (take_word ed k w d) (word_step ed k w d) (λ x q. run ed k ws x e q) h
+run ed k [] b g e h = let q : draft ed k b g ≡ e = cc in subst (λ (x : Draft). Run ed k [] (draft ed k b g) x) q done
+run ed k (w ∷ ws) b g e h = go (take_word w (draft ed k b g)) (word_step ed k w b g) (λ b g q. run ed k ws b g e q) h
   where
-    go : (t : Taken) → Stepped ed k w d t → ((x : Draft) → take_all ed k ws (well x) ≡ well e → Run ed k ws x e) → take_all ed k ws t ≡ well e → Run ed k (w ∷ ws) d e
-    go (well x) s rec q = more s (rec x q)
-    go (slipped x) s rec q =
-        let p : slipped x ≡ well e = sym (take_slipped ed k ws x) ∙ q in
-        let z : ◌≡◌ {A = ℕ} 0 1 = cc in
-        absurd (omega arith)
+    go :
+        (t : Result Draft Slip) → Stepped ed k w (draft ed k b g) t → ((b : List ℕ) (g : List (Option ℕ)) → take_all ws (Ok (draft ed k b g)) ≡ Ok e → Run ed k ws (draft ed k b g) e) →
+        take_all ws t ≡ Ok e → Run ed k (w ∷ ws) (draft ed k b g) e
+    go (Ok x) s rec q = more s (rw s.taken (rec _ _ (rw s.taken at q)))
+    go (Err x) s rec q = absurd (cc (sym (taken_err ws x) ∙ q))
 
 -- ---- counting
 module _ {A : Type 0} (p : A → Bool) (x : A) (xs : List A) where

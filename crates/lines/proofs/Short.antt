@@ -14,13 +14,13 @@ use Rattle.text.specs.Text.{decimal_of, first_texts}
 use Rattle.text.proofs.DecimalLaws.{decimal_le}
 use Rattle.values.specs.Values.{value_text}
 use Rattle.keys.specs.Keys.{entries_of, key_at, form_at, name_of, blank_body}
-use Rattle.line_out.specs.Lines.{part, is_shown, field_text, line_by, record_line}
+use Rattle.line_out.specs.Lines.{part, is_shown, field_by, field_text, line_by, record_line}
 use Rattle.values.proofs.Laws.{value_short}
 use Rattle.keys.proofs.Laws.{key_short, name_short, most_fields_lem, field_short}
 use Rattle.lines.proofs.Texts.{texts_short}
 
 field_length : (ed : Edition) (k : Kind) (c : List ℕ) → Bytes c → (i : ℕ) → length (field_text ed k c i) ≤ 38
-unfolding field_text
+unfolding field_by
 field_length ed k c bytes i =
     let v : List ℕ = part (form_at ed k i) c in
     let b : Bytes v = bytes_take (form_at ed k i).width (drop (form_at ed k i).at c) (bytes_drop (form_at ed k i).at c bytes) in

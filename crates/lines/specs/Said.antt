@@ -1,8 +1,7 @@
 -- What a line that is read as a record says: its number, its message, and each of its fields, those that are written and those that are left out (docs/TEXT.md, "What a line says", "Messages").
-use Rattle.std.specs.Prelude.{ℕ, suc, ◌-◌, ◌≤◌, ◌<◌, ◌≡◌, Bool, true, false, List, [], ◌∷◌, length, take, drop, get_or, ltb}
+use Rattle.std.specs.Prelude.{ℕ, suc, ◌-◌, ◌≤◌, ◌<◌, ◌≡◌, Bool, true, List, [], ◌∷◌, length, take, drop, get_or, ltb, bytes_eq, Option, Some, None, is_some}
 use Rattle.facts.specs.Limits.{last_number}
 use Rattle.facts.specs.Pick.{pick, both}
-use Rattle.facts.specs.Same.{same_bytes}
 use Rattle.facts.specs.Sums.{count_by}
 use Rattle.editions.specs.declared.Edition.{Edition}
 use Rattle.kinds.specs.Table.{type_of, kind_length}
@@ -11,13 +10,10 @@ use Rattle.body.specs.Read.{good_body}
 use Rattle.packet.specs.Record.{number_ok}
 use Rattle.spans.specs.Spans.{Word, words_at, uncommented, place_of}
 use Rattle.figures.specs.Figures.{number_in}
-use Rattle.figures.specs.declared.Figure.{Figure}
-use Rattle.letters.specs.Letters.{Got, none, some}
 use Rattle.values.specs.Values.{value_in}
 use Rattle.keys.specs.Keys.{name_of, entries_of, key_at, form_at, blank_body, zeros}
 use Rattle.keys.specs.declared.Form.{Form}
 use Rattle.line_out.specs.Lines.{part}
-use Rattle.line_in.specs.declared.Line.{Line}
 
 -- ---- what is written of a field
 -- "The key of a word is what stands before its first `=`" (61 is `=`)
@@ -30,16 +26,12 @@ behind_key s = drop (suc (place_of 61 s)) s
 
 -- "each as `key=value`, one word each": a word that names field i has an `=`, and before it the key of that field
 unfoldable pub names : Edition → Kind → ℕ → Word → Bool
-names ed k i w = both (ltb (place_of 61 w.bytes) (length w.bytes)) (same_bytes (key_in w.bytes) (key_at ed k i))
+names ed k i w = both (ltb (place_of 61 w.bytes) (length w.bytes)) (bytes_eq (key_at ed k i) (key_in w.bytes))
 
 -- the value of the word that names field i; none where the field is left out
-unfoldable pub value_for : Edition → Kind → ℕ → List Word → Got
-value_for ed k i [] = none
-value_for ed k i (w ∷ ws) = pick (names ed k i w) (some (behind_key w.bytes)) (value_for ed k i ws)
-
-abbrev pub is_written : Got → Bool
-is_written none = false
-is_written (some s) = true
+unfoldable pub value_for : Edition → Kind → ℕ → List Word → Option (List ℕ)
+value_for ed k i [] = None
+value_for ed k i (w ∷ ws) = pick (names ed k i w) (Some (behind_key w.bytes)) (value_for ed k i ws)
 
 -- every word names a field of the message
 abbrev pub AllNamed : Edition → Kind → List Word → Type 0
@@ -48,12 +40,12 @@ AllNamed ed k (w ∷ ws) = ((i : ℕ) × (i < length (entries_of ed k)) × (name
 
 -- ---- the bytes of a field
 -- "what a field that is left out has", the bytes v; a field that is written has what its value says, by "the form of its value"
-unfoldable pub bytes_by : Form → List ℕ → Got → Got
-bytes_by f v none = some v
-bytes_by f v (some s) = value_in f.style f.width s
+unfoldable pub bytes_by : Form → List ℕ → Option (List ℕ) → Option (List ℕ)
+bytes_by f v None = Some v
+bytes_by f v (Some s) = value_in f.style f.width s
 
 -- the bytes that field i has to have, by the words behind the name; its default is its part of the blank body
-unfoldable pub said_of : Edition → Kind → List Word → ℕ → Got
+unfoldable pub said_of : Edition → Kind → List Word → ℕ → Option (List ℕ)
 said_of ed k ws i = bytes_by (form_at ed k i) (part (form_at ed k i) (blank_body ed k)) (value_for ed k i ws)
 
 -- ---- the line
@@ -65,7 +57,7 @@ pub record Says (ed : Edition) (s : List ℕ) (n m : ℕ) (b : List ℕ) : Type 
   pub words : List Word
   pub line : uncommented (words_at 0 s) ≡ first ∷ (second ∷ words)
   -- "The sequence number is digits, from 1 to 1,000,000,000,000"
-  pub digits : number_in last_number first.bytes ≡ Figure.Is n
+  pub digits : number_in last_number first.bytes ≡ Some n
   pub number : number_ok n ≡ true
   -- a message, by its name: its length and its type byte
   pub kind : Kind
@@ -77,15 +69,9 @@ pub record Says (ed : Edition) (s : List ℕ) (n m : ℕ) (b : List ℕ) : Type 
   pub known : AllNamed ed kind words
   pub once : (i : ℕ) → i < length (entries_of ed kind) → count_by (names ed kind i) words ≤ 1
   -- "A field without a default has to be written"
-  pub needed : (i : ℕ) → i < length (entries_of ed kind) → (form_at ed kind i).needed ≡ true → is_written (value_for ed kind i words) ≡ true
+  pub needed : (i : ℕ) → i < length (entries_of ed kind) → (form_at ed kind i).needed ≡ true → is_some (value_for ed kind i words) ≡ true
   -- each field has what was written, or its default; behind the last one are zeros, up to the 42 bytes of the longest body
-  pub fields : (i : ℕ) → i < length (entries_of ed kind) → said_of ed kind words i ≡ some (part (form_at ed kind i) b)
+  pub fields : (i : ℕ) → i < length (entries_of ed kind) → said_of ed kind words i ≡ Some (part (form_at ed kind i) b)
   pub behind : drop m b ≡ zeros (42 - m)
   -- "The message must be one that the reader of the edition takes"
   pub good : good_body ed (take m b) ≡ true
-
-abbrev pub is_record : Line → Bool
-is_record Line.Blank = false
-is_record Line.Comment = false
-is_record (Line.Record n m) = true
-is_record (Line.Wrong x) = false

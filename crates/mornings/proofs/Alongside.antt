@@ -7,24 +7,19 @@ use mathlib.Core.List.{List}
 use Rattle.facts.specs.Pick.{pick, both}
 use Rattle.wire.specs.Records.{Frames}
 use Rattle.fields.specs.Fields.{refusal}
-use Rattle.packet.specs.Packet.{Why, alone, placed}
 use Rattle.arbitration.specs.Engine.{Engine, Store}
 use Rattle.arbitration.specs.Receive.{records_of}
 use Rattle.arbitration.specs.Receive as theory
 use Rattle.arbitration.specs.Lists.{Every, Bounded}
 use Rattle.arbitration.specs.Meaning.{Close, close, ToldAlike}
 use Rattle.arbitration.proofs.MeaningLaws.{run_close, told_close, zeroed_close}
+use Rattle.packet.specs.declared.Why.{Why}
 use Rattle.receiver.specs.Parts.{Parts, engine_of}
-use Rattle.receiver.specs.Receiver.{next_ok, account, refused_by, Receiver, handled, handled_by, fit, receives, receives_all}
+use Rattle.receiver.specs.Receiver.{next_ok, account, Receiver, handled, handled_by, fit, receives, receives_all}
 use Rattle.receiver.specs.Demand3.{Started}
-use Rattle.mornings.specs.Alongside.{Two, one_of, other_of, FramesAlike, both_bad, both_good, PacketsAlike, no_packets, one_more, AccountAlike, Refusing, by_number, by_place, both_accepted, both_refused, Alongside, HandledAlike}
-use Rattle.receiver.specs.declared.Received.{Received}
+use Rattle.mornings.specs.Alongside.{Two, one_of, other_of, FramesAlike, both_bad, both_good, PacketsAlike, no_packets, one_more, AccountAlike, refusing, both_accepted, both_refused, Alongside, HandledAlike}
+use Rattle.std.specs.Prelude.{Err}
 use Rattle.receiver.proofs.PartsLaws.{PartsLaws}
-
--- a refused packet's answer is no account
-pub refusing : (w : Why) → Refusing (refused_by w)
-refusing (alone r) = by_number r
-refusing (placed f) = by_place f
 
 accounts : {t u : theory.Told} → ToldAlike t u → AccountAlike (account t) (account u)
 accounts a = record { counts_alike = a.counts_alike; next_same = a.next_same; applied_same = a.applied_same; highest_same = a.top_same; stop_same = a.stopped_same }
@@ -73,11 +68,11 @@ module _ (X : Two) (L : PartsLaws (one_of X)) (L' : PartsLaws (other_of X))
   pub call_alike : (k : Receiver P) (k' : Receiver Q) (p p' : List ℕ) → FramesAlike X (X.frame p) (X.frame' p') → Alongside X k k' → HandledAlike X (receives P k p) (receives Q k' p')
   unfolding receives pick
   call_alike k k' p p' f a =
-      subst (λ (t : Bool). HandledAlike X (receives P k p) (pick t (handled_by Q (X.frame' p') k') (handled Q (Received.Refused (refusal 6)) k'))) (sym (fit_same k k' a)) (go (fit P k))
+      subst (λ (t : Bool). HandledAlike X (receives P k p) (pick t (handled_by Q (X.frame' p') k') (handled Q (Err (Why.Alone (refusal 6))) k'))) (sym (fit_same k k' a)) (go (fit P k))
     where
-      go : (t : Bool) → HandledAlike X (pick t (handled_by P (X.frame p) k) (handled P (Received.Refused (refusal 6)) k)) (pick t (handled_by Q (X.frame' p') k') (handled Q (Received.Refused (refusal 6)) k'))
+      go : (t : Bool) → HandledAlike X (pick t (handled_by P (X.frame p) k) (handled P (Err (Why.Alone (refusal 6))) k)) (pick t (handled_by Q (X.frame' p') k') (handled Q (Err (Why.Alone (refusal 6))) k'))
       go true = framed k k' (L.bounded p) (L'.bounded p') f a
-      go false = record { answers_alike = both_refused (by_number (refusal 6)) (by_number (refusal 6)); still = a }
+      go false = record { answers_alike = both_refused (refusing (Why.Alone (refusal 6))) (refusing (Why.Alone (refusal 6))); still = a }
 
   -- ---- any number of calls
   pub calls_alongside : (k : Receiver P) (k' : Receiver Q) {ps ps' : List (List ℕ)} → PacketsAlike X ps ps' → Alongside X k k' → Alongside X (receives_all P ps k) (receives_all Q ps' k')

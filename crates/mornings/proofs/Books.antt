@@ -10,31 +10,31 @@ use Rattle.fields.specs.declared.Symbol.{Symbol}
 use Rattle.body.specs.Read.{read_body, good_body}
 use Rattle.symbols.specs.Entries.{id_of}
 use Rattle.book.specs.declared.Clock.{Clock}
-use Rattle.book.specs.declared.Plan.{Plan}
-use Rattle.book.specs.Plan.{Finds, plan_by}
+use Rattle.std.specs.Prelude.{Ok, Err}
+use Rattle.book.specs.Plan.{Plan, Finds, plan_by}
 use Rattle.book.specs.Book.{Book, book, effect, scans, planned, carried, applied}
 use Rattle.orders.specs.Work.{committed}
 use Rattle.retype.specs.Types.{types_ok}
-use Rattle.retype.specs.Retyped.{Asked, retyped}
-use Rattle.retype.proofs.Laws.{retyped_read}
+use Rattle.retype.specs.Retyped.{Asked, new_byte, retyped}
+use Rattle.retype.proofs.Laws.{with_20, retyped_read}
 use Rattle.mornings.specs.Tables.{book_to}
 use Rattle.mornings.proofs.Entries.{symbol_to, find_to, place_to, entered_to}
 
--- of a message's bytes the plan asks the symbol ID of an update alone
-plan_bytes : (m : Body) (n : ℕ) (b c : List ℕ) (t : Clock) (f : Finds) → id_of c ≡ id_of b → plan_by m n c t f ≡ plan_by m n b t f
+-- of a message's bytes the plan asks the symbol ID of an update alone, and of an update's fields none
+plan_bytes : (m : Body) (y n : ℕ) (b c : List ℕ) (t : Clock) (f : Finds) → id_of c ≡ id_of b → plan_by (with_20 m y) n c t f ≡ plan_by m n b t f
 unfolding plan_by
-plan_bytes (Body.SystemTime s) n b c t f e = refl
-plan_bytes Body.SymbolUpdate n b c t f e = ap (λ (id : ℕ). plan_by Body.SymbolUpdate n b t (record { order = f.order; free_row = f.free_row; entry = f.entry; room = λ (x : ℕ). f.room id })) e
-plan_bytes (Body.Add m) n b c t f e = refl
-plan_bytes (Body.Modify m) n b c t f e = refl
-plan_bytes (Body.Delete m) n b c t f e = refl
-plan_bytes (Body.Execution m) n b c t f e = refl
-plan_bytes (Body.SymbolClear m) n b c t f e = refl
-plan_bytes Body.SystemState n b c t f e = refl
-plan_bytes (Body.TradingStatus m) n b c t f e = refl
-plan_bytes (Body.Trade m) n b c t f e = refl
-plan_bytes (Body.TradeCancel m) n b c t f e = refl
-plan_bytes (Body.Bad r) n b c t f e = refl
+plan_bytes (Body.SystemTime s) y n b c t f e = refl
+plan_bytes (Body.SymbolUpdate m) y n b c t f e = ap (λ (id : ℕ). plan_by (Body.SymbolUpdate m) n b t (record { order = f.order; free_row = f.free_row; entry = f.entry; room = λ (x : ℕ). f.room id })) e
+plan_bytes (Body.Add m) y n b c t f e = refl
+plan_bytes (Body.Modify m) y n b c t f e = refl
+plan_bytes (Body.Delete m) y n b c t f e = refl
+plan_bytes (Body.Execution m) y n b c t f e = refl
+plan_bytes (Body.SymbolClear m) y n b c t f e = refl
+plan_bytes (Body.SystemState m) y n b c t f e = refl
+plan_bytes (Body.TradingStatus m) y n b c t f e = refl
+plan_bytes (Body.Trade m) y n b c t f e = refl
+plan_bytes (Body.TradeCancel m) y n b c t f e = refl
+plan_bytes (Body.Bad r) y n b c t f e = refl
 
 module _ (from : Edition) (a : Asked) (b : List ℕ) (g : good_body from b ≡ true) (ok : types_ok a.to a.all a.others ≡ true) where
   -- the same searches find the same
@@ -46,12 +46,12 @@ module _ (from : Edition) (a : Asked) (b : List ℕ) (g : good_body from b ≡ t
   planned_to n k =
       let id : id_of (retyped a b) ≡ id_of b = ap (λ (s : Symbol). s.id) (symbol_to a b) in
       (λ i. plan_by (retyped_read from a b g ok i) n (retyped a b) k.clock (scans_to k i))
-      ∙ plan_bytes (read_body from b) n b (retyped a b) k.clock (scans k) id
+      ∙ plan_bytes (read_body from b) (new_byte a b) n b (retyped a b) k.clock (scans k) id
 
   carried_to : (p : Plan) (k : Book) → carried p (retyped a b) (book_to a k) ≡ effect (carried p b k).rule (book_to a (carried p b k).after)
   unfolding carried
-  carried_to (Plan.Stop n) k = refl
-  carried_to (Plan.Go w) k = ap (λ (s : List ℕ). effect 0 (book (committed w.orders k.orders) s w.clock)) (entered_to a from b g w.symbols k.symbols)
+  carried_to (Err n) k = refl
+  carried_to (Ok w) k = ap (λ (s : List ℕ). effect 0 (book (committed w.orders k.orders) s w.clock)) (entered_to a from b g w.symbols k.symbols)
 
   pub applied_to : (n : ℕ) (k : Book) → applied a.to n (retyped a b) (book_to a k) ≡ effect (applied from n b k).rule (book_to a (applied from n b k).after)
   unfolding applied

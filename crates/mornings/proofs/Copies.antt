@@ -9,7 +9,7 @@ use lib.ListN.{length, get_or, length-map, get_or-map}
 use Rattle.editions.specs.declared.Edition.{Edition}
 use Rattle.wire.specs.Records.{Rec, Frames}
 use Rattle.body.specs.Read.{good_body}
-use Rattle.packet.specs.Packet.{Why, framing}
+use Rattle.packet.specs.Packet.{framing}
 use Rattle.arbitration.specs.declared.Counts.{Counts}
 use Rattle.arbitration.specs.Receive.{records_of, accepted, said, run, counts_of, count}
 use Rattle.arbitration.specs.Receive as theory
@@ -20,7 +20,8 @@ use Rattle.shelf.specs.Store.{shelf_store}
 use Rattle.receiver.specs.Receiver.{Keeps}
 use Rattle.receiver.specs.Lent.{book_engine, plain, Lent, plain_rx, plain_of, sizes_ok, received, received_all, fresh, zero_book}
 use Rattle.receiver.specs.declared.Account.{Account}
-use Rattle.receiver.specs.declared.Received.{Received}
+use Rattle.std.specs.Prelude.{Result, Ok}
+use Rattle.packet.specs.declared.Why.{Why}
 use Rattle.book.specs.Book.{Book}
 use Rattle.receiver.proofs.PartsLaws.{laws_of}
 use Rattle.receiver.proofs.Demand.{ran}
@@ -32,7 +33,7 @@ use Rattle.retype.proofs.Laws.{retyped_good, retyped_no}
 use Rattle.conversion.specs.Kept.{Becomes, taken, refused, rec_to, recs_to}
 use Rattle.conversion.proofs.Passing.{becomes}
 use Rattle.mornings.specs.Mornings.{packet_to, packets_to}
-use Rattle.mornings.specs.Alongside.{AccountAlike, ReceivedAlike, both_accepted, both_refused, Refusing, by_number, by_place}
+use Rattle.mornings.specs.Alongside.{AccountAlike, ReceivedAlike, both_accepted, both_refused, refusing}
 use Rattle.mornings.proofs.Runs.{fresh_pair}
 use Rattle.mornings.proofs.Recordings.{same_answers}
 
@@ -52,7 +53,7 @@ module _ (ed : Edition) (ms : List (List ℕ)) (wf : WellFormed (good_body ed) m
   abbrev cs : List Rec
   cs = accepted (framing ed) ps
 
-  none_14 : (x : Account) → (received (received_all ps k0) p).answer ≡ Received.Accepted x → x.counts.differing ≡ 0
+  none_14 : (x : Account) → (received (received_all ps k0) p).answer ≡ Ok x → x.counts.differing ≡ 0
   unfolding counts_of
   none_14 x e =
       let z = sizes_are o s h i sizes in
@@ -115,28 +116,24 @@ account_is w y h d e =
       stop = h.stop_same i;
     }
 
-no_account : (u : Received) (x : Account) → Refusing u → u ≡ Received.Accepted x → ⊥
-no_account _ x (by_number r) e = let z : ◌≡◌ {A = ℕ} 0 1 = cc in absurd (omega arith)
-no_account _ x (by_place f) e = let z : ◌≡◌ {A = ℕ} 0 1 = cc in absurd (omega arith)
-
 -- to packets of true copies every number of the account is the same
 module _ (from : Edition) (a : Asked) (ok : types_ok a.to a.all a.others ≡ true) (ms : List (List ℕ)) (wf : WellFormed (good_body from) ms) (o s h' i i' : ℕ)
     (sizes : sizes_ok o s h' i ≡ true) (sizes' : sizes_ok o s h' i' ≡ true) (ps : List (List ℕ)) (p : List ℕ) (before : Copies ms (accepted (framing from) ps)) (now_copies : Copies ms (records_of (framing from p))) where
-  pub same_account : (x : Account) → (received (received_all ps (fresh from o s h' i)) p).answer ≡ Received.Accepted x
-      → (received (received_all (packets_to from a ps) (fresh a.to o s h' i')) (packet_to from a p)).answer ≡ Received.Accepted x
+  pub same_account : (x : Account) → (received (received_all ps (fresh from o s h' i)) p).answer ≡ Ok x
+      → (received (received_all (packets_to from a ps) (fresh a.to o s h' i')) (packet_to from a p)).answer ≡ Ok x
   same_account x e = go (received (received_all ps (fresh from o s h' i)) p).answer (received (received_all (packets_to from a ps) (fresh a.to o s h' i')) (packet_to from a p)).answer e refl (same_answers from a ok ps p (fresh from o s h' i) (fresh a.to o s h' i') (fresh_pair from a ok o s h' i i' sizes sizes'))
     where
       list_copies : (cs : List Rec) → Every Numbered cs → Copies ms cs → Copies (list_to from a ok ms) (recs_to a cs)
       list_copies = copies_to from a ok ms
 
-      differs : (y : Account) → (received (received_all (packets_to from a ps) (fresh a.to o s h' i')) (packet_to from a p)).answer ≡ Received.Accepted y → y.counts.differing ≡ 0
+      differs : (y : Account) → (received (received_all (packets_to from a ps) (fresh a.to o s h' i')) (packet_to from a p)).answer ≡ Ok y → y.counts.differing ≡ 0
       differs =
           none_14 a.to (list_to from a ok ms) (list_good from a ok ms wf) o s h' i' sizes' (packets_to from a ps) (packet_to from a p)
           (subst (Copies (list_to from a ok ms)) (sym (accepted_to from a ok ps)) (list_copies (accepted (framing from) ps) (every_accepted (framing from) Numbered (plain_laws from).numbered ps) before))
           (subst (Copies (list_to from a ok ms)) (sym (records_to from a ok p)) (list_copies (records_of (framing from p)) ((plain_laws from).numbered p) now_copies))
 
-      go : (u v : Received) → u ≡ Received.Accepted x → (received (received_all (packets_to from a ps) (fresh a.to o s h' i')) (packet_to from a p)).answer ≡ v → ReceivedAlike u v → v ≡ Received.Accepted x
+      go : (u v : Result Account Why) → u ≡ Ok x → (received (received_all (packets_to from a ps) (fresh a.to o s h' i')) (packet_to from a p)).answer ≡ v → ReceivedAlike u v → v ≡ Ok x
       go _ _ f g (both_accepted {a = w} {b = y} h) =
           let w_is : w ≡ x = cc in
-          ap Received.Accepted (account_is w y h (ap (λ (k : Account). k.counts.differing) w_is ∙ none_14 from ms wf o s h' i sizes ps p before now_copies x e) (differs y g) ∙ w_is)
-      go u v f g (both_refused r q) = absurd (no_account u x r f)
+          ap Ok (account_is w y h (ap (λ (k : Account). k.counts.differing) w_is ∙ none_14 from ms wf o s h' i sizes ps p before now_copies x e) (differs y g) ∙ w_is)
+      go _ v f g (both_refused (refusing w) q) = absurd (cc)

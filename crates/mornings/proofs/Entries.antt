@@ -14,7 +14,7 @@ use Rattle.facts.specs.Pick.{pick, both}
 use Rattle.facts.specs.Pieces.{join}
 use Rattle.facts.specs.Search.{first, or_else}
 use Rattle.facts.specs.Sums.{count_by, sum_by, only_if}
-use Rattle.facts.specs.declared.Found.{Found}
+use Rattle.std.specs.Prelude.{Option, Some, None}
 use Rattle.facts.proofs.PieceLaws.{Wide, length_join, length_pieces, pieces_rest, pieces_replicate, map_set}
 use Rattle.wire.proofs.Laws.{get_or_padded}
 use Rattle.editions.specs.declared.Edition.{Edition}
@@ -25,7 +25,6 @@ use Rattle.body.proofs.Laws.{Framed, framed_is, good_framed}
 use Rattle.symbols.specs.Entries.{entries, entries_rest, entry_of, put_entry, used, free_entry}
 use Rattle.symbols.specs.Find.{is_symbol, find_symbol, find_free_entry, place_for, count_used}
 use Rattle.symbols.specs.Work.{entered}
-use Rattle.symbols.specs.declared.EntryWork.{EntryWork}
 use Rattle.symbols.proofs.EntryLaws.{size_some, wide_entries, entries_rest_lem, length_entry_of, whole_body, entries_put, put_bytes}
 use Rattle.retype.specs.Retyped.{Asked, is_update, retyped}
 use Rattle.retype.proofs.Laws.{symbol_same, retyped_length, retyped_same, retyped_no, update_kind, by_update}
@@ -100,7 +99,7 @@ wiped_to a n =
 first_unmoved : {A : Type 0} (p : A → Bool) (f : A → A) → ((x : A) → p (f x) ≡ p x) → (k : ℕ) (xs : List A) → first p k (map f xs) ≡ first p k xs
 unfolding first
 first_unmoved p f h k [] = refl
-first_unmoved p f h k (x ∷ xs) = λ i. pick (h x i) (Found.At k) (first_unmoved p f h (suc k) xs i)
+first_unmoved p f h k (x ∷ xs) = λ i. pick (h x i) (Some k) (first_unmoved p f h (suc k) xs i)
 
 count_unmoved : {A : Type 0} (p : A → Bool) (f : A → A) → ((x : A) → p (f x) ≡ p x) → (xs : List A) → count_by p (map f xs) ≡ count_by p xs
 unfolding count_by sum_by only_if
@@ -161,7 +160,7 @@ module _ (a : Asked) where
       ∙ (λ j. join (map (retyped a) (sym e j)) ++ sym r j)
       ∙ sym (to_is a (put_entry t i b))
 
-  pub entered_to : (from : Edition) (b : List ℕ) → good_body from b ≡ true → (w : EntryWork) (t : List ℕ) → entered w (retyped a b) (entries_to a t) ≡ entries_to a (entered w b t)
+  pub entered_to : (from : Edition) (b : List ℕ) → good_body from b ≡ true → (w : Option ℕ) (t : List ℕ) → entered w (retyped a b) (entries_to a t) ≡ entries_to a (entered w b t)
   unfolding entered
-  entered_to from b g EntryWork.Keep t = refl
-  entered_to from b g (EntryWork.Put i) t = put_to from b g t i
+  entered_to from b g None t = refl
+  entered_to from b g (Some i) t = put_to from b g t i

@@ -20,7 +20,9 @@ use Rattle.packet.proofs.Good.{AllGood, framing_fine, Fine}
 use Rattle.arbitration.specs.Stream.{each}
 use Rattle.receiver.specs.Lent.{Lent, state_of, orders_of, symbols_of, sizes_ok, received, received_all}
 use Rattle.receiver.specs.declared.State.{State}
-use Rattle.receiver.specs.declared.Received.{Received}
+use Rattle.std.specs.Prelude.{Result}
+use Rattle.packet.specs.declared.Why.{Why}
+use Rattle.receiver.specs.declared.Account.{Account}
 use Rattle.recording.specs.Stream.{more, Standing, noted, too_long, heard, hears, Hearing, hearing, byte, took}
 use Rattle.recording.specs.Whole.{packets_of, rest_of, InFront, Laid, Inside, began}
 use Rattle.recording.proofs.Packets.{packets_laid, laid_once}
@@ -36,7 +38,7 @@ use Rattle.conversion.specs.Kept.{Becomes, taken, refused}
 use Rattle.conversion.proofs.Pieces.{not_whole, is_whole, passed_length, piece_none, piece_more}
 use Rattle.conversion.proofs.Passing.{becomes}
 use Rattle.mornings.specs.Mornings.{packet_to, packets_to, recording_to, SameMorning, whole_or_cut, lines_after, sheet_in}
-use Rattle.mornings.specs.Alongside.{FramesAlike, both_bad, both_good, ReceivedAlike, both_accepted, both_refused, Refusing, by_number, by_place}
+use Rattle.mornings.specs.Alongside.{FramesAlike, both_bad, both_good, ReceivedAlike, both_accepted, both_refused, Refusing, refusing}
 use Rattle.mornings.proofs.Runs.{two, meant_to, Pair, fresh_pair, call_pair, calls_pair, pair_same}
 use Rattle.mornings.proofs.Sheets.{lines_alike}
 
@@ -64,12 +66,11 @@ module _ (from : Edition) (a : Asked) (ok : types_ok a.to a.all a.others ≡ tru
     bad_same : y.bad ≡ x.bad
     pair : Pair from a ok x.lent y.lent
 
-  refusing_bad : (r : Received) (l : Lent) (x : Standing) → Refusing r → ((noted r l x).bad ≡ more x.bad 1) × ((noted r l x).lent ≡ l)
+  refusing_bad : (r : Result Account Why) (l : Lent) (x : Standing) → Refusing r → ((noted r l x).bad ≡ more x.bad 1) × ((noted r l x).lent ≡ l)
   unfolding noted
-  refusing_bad _ l x (by_number r) = (refl, refl)
-  refusing_bad _ l x (by_place f) = (refl, refl)
+  refusing_bad _ l x (refusing w) = (refl, refl)
 
-  noted_beside : (r r' : Received) (l l' : Lent) (x y : Standing) → ReceivedAlike r r' → Pair from a ok l l' → y.bad ≡ x.bad → Beside (noted r l x) (noted r' l' y)
+  noted_beside : (r r' : Result Account Why) (l l' : Lent) (x y : Standing) → ReceivedAlike r r' → Pair from a ok l l' → y.bad ≡ x.bad → Beside (noted r l x) (noted r' l' y)
   unfolding noted
   noted_beside _ _ l l' x y (both_accepted g) p e = record { bad_same = e; pair = p }
   noted_beside r r' l l' x y (both_refused u v) p e =

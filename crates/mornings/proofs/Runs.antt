@@ -23,7 +23,9 @@ use Rattle.arbitration.proofs.MeaningLaws.{close_agrees}
 use Rattle.shelf.specs.Store.{shelf_store}
 use Rattle.receiver.specs.Receiver.{receives}
 use Rattle.receiver.specs.Lent.{tables_ok, sizes_ok, book_engine, book_rules, plain, Lent, plain_of, received, received_all, real, fresh, zero_book}
-use Rattle.receiver.specs.declared.Received.{Received}
+use Rattle.std.specs.Prelude.{Result}
+use Rattle.packet.specs.declared.Why.{Why}
+use Rattle.receiver.specs.declared.Account.{Account}
 use Rattle.receiver.proofs.Real.{plain_laws, fresh_started, sizes_are, rows_sized}
 use Rattle.receiver.proofs.Along.{Plainly}
 use Rattle.receiver.proofs.Editions.{edition_kept}
@@ -106,7 +108,7 @@ module _ (from : Edition) (a : Asked) (ok : types_ok a.to a.all a.others ≡ tru
         let g = call_follows from k p x.edition_is x.sure in
         let g' = call_follows a.to k' (f p) x.edition_is' x.sure' in
         let h = call_alike two (plain_laws from) (plain_laws a.to) sized_to (plain_of k) (plain_of k') p (f p) (frames p) x.along in (
-          subst (λ (y : Received). ReceivedAlike y (received k' (f p)).answer) (sym g.answer_same) (subst (ReceivedAlike (receives (plain from) (plain_of k) p).answer) (sym g'.answer_same) h.answers_alike),
+          subst (λ (y : Result Account Why). ReceivedAlike y (received k' (f p)).answer) (sym g.answer_same) (subst (ReceivedAlike (receives (plain from) (plain_of k) p).answer) (sym g'.answer_same) h.answers_alike),
           record {
             edition_is = edition_kept (real k.edition) k p ∙ x.edition_is;
             edition_is' = edition_kept (real k'.edition) k' (f p) ∙ x.edition_is';

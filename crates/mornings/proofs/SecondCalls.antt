@@ -5,7 +5,6 @@ use mathlib.Core.Path.{◌≡◌, refl, sym, subst, ◌∙◌}
 use mathlib.Core.Bool.{Bool, true, false}
 use mathlib.Core.Logic.{◌⊎◌, inl, inr}
 use mathlib.Core.List.{List, [], ◌∷◌}
-use native.Mathlib.Omega.{arith}
 use Rattle.facts.specs.Pick.{pick, both}
 use Rattle.editions.specs.declared.Edition.{Edition}
 use Rattle.wire.specs.Records.{Rec, records}
@@ -23,7 +22,8 @@ use Rattle.shelf.specs.Store.{shelf_store}
 use Rattle.receiver.specs.Receiver.{next_ok, Handles, handled, handled_by, fit, receives}
 use Rattle.receiver.specs.Lent.{sizes_ok, book_engine, plain, Lent, plain_of, received, received_all, fresh}
 use Rattle.receiver.specs.declared.Account.{Account}
-use Rattle.receiver.specs.declared.Received.{Received}
+use Rattle.std.specs.Prelude.{Result, Ok, Err}
+use Rattle.packet.specs.declared.Why.{Why}
 use Rattle.receiver.proofs.Real.{plain_laws, fresh_started, sizes_are}
 use Rattle.receiver.proofs.Along.{Plainly}
 use Rattle.receiver.proofs.Engines.{call_follows}
@@ -32,10 +32,9 @@ use Rattle.retype.specs.Retyped.{Asked, retyped}
 use Rattle.conversion.specs.Kept.{Becomes, taken, refused, recs_to}
 use Rattle.conversion.proofs.Passing.{becomes}
 use Rattle.mornings.specs.Mornings.{packet_to, packets_to}
-use Rattle.mornings.specs.Alongside.{Refusing, by_number, by_place}
+use Rattle.mornings.specs.Alongside.{refusing}
 use Rattle.mornings.specs.Seconds.{both_empty, Kept, Firm, CountsTo, SomeMerged, AccountTo, ReceivedTo, accepted_to, refused_to}
 use Rattle.mornings.proofs.Runs.{two, meant_to, sized_to, Pair, fresh_pair, call_pair}
-use Rattle.mornings.proofs.Alongside.{refusing}
 use Rattle.mornings.proofs.Recordings.{all_good, frames_to}
 use Rattle.mornings.proofs.Seconds.{counts_to, counts_or_merged, run_to, said_to, retyped_short}
 
@@ -99,12 +98,12 @@ module _ (from : Edition) (a : Asked) (ok : types_ok a.to a.all a.others ≡ tru
     receives_to : (p : List ℕ) → HandledTo k.rx (records_of (framing from p)) (receives (plain from) k p) (receives (plain a.to) k' (packet_to from a p))
     unfolding receives pick
     receives_to p =
-        subst (λ (t : Bool). HandledTo k.rx (records_of (framing from p)) (receives (plain from) k p) (pick t (handled_by (plain a.to) (framing a.to (packet_to from a p)) k') (handled (plain a.to) (Received.Refused (refusal 6)) k')))
+        subst (λ (t : Bool). HandledTo k.rx (records_of (framing from p)) (receives (plain from) k p) (pick t (handled_by (plain a.to) (framing a.to (packet_to from a p)) k') (handled (plain a.to) (Err (Why.Alone (refusal 6))) k')))
         (sym (fit_to k k' d.near)) (go (fit (plain from) k))
       where
-        go : (t : Bool) → HandledTo k.rx (records_of (framing from p)) (pick t (handled_by (plain from) (framing from p) k) (handled (plain from) (Received.Refused (refusal 6)) k)) (pick t (handled_by (plain a.to) (framing a.to (packet_to from a p)) k') (handled (plain a.to) (Received.Refused (refusal 6)) k'))
+        go : (t : Bool) → HandledTo k.rx (records_of (framing from p)) (pick t (handled_by (plain from) (framing from p) k) (handled (plain from) (Err (Why.Alone (refusal 6))) k)) (pick t (handled_by (plain a.to) (framing a.to (packet_to from a p)) k') (handled (plain a.to) (Err (Why.Alone (refusal 6))) k'))
         go true = framed_to p
-        go false = record { answers = refused_to (by_number (refusal 6)) (by_number (refusal 6)); kept = d.kept }
+        go false = record { answers = refused_to (refusing (Why.Alone (refusal 6))) (refusing (Why.Alone (refusal 6))); kept = d.kept }
 
   -- ---- any calls, with an index or without
   pub record FirmPair (k k' : Lent) : Type 0 where
@@ -126,7 +125,7 @@ module _ (from : Edition) (a : Asked) (ok : types_ok a.to a.all a.others ≡ tru
       let g = call_follows from k p x.pair.edition_is x.pair.sure in
       let g' = call_follows a.to k' p' x.pair.edition_is' x.pair.sure' in
       let h = receives_to (plain_of k) (plain_of k') (record { near = x.pair.along.near; kept = x.kept }) p in (
-        subst (λ (y : Received). ReceivedTo (retyped a) shelf_store E (plain_of k).rx cs y (received k' p').answer) (sym g.answer_same) (subst (ReceivedTo (retyped a) shelf_store E (plain_of k).rx cs (receives (plain from) (plain_of k) p).answer) (sym g'.answer_same) h.answers),
+        subst (λ (y : Result Account Why). ReceivedTo (retyped a) shelf_store E (plain_of k).rx cs y (received k' p').answer) (sym g.answer_same) (subst (ReceivedTo (retyped a) shelf_store E (plain_of k).rx cs (receives (plain from) (plain_of k) p).answer) (sym g'.answer_same) h.answers),
         record {
           pair = (call_pair from a ok (packet_to from a) (frames_to from a ok) k k' p x.pair).1;
           kept = subst (λ (y : Plainly). Kept (retyped a) shelf_store y.rx.shelf (received k' p').after.rx.shelf) (sym g.rest_same)
@@ -140,20 +139,16 @@ module _ (from : Edition) (a : Asked) (ok : types_ok a.to a.all a.others ≡ tru
   calls_firm (p ∷ ps) k k' x = calls_firm ps (received k p).after (received k' (packet_to from a p)).after (call_firm k k' p x).1
 
   -- ---- what is told: after any packets, of the next
-  account_of : (r : theory.State shelf_store E) (cs : List Rec) (u v : Received) (x y : Account) → u ≡ Received.Accepted x → v ≡ Received.Accepted y → ReceivedTo (retyped a) shelf_store E r cs u v → AccountTo (retyped a) shelf_store E r cs x y
+  account_of : (r : theory.State shelf_store E) (cs : List Rec) (u v : Result Account Why) (x y : Account) → u ≡ Ok x → v ≡ Ok y → ReceivedTo (retyped a) shelf_store E r cs u v → AccountTo (retyped a) shelf_store E r cs x y
   account_of r cs _ _ x y e f (accepted_to {x = w} {y = z} h) =
       let w_is : w ≡ x = cc in
       let z_is : z ≡ y = cc in
       subst (λ (c : Account). AccountTo (retyped a) shelf_store E r cs c y) w_is (subst (AccountTo (retyped a) shelf_store E r cs w) z_is h)
-  account_of r cs u v x y e f (refused_to n q) = absurd (no_account u n e)
-    where
-      no_account : (u : Received) → Refusing u → u ≡ Received.Accepted x → ⊥
-      no_account _ (by_number r) e = let z : ◌≡◌ {A = ℕ} 0 1 = cc in absurd (omega arith)
-      no_account _ (by_place f) e = let z : ◌≡◌ {A = ℕ} 0 1 = cc in absurd (omega arith)
+  account_of r cs _ v x y e f (refused_to (refusing w) q) = absurd (cc)
 
   module _ (o s h i i' : ℕ) (sizes : sizes_ok o s h i ≡ true) (sizes' : sizes_ok o s h i' ≡ true) (ps : List (List ℕ)) (p : List ℕ) (x y : Account)
-      (before : (received (received_all ps (fresh from o s h i)) p).answer ≡ Received.Accepted x)
-      (converted : (received (received_all (packets_to from a ps) (fresh a.to o s h i')) (packet_to from a p)).answer ≡ Received.Accepted y) where
+      (before : (received (received_all ps (fresh from o s h i)) p).answer ≡ Ok x)
+      (converted : (received (received_all (packets_to from a ps) (fresh a.to o s h i')) (packet_to from a p)).answer ≡ Ok y) where
     -- the one receiver as the packet comes, and the packet's records
     abbrev pub stands : theory.State shelf_store E
     stands = (plain_of (received_all ps (fresh from o s h i))).rx

@@ -7,7 +7,7 @@ use mathlib.Core.List.{List, [], ◌∷◌, ◌++◌, map}
 use Rattle.facts.specs.Pick.{pick}
 use Rattle.facts.specs.Pieces.{join}
 use Rattle.editions.specs.declared.Edition.{Edition}
-use Rattle.body.specs.declared.Security.{Security}
+use Rattle.std.specs.Prelude.{None}
 use Rattle.rows.specs.Rows.{rows}
 use Rattle.rows.specs.Find.{count_live}
 use Rattle.rows.specs.declared.Row.{Row}
@@ -40,7 +40,7 @@ untyped_is Edition.V13b word bad s o t = ap untyped (sym (only_types word bad s 
 
 entry_alike : (a : Asked) (rs : List Row) (e : List ℕ) → entry_lines Edition.V13b rs (retyped a e) ≡ entry_lines Edition.V13b rs e
 unfolding entry_lines
-entry_alike a rs e = λ i. pick (used_to a e i) (symbol_lines Security.Reserved (symbol_to a e i) ++ book_lines (symbol_to a e i).id rs) []
+entry_alike a rs e = λ i. pick (used_to a e i) (symbol_lines None (symbol_to a e i) ++ book_lines (symbol_to a e i).id rs) []
 
 join_alike : {A B : Type 0} (f : B → List A) (g : B → B) → ((x : B) → f (g x) ≡ f x) → (xs : List B) → join (map f (map g xs)) ≡ join (map f xs)
 unfolding join

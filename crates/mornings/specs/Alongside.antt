@@ -1,16 +1,13 @@
 -- Two receivers over different packets: packet by packet the same numbers, and bodies that mean the same to books that are alike (arbitration/Meaning), as where a recording of one
 -- edition is written anew in another. Their parts are any two with one kind of shelf.
-use Rattle.std.specs.Prelude.{ℕ, ◌≡◌, Bool, List, [], ◌∷◌}
+use Rattle.std.specs.Prelude.{◌≡◌, Bool, List, [], ◌∷◌, ℕ, Result, Ok, Err}
 use Rattle.wire.specs.Records.{Rec, Frames, bad, records}
-use Rattle.fields.specs.declared.Refusal.{Refusal}
-use Rattle.fields.specs.declared.Fault.{Fault}
-use Rattle.packet.specs.Packet.{Why}
+use Rattle.packet.specs.declared.Why.{Why}
 use Rattle.arbitration.specs.Engine.{Store}
 use Rattle.arbitration.specs.Meaning.{Meant, Close, CountsAlike}
 use Rattle.receiver.specs.Parts.{Rules, Parts, engine_of}
 use Rattle.receiver.specs.Receiver.{Receiver, Handled}
 use Rattle.receiver.specs.declared.Account.{Account}
-use Rattle.receiver.specs.declared.Received.{Received}
 
 -- the parts of both, and which of their books are alike
 pub record Two : Type 1 where
@@ -50,14 +47,13 @@ pub record AccountAlike (a b : Account) : Type 0 where
   pub stop_same : b.stop ≡ a.stop
 
 -- an answer that is no account
-pub data Refusing : Received → Type 0 where
-  by_number : (r : Refusal) → Refusing (Received.Refused r)
-  by_place : (f : Fault) → Refusing (Received.Bad f)
+pub data Refusing : Result Account Why → Type 0 where
+  refusing : (w : Why) → Refusing (Err w)
 
 -- both accept, or both refuse, by whichever numbers
-pub data ReceivedAlike : Received → Received → Type 0 where
-  both_accepted : {a b : Account} → AccountAlike a b → ReceivedAlike (Received.Accepted a) (Received.Accepted b)
-  both_refused : {a b : Received} → Refusing a → Refusing b → ReceivedAlike a b
+pub data ReceivedAlike : Result Account Why → Result Account Why → Type 0 where
+  both_accepted : {a b : Account} → AccountAlike a b → ReceivedAlike (Ok a) (Ok b)
+  both_refused : {a b : Result Account Why} → Refusing a → Refusing b → ReceivedAlike a b
 
 -- ---- where they stand
 -- with close shelves and books (the same next with them) and the same stop; each has an edition of its own, which no packet changes

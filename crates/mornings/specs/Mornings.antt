@@ -1,8 +1,9 @@
 -- "One morning's recording to suit every edition we teach" (document 00): what is said of a recording and of what `convert` makes of it.
-use Rattle.std.specs.Prelude.{ℕ, ◌≡◌, Bool, true, false, List, [], map}
+use Rattle.std.specs.Prelude.{ℕ, ◌≡◌, Bool, true, false, List, [], map, Result, Ok, Err}
 use Rattle.editions.specs.declared.Edition.{Edition}
 use Rattle.receiver.specs.Lent.{Lent, orders_of, symbols_of, state_of}
-use Rattle.recording.specs.declared.Fed.{Fed}
+use Rattle.fields.specs.declared.Refusal.{Refusal}
+use Rattle.recording.specs.declared.Stream.{Stream}
 use Rattle.recording.specs.Stream.{cut, Feeding}
 use Rattle.recording.specs.Whole.{fed_all, opened_over}
 use Rattle.answer_sheet.specs.declared.Recording.{Recording}
@@ -41,9 +42,9 @@ whole_or_cut false = Recording.Whole
 unfoldable pub lines_after : Feeding → List Line
 lines_after x = go x.answer
   where
-    go : Fed → List Line
-    go (Fed.Took k) = lines_of (whole_or_cut (cut k)) k.bad k.receiver x.orders x.symbols
-    go (Fed.Refused r) = []
+    go : Result Stream Refusal → List Line
+    go (Ok k) = lines_of (whole_or_cut (cut k)) k.bad k.receiver x.orders x.symbols
+    go (Err r) = []
 
 -- the sheet of a recording in an edition, in chunks of any size, from a start with tables of o numbers and s bytes, a shelf of h, an index of i numbers or none, and a buffer w
 abbrev pub sheet_in : Edition → ℕ → ℕ → ℕ → ℕ → List ℕ → List (List ℕ) → List Line

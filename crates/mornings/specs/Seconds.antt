@@ -1,14 +1,14 @@
 -- Second copies where each body of the one receiver is given to the other as f of it: what the slots of both hold, and what each answers. A function cannot part what is the same,
 -- so that a repeat (13) stays one; it can make two bodies the same, and then a differing copy (14) becomes a repeat.
-use Rattle.std.specs.Prelude.{ℕ, ◌≤◌, ◌<◌, ◌≡◌, ◌≢◌, true, List, [], ◌∷◌, map, length, get_or}
+use Rattle.std.specs.Prelude.{ℕ, ◌≤◌, ◌<◌, ◌≡◌, ◌≢◌, true, List, [], ◌∷◌, map, length, get_or, Result, Ok}
 use Rattle.wire.specs.Records.{Rec, rec}
 use Rattle.arbitration.specs.Slots.{Slot, slot_for}
 use Rattle.arbitration.specs.Engine.{Engine, Store}
 use Rattle.arbitration.specs.Receive.{Answer, repeated, differing, Said, counts_of, State, slot_of, after}
 use Rattle.arbitration.specs.Meaning.{Close, CountsAlike}
 use Rattle.arbitration.specs.declared.Counts.{Counts}
+use Rattle.packet.specs.declared.Why.{Why}
 use Rattle.receiver.specs.declared.Account.{Account}
-use Rattle.receiver.specs.declared.Received.{Received}
 use Rattle.retype.specs.Retyped.{is_update}
 use Rattle.mornings.specs.Alongside.{Refusing}
 
@@ -78,9 +78,9 @@ pub record AccountTo (f : List ℕ → List ℕ) (S : Store) (E : Engine) (r : S
   pub answers : SaidTo f S E r cs before converted
 
 -- both accept, or both refuse, by whichever numbers
-pub data ReceivedTo (f : List ℕ → List ℕ) (S : Store) (E : Engine) (r : State S E) (cs : List Rec) : Received → Received → Type 0 where
-  accepted_to : {x y : Account} → AccountTo f S E r cs x y → ReceivedTo f S E r cs (Received.Accepted x) (Received.Accepted y)
-  refused_to : {u v : Received} → Refusing u → Refusing v → ReceivedTo f S E r cs u v
+pub data ReceivedTo (f : List ℕ → List ℕ) (S : Store) (E : Engine) (r : State S E) (cs : List Rec) : Result Account Why → Result Account Why → Type 0 where
+  accepted_to : {x y : Account} → AccountTo f S E r cs x y → ReceivedTo f S E r cs (Ok x) (Ok y)
+  refused_to : {u v : Result Account Why} → Refusing u → Refusing v → ReceivedTo f S E r cs u v
 
 -- ---- where f writes byte 20 of Symbol Updates anew
 -- two Symbol Updates of the same length that differ in byte 20, and in no other

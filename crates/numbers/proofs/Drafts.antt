@@ -23,7 +23,8 @@ use Rattle.layout.proofs.Laws.{fields_back, body_back}
 use Rattle.fields.specs.Fields.{decoded}
 use Rattle.body.specs.Faults.{tests, fault_from}
 use Rattle.body.specs.Read.{judge_body, judged_number, message, read_body, good_body}
-use Rattle.body.specs.declared.Judged.{Judged}
+use Rattle.std.specs.Prelude.{Result, Ok, Err}
+use Rattle.fields.specs.declared.Fault.{Fault}
 use Rattle.body.proofs.Laws.{Framed, JudgedAs, judge_sound, judge_number}
 use Rattle.trips.proofs.Messages.{framed_written, judged_written}
 use Rattle.numbers.specs.Numbers.{fields_of, text_of}
@@ -155,10 +156,10 @@ good_read : (ed : Edition) (b : List ℕ) → good_body ed b ≡ true → Framed
 unfolding good_body read_body message
 good_read ed b h = go (judge_body ed b) (judge_sound ed b) (eqb-true (judged_number (judge_body ed b)) 0 h)
   where
-    go : (j : Judged) → JudgedAs ed j b → judged_number j ≡ 0 → Framed (kind_of (get_or b 0 0)) b × (message j b ≡ decoded (kind_of (get_or b 0 0)) b)
-    go (Judged.Good k) s z = (subst (λ (y : Kind). Framed y b) s.0 s.1, ap (λ (y : Kind). decoded y b) s.0)
-    go (Judged.Bad f) (inl s) z = absurd (omega (arith, s.0))
-    go (Judged.Bad f) (inr s) z = absurd (omega (arith, s.0))
+    go : (j : Result Kind Fault) → JudgedAs ed j b → judged_number j ≡ 0 → Framed (kind_of (get_or b 0 0)) b × (message j b ≡ decoded (kind_of (get_or b 0 0)) b)
+    go (Ok k) s z = (subst (λ (y : Kind). Framed y b) s.0 s.1, ap (λ (y : Kind). decoded y b) s.0)
+    go (Err f) (inl s) z = absurd (omega (arith, s.0))
+    go (Err f) (inr s) z = absurd (omega (arith, s.0))
 
 -- what is read of it stands for its fields, and its type is the kind's
 module _ (ed : Edition) (b : List ℕ) (good : good_body ed b ≡ true) where

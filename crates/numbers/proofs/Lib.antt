@@ -1,5 +1,4 @@
 pub mod Types
-pub mod Cases
 pub mod Texts
 pub mod Drafts
 pub mod Held

@@ -1,11 +1,10 @@
 -- A message written from eight numbers and 28 bytes (docs/WRITE.md, "A message as eight numbers and 28 bytes"): which fields they stand for, whether the numbers fit into the bytes of their fields, and the body. The numbers l and the
 -- bytes x may be any lists: one that is not there counts as 0.
-use Rattle.std.specs.Prelude.{ℕ, ◌^◌, ◌<◌, Bool, true, ◌&&◌, List, [], ◌∷◌, eqb, leb, ltb, get_or, take, replicate}
-use Rattle.facts.specs.Limits.{entry_size}
+use Rattle.std.specs.Prelude.{ℕ, ◌^◌, Bool, true, List, [], ◌∷◌, eqb, ltb, get_or, take, Result, Ok, Err}
 use Rattle.facts.specs.Pick.{pick, both}
 use Rattle.editions.specs.declared.Edition.{Edition}
 use Rattle.wire.specs.Le.{padded}
-use Rattle.kinds.specs.Table.{length_of, kind_of, kind_length, refusal_of}
+use Rattle.kinds.specs.Table.{length_of, kind_of, refusal_of}
 use Rattle.kinds.specs.declared.Kind.{Kind}
 use Rattle.layout.specs.Shape.{Shape, byte, number, text, Value, Values}
 use Rattle.layout.specs.Layout.{shapes, Fields, body_for}
@@ -22,7 +21,8 @@ use Rattle.fields.specs.declared.OrderExecution.{OrderExecution}
 use Rattle.fields.specs.declared.Trade.{Trade}
 use Rattle.fields.specs.declared.TradeCancel.{TradeCancel}
 use Rattle.body.specs.Read.{judge_body, judged_number}
-use Rattle.numbers.specs.declared.Draft.{Draft}
+use Rattle.fields.specs.Fields.{refusal}
+use Rattle.fields.specs.declared.Refusal.{Refusal}
 
 -- ---- the message that they are, in the places in which reading gives it (Numbers)
 abbrev pub time_from : List ℕ → ℕ
@@ -121,46 +121,36 @@ number_from ed k l x =
 abbrev pub draft_number : Edition → List ℕ → List ℕ → ℕ
 draft_number ed l x = number_from ed (draft_kind l) l x
 
--- ---- by value: the number, the body's length, and its bytes with zeros behind them; nothing but the number where it is refused
-abbrev pub refused_draft : ℕ → Draft
-refused_draft n = record { why = n; len = 0; bytes = replicate entry_size 0 }
+-- ---- the body, or the number alone where it is refused
+unfoldable pub draft_from : Edition → Kind → List ℕ → List ℕ → Result (List ℕ) Refusal
+draft_from ed k l x = pick (eqb (number_from ed k l x) 0) (Ok (body_from ed k l x)) (Err (refusal (number_from ed k l x)))
 
--- "Its length is that of its type in the one table of types and lengths"
-abbrev pub good_draft : Kind → List ℕ → Draft
-good_draft k b = record { why = 0; len = kind_length k; bytes = padded b 0 entry_size }
-
-unfoldable pub draft_from : Edition → Kind → List ℕ → List ℕ → Draft
-draft_from ed k l x = pick (eqb (number_from ed k l x) 0) (good_draft k (body_from ed k l x)) (refused_draft (number_from ed k l x))
-
-abbrev pub draft_of : Edition → List ℕ → List ℕ → Draft
+abbrev pub draft_of : Edition → List ℕ → List ℕ → Result (List ℕ) Refusal
 draft_of ed l x = draft_from ed (draft_kind l) l x
 
 -- ---- inside: what private functions test and hold
--- each number behind the type is at most its own of seven
-abbrev pub within : List ℕ → List ℕ → Bool
-within l m =
-    leb (get_or l 1 0) (get_or m 0 0)
-    && (leb (get_or l 2 0) (get_or m 1 0)
-    && (leb (get_or l 3 0) (get_or m 2 0)
-    && (leb (get_or l 4 0) (get_or m 3 0)
-    && (leb (get_or l 5 0) (get_or m 4 0)
-    && (leb (get_or l 6 0) (get_or m 5 0)
-    && leb (get_or l 7 0) (get_or m 6 0))))))
+-- the largest of each number behind the type, of one, two, four and eight bytes; a number that the message does not have may be anything, and so may the Security Type where it is reserved
+abbrev pub most_security : Edition → ℕ
+most_security Edition.V13 = 255
+most_security Edition.V13b = 18446744073709551615
 
--- each number behind the type has 64 bits, as in any lent array of such numbers
-abbrev pub Words : List ℕ → Type 0
-Words l =
-    (get_or l 1 0 < 256 ^ 8)
-    × (get_or l 2 0 < 256 ^ 8)
-    × (get_or l 3 0 < 256 ^ 8)
-    × (get_or l 4 0 < 256 ^ 8)
-    × (get_or l 5 0 < 256 ^ 8)
-    × (get_or l 6 0 < 256 ^ 8)
-    × (get_or l 7 0 < 256 ^ 8)
+abbrev pub most : Edition → Kind → List ℕ
+most ed Kind.SystemTime = 4294967295 ∷ 18446744073709551615 ∷ 18446744073709551615 ∷ 18446744073709551615 ∷ 18446744073709551615 ∷ 18446744073709551615 ∷ 18446744073709551615 ∷ []
+most ed Kind.SymbolUpdate = 4294967295 ∷ 65535 ∷ 255 ∷ most_security ed ∷ 4294967295 ∷ 255 ∷ 255 ∷ []
+most ed Kind.SystemState = 4294967295 ∷ 255 ∷ 255 ∷ 18446744073709551615 ∷ 18446744073709551615 ∷ 18446744073709551615 ∷ 18446744073709551615 ∷ []
+most ed Kind.TradingStatus = 4294967295 ∷ 4294967295 ∷ 255 ∷ 255 ∷ 255 ∷ 18446744073709551615 ∷ 18446744073709551615 ∷ []
+most ed Kind.SymbolClear = 4294967295 ∷ 4294967295 ∷ 18446744073709551615 ∷ 18446744073709551615 ∷ 18446744073709551615 ∷ 18446744073709551615 ∷ 18446744073709551615 ∷ []
+most ed Kind.Add = 4294967295 ∷ 4294967295 ∷ 18446744073709551615 ∷ 255 ∷ 18446744073709551615 ∷ 4294967295 ∷ 4294967295 ∷ []
+most ed Kind.Modify = 4294967295 ∷ 4294967295 ∷ 18446744073709551615 ∷ 18446744073709551615 ∷ 4294967295 ∷ 255 ∷ 18446744073709551615 ∷ []
+most ed Kind.Delete = 4294967295 ∷ 4294967295 ∷ 18446744073709551615 ∷ 18446744073709551615 ∷ 18446744073709551615 ∷ 18446744073709551615 ∷ 18446744073709551615 ∷ []
+most ed Kind.Execution = 4294967295 ∷ 4294967295 ∷ 18446744073709551615 ∷ 18446744073709551615 ∷ 18446744073709551615 ∷ 4294967295 ∷ 255 ∷ []
+most ed Kind.Trade = 4294967295 ∷ 4294967295 ∷ 18446744073709551615 ∷ 255 ∷ 18446744073709551615 ∷ 4294967295 ∷ 255 ∷ []
+most ed Kind.TradeCancel = 4294967295 ∷ 4294967295 ∷ 18446744073709551615 ∷ 255 ∷ 18446744073709551615 ∷ 4294967295 ∷ 18446744073709551615 ∷ []
+most ed Kind.Unknown = 18446744073709551615 ∷ 18446744073709551615 ∷ 18446744073709551615 ∷ 18446744073709551615 ∷ 18446744073709551615 ∷ 18446744073709551615 ∷ 18446744073709551615 ∷ []
 
 -- of bytes that hold a body in front, by the length of its type
-unfoldable pub held_draft : Edition → List ℕ → Draft
+unfoldable pub held_draft : Edition → List ℕ → Result (List ℕ) Refusal
 held_draft ed w =
     pick (eqb (judged_number (judge_body ed (take (length_of (get_or w 0 0)) w))) 0)
-    (record { why = 0; len = length_of (get_or w 0 0); bytes = w })
-    (refused_draft (judged_number (judge_body ed (take (length_of (get_or w 0 0)) w))))
+    (Ok (take (length_of (get_or w 0 0)) w))
+    (Err (refusal (judged_number (judge_body ed (take (length_of (get_or w 0 0)) w)))))

@@ -1,10 +1,9 @@
 -- A message as eight numbers and 28 bytes (docs/WRITE.md). The numbers: its type, those of the message in the order of their places (docs/MESSAGES.md), but for a Symbol Update, then zeros. The types are
 -- those of the one table ("The types and lengths of all eleven messages stand in one table"). The bytes: what is no number, then zeros.
-use Rattle.std.specs.Prelude.{ℕ, List, [], ◌∷◌, ◌++◌, replicate}
+use Rattle.std.specs.Prelude.{ℕ, List, [], ◌∷◌, ◌++◌, replicate, Option, Some, None}
 use Rattle.kinds.specs.declared.Kind.{Kind}
 use Rattle.kinds.specs.Table.{type_of}
 use Rattle.editions.specs.declared.Edition.{Edition}
-use Rattle.fields.specs.Fields.{update_of, state_of}
 use Rattle.fields.specs.declared.TradingStatus.{TradingStatus}
 use Rattle.fields.specs.declared.SymbolClear.{SymbolClear}
 use Rattle.fields.specs.declared.AddOrder.{AddOrder}
@@ -17,19 +16,18 @@ use Rattle.fields.specs.declared.SymbolUpdate.{SymbolUpdate}
 use Rattle.fields.specs.declared.SystemState.{SystemState}
 use Rattle.fields.specs.declared.Body.{Body}
 use Rattle.body.specs.Shown.{security_in}
-use Rattle.body.specs.declared.Security.{Security}
 
 -- the first of the eight is the type, t in what follows
 abbrev pub eight : ℕ → ℕ → ℕ → ℕ → ℕ → ℕ → ℕ → ℕ → List ℕ
 eight a b c d e f g h = a ∷ b ∷ c ∷ d ∷ e ∷ f ∷ g ∷ h ∷ []
 
 -- byte 20 of a Symbol Update is a field in 1.3 alone (request 10)
-abbrev pub type_number : Security → ℕ
-type_number (Security.Type x) = x
-type_number Security.Reserved = 0
+abbrev pub type_number : Option ℕ → ℕ
+type_number (Some x) = x
+type_number None = 0
 
 -- Symbol Update: symbol, lot, market, the Security Type in 1.3, nanoseconds, test indicator, byte 22; those that the table and the sheet show stand first
-abbrev pub update_fields : ℕ → SymbolUpdate → Security → List ℕ
+abbrev pub update_fields : ℕ → SymbolUpdate → Option ℕ → List ℕ
 update_fields t m y = eight t m.symbol.id m.symbol.lot m.symbol.market (type_number y) m.nanos m.test m.reserved
 
 -- System State: nanoseconds, session, status
@@ -68,11 +66,11 @@ trade_fields t m = eight t m.nanos m.symbol m.trade m.correction m.price m.size 
 abbrev pub cancel_fields : ℕ → TradeCancel → List ℕ
 cancel_fields t m = eight t m.nanos m.symbol m.trade m.correction m.price m.size 0
 
--- the numbers of a message behind its type, and of the body that holds those of a Symbol Update and of a System State; System Time is its second
+-- the numbers of a message behind its type, and of the body that holds the Security Type of a Symbol Update; System Time is its second
 abbrev pub typed : Edition → ℕ → Body → List ℕ → List ℕ
 typed ed t (Body.SystemTime n) b = eight t n 0 0 0 0 0 0
-typed ed t Body.SymbolUpdate b = update_fields t (update_of b) (security_in ed b)
-typed ed t Body.SystemState b = state_fields t (state_of b)
+typed ed t (Body.SymbolUpdate m) b = update_fields t m (security_in ed b)
+typed ed t (Body.SystemState m) b = state_fields t m
 typed ed t (Body.TradingStatus m) b = status_fields t m
 typed ed t (Body.SymbolClear m) b = clear_fields t m
 typed ed t (Body.Add m) b = add_fields t m
@@ -86,8 +84,8 @@ typed ed t (Body.Bad r) b = eight t 0 0 0 0 0 0 0
 -- the kind of a message
 abbrev pub kind_in : Body → Kind
 kind_in (Body.SystemTime n) = Kind.SystemTime
-kind_in Body.SymbolUpdate = Kind.SymbolUpdate
-kind_in Body.SystemState = Kind.SystemState
+kind_in (Body.SymbolUpdate m) = Kind.SymbolUpdate
+kind_in (Body.SystemState m) = Kind.SystemState
 kind_in (Body.TradingStatus m) = Kind.TradingStatus
 kind_in (Body.SymbolClear m) = Kind.SymbolClear
 kind_in (Body.Add m) = Kind.Add
@@ -107,12 +105,12 @@ abbrev pub text_size : ℕ
 text_size = 28
 
 -- byte 20 where it is reserved; where it is the Security Type, it stands among the numbers
-abbrev pub reserved_byte : Security → ℕ → ℕ
-reserved_byte (Security.Type x) y = 0
-reserved_byte Security.Reserved y = y
+abbrev pub reserved_byte : Option ℕ → ℕ → ℕ
+reserved_byte (Some x) y = 0
+reserved_byte None y = y
 
 -- Symbol Update: ticker, opening, closing, byte 20
-abbrev pub update_text : SymbolUpdate → Security → List ℕ
+abbrev pub update_text : SymbolUpdate → Option ℕ → List ℕ
 update_text m y = m.symbol.ticker ++ (m.symbol.opening ++ (m.symbol.closing ++ (reserved_byte y m.security ∷ [])))
 
 -- System State: version
@@ -124,8 +122,8 @@ no_text = replicate text_size 0
 
 abbrev pub text_of : Edition → Body → List ℕ → List ℕ
 text_of ed (Body.SystemTime n) b = no_text
-text_of ed Body.SymbolUpdate b = update_text (update_of b) (security_in ed b)
-text_of ed Body.SystemState b = state_text (state_of b)
+text_of ed (Body.SymbolUpdate m) b = update_text m (security_in ed b)
+text_of ed (Body.SystemState m) b = state_text m
 text_of ed (Body.TradingStatus m) b = no_text
 text_of ed (Body.SymbolClear m) b = no_text
 text_of ed (Body.Add m) b = no_text

@@ -1,7 +1,7 @@
 // A message as eight numbers and 28 bytes of text, as C has it (docs/WRITE.md), both ways: read into them, and written from them.
 #![tactic(auto)]
 
-ghost use Rattle.std.specs.Prelude.{◌≡◌, [], ◌∷◌, ◌++◌, length, get_or};
+ghost use Rattle.std.specs.Prelude.{ℕ, ◌≡◌, ◌<◌, ◌≤◌, List, [], ◌∷◌, ◌++◌, take, get_or};
 ghost use Rattle.body.specs.Shown.{security_in};
 ghost use Rattle.fields.specs.Fields.{update_of, state_of, decoded};
 ghost use Rattle.fields.specs.Messages.{system_time, symbol_update, system_state, trading_status, symbol_clear, add_order, modify_order, delete_order, order_execution, trade, trade_cancel};
@@ -9,37 +9,43 @@ ghost use Rattle.kinds.specs.Table.{kind_of};
 ghost use Rattle.layout.specs.Layout.{FieldsFit};
 ghost use Rattle.layout.specs.Message.{written, Fit};
 ghost use Rattle.wire.specs.Le.{padded};
-ghost use Rattle.numbers.specs.Drafts.{time_from, security_from, symbol_from, update_from, state_from, status_from, clear_from, add_from, modify_from, delete_from, execution_from, trade_from, cancel_from, fields_from, draft_fits, within as is_within, Words, body_from, refused_draft, held_draft, draft_of};
-ghost use Rattle.numbers.specs.Numbers.{type_number, update_fields, state_fields, status_fields, clear_fields, add_fields, modify_fields, delete_fields, execution_fields, trade_fields, cancel_fields, typed, reserved_byte, update_text, state_text, text_of};
+ghost use Rattle.numbers.specs.Drafts.{time_from, security_from, symbol_from, update_from, state_from, status_from, clear_from, add_from, modify_from, delete_from, execution_from, trade_from, cancel_from, fields_from, most, draft_fits, body_from, held_draft, draft_of};
+ghost use Rattle.numbers.specs.Numbers.{update_fields, state_fields, status_fields, clear_fields, add_fields, modify_fields, delete_fields, execution_fields, trade_fields, cancel_fields, typed, reserved_byte, update_text, state_text, text_of};
 
-use body::Security;
 use editions::Edition;
 use fields::{
-    AddOrder, DeleteOrder, ModifyOrder, OrderExecution, Symbol, SymbolClear, SymbolUpdate,
+    AddOrder, DeleteOrder, ModifyOrder, OrderExecution, Refusal, Symbol, SymbolClear, SymbolUpdate,
     SystemState, Trade, TradeCancel, TradingStatus,
 };
 use kinds::Kind;
+use std::marker::Model;
+use wire::Number;
 
-// A body from numbers and text: why there is none, or 0; its length; its bytes, with zeros behind them.
-#[derive(Clone, Copy)]
+// A body from numbers and text: as many bytes as it has, in front of zeros.
+#[derive(Drop)]
 pub struct Draft {
-    pub why: u8,
-    pub len: usize,
-    pub bytes: [u8; 42],
+    len: usize,
+    bytes: [u8; 42],
 }
 
-// The Security Type, 0 where there is none.
-fn type_number(y: Security) -> u64
-    ensures { result ≡ type_number y }
-{
-    match y {
-        Security::Type(x) => x as u64,
-        Security::Reserved => 0,
+impl Model for Draft {
+    ghost Value = { List ℕ };
+
+    ghost view = { λ d. take d.len d.bytes };
+
+    ghost invariant = { λ d. d.len ≤ 42 };
+}
+
+impl Draft {
+    pub fn body(&self) -> &[u8]
+        ensures { result.now ≡ self.now }
+    {
+        &self.bytes[..self.len]
     }
 }
 
 // The numbers of each message: its type t first, zeros behind them. They stand in the order of their places, but for a Symbol Update's.
-fn update_fields(t: u64, m: SymbolUpdate, y: Security) -> [u64; 8]
+fn update_fields(t: u64, m: SymbolUpdate, y: Option<u8>) -> [u64; 8]
     ensures { result ≡ update_fields t m y }
 {
     let s = m.symbol;
@@ -48,7 +54,7 @@ fn update_fields(t: u64, m: SymbolUpdate, y: Security) -> [u64; 8]
         s.id as u64,
         s.lot as u64,
         s.market as u64,
-        type_number(y),
+        y.unwrap_or(0) as u64,
         m.nanos as u64,
         m.test as u64,
         m.reserved as u64,
@@ -173,12 +179,13 @@ fn cancel_fields(t: u64, s: TradeCancel) -> [u64; 8]
 }
 
 // The numbers of a body of a kind, whether in range or not: its type byte first.
+#[tactic(auto, unfolding(fields::specs::Fields::decoded))]
 pub fn fields_of(e: Edition, k: Kind, b: &[u8]) -> [u64; 8]
     ensures { result ≡ typed e (get_or b.now 0 0) (decoded k b.now) b.now }
 {
-    let t = wire::u8_at(b, 0) as u64;
+    let t = u8::at(b, 0) as u64;
     match k {
-        Kind::SystemTime => [t, wire::u32_at(b, 1) as u64, 0, 0, 0, 0, 0, 0],
+        Kind::SystemTime => [t, u32::at(b, 1) as u64, 0, 0, 0, 0, 0, 0],
         Kind::SymbolUpdate => update_fields(t, fields::update_of(b), body::security_in(e, b)),
         Kind::SystemState => state_fields(t, fields::state_of(b)),
         Kind::TradingStatus => status_fields(t, fields::status_of(b)),
@@ -194,12 +201,12 @@ pub fn fields_of(e: Edition, k: Kind, b: &[u8]) -> [u64; 8]
 }
 
 // Byte 20 where it is reserved, 0 where it is the Security Type, which stands among the numbers.
-fn reserved_byte(y: Security, x: u8) -> u8
+fn reserved_byte(y: Option<u8>, x: u8) -> u8
     ensures { result ≡ reserved_byte y x }
 {
     match y {
-        Security::Type(_) => 0,
-        Security::Reserved => x,
+        Some(_) => 0,
+        None => x,
     }
 }
 
@@ -211,7 +218,7 @@ fn laid(ticker: [u8; 11], opening: [u8; 8], closing: [u8; 8], last: u8) -> [u8; 
     wire::put_at(&mut out, 0, &ticker);
     wire::put_at(&mut out, 11, &opening);
     wire::put_at(&mut out, 19, &closing);
-    wire::put_byte(&mut out, 27, last);
+    last.put(&mut out, 27);
     out
 }
 
@@ -220,24 +227,21 @@ fn update_text(e: Edition, b: &[u8]) -> [u8; 28]
 {
     let m = fields::update_of(b);
     let s = m.symbol;
-    let ticker = s.ticker;
-    let opening = s.opening;
-    let closing = s.closing;
     let last = reserved_byte(body::security_in(e, b), m.security);
-    laid(ticker, opening, closing, last)
+    laid(s.ticker, s.opening, s.closing, last)
 }
 
 fn state_text(b: &[u8]) -> [u8; 28]
     ensures { result ≡ state_text (state_of b.now) }
 {
     let m = fields::state_of(b);
-    let version = m.version;
     let mut out = [0u8; 28];
-    wire::put_at(&mut out, 0, &version);
+    wire::put_at(&mut out, 0, &m.version);
     out
 }
 
 // The bytes of a body of a kind that are no numbers, zeros behind them.
+#[tactic(auto, unfolding(fields::specs::Fields::decoded))]
 pub fn text_of(e: Edition, k: Kind, b: &[u8]) -> [u8; 28]
     ensures { result ≡ text_of e (decoded k b.now) b.now }
 {
@@ -249,99 +253,75 @@ pub fn text_of(e: Edition, k: Kind, b: &[u8]) -> [u8; 28]
 }
 
 // The largest numbers of one, two, four and eight bytes.
-const ONE: u64 = 255;
+const ONE: u64 = u8::MAX as u64;
 
-const TWO: u64 = 65535;
+const TWO: u64 = u16::MAX as u64;
 
-const FOUR: u64 = 4294967295;
+const FOUR: u64 = u32::MAX as u64;
 
-const ANY: u64 = 18446744073709551615;
+const ANY: u64 = u64::MAX;
 
-// Each number behind the type is at most its own of seven. That they have 64 bits is said for callers, who do not read them.
-fn within(n: &[u64], most: [u64; 7]) -> bool
-    requires { length n.now ≡ 8 }
-    ensures { (result ≡ is_within n.now most) × Words n.now }
+// The largest of each number behind the type; one that the message does not have may be anything.
+fn most(e: Edition, k: Kind) -> [u64; 7]
+    ensures { result ≡ most e k }
 {
-    (n[1] <= most[0])
-        & ((n[2] <= most[1])
-            & ((n[3] <= most[2])
-                & ((n[4] <= most[3])
-                    & ((n[5] <= most[4]) & ((n[6] <= most[5]) & (n[7] <= most[6]))))))
+    match k {
+        Kind::SystemTime => [FOUR, ANY, ANY, ANY, ANY, ANY, ANY],
+        Kind::SymbolUpdate => match e {
+            Edition::V13 => [FOUR, TWO, ONE, ONE, FOUR, ONE, ONE],
+            Edition::V13b => [FOUR, TWO, ONE, ANY, FOUR, ONE, ONE],
+        },
+        Kind::SystemState => [FOUR, ONE, ONE, ANY, ANY, ANY, ANY],
+        Kind::TradingStatus => [FOUR, FOUR, ONE, ONE, ONE, ANY, ANY],
+        Kind::SymbolClear | Kind::Delete => [FOUR, FOUR, ANY, ANY, ANY, ANY, ANY],
+        Kind::Add => [FOUR, FOUR, ANY, ONE, ANY, FOUR, FOUR],
+        Kind::Modify => [FOUR, FOUR, ANY, ANY, FOUR, ONE, ANY],
+        Kind::Execution => [FOUR, FOUR, ANY, ANY, ANY, FOUR, ONE],
+        Kind::Trade => [FOUR, FOUR, ANY, ONE, ANY, FOUR, ONE],
+        Kind::TradeCancel => [FOUR, FOUR, ANY, ONE, ANY, FOUR, ANY],
+        Kind::Unknown => [ANY; 7],
+    }
+}
+
+// Whether each number fits its field. Of a text each byte does.
+fn fits(e: Edition, k: Kind, n: &[u64; 8]) -> bool
+    ensures { (t : List ℕ) → get_or t 27 0 < 256 → result ≡ draft_fits e k n.now t }
+{
+    let largest = most(e, k);
+    n[1..].iter().zip(largest.iter()).all(|(x, m)| x <= m)
 }
 
 // Byte 20 of a Symbol Update: in 1.3 the Security Type, which is a number, and later a byte of the text.
-fn security_from(e: Edition, n: &[u64; 8], t: &[u8; 28]) -> u64
+fn security_from(e: Edition, n: &[u64; 8], t: &[u8; 28]) -> u8
+    requires { security_from e n.now t.now < 256 }
     ensures { result ≡ security_from e n.now t.now }
 {
     match e {
-        Edition::V13 => n[4],
-        Edition::V13b => wire::u8_at(t, 27) as u64,
+        Edition::V13 => n[4] as u8,
+        Edition::V13b => t[27],
     }
 }
 
-// The numbers of a Symbol Update, in the order of their places, are no larger than their fields hold.
-fn update_fits(e: Edition, n: &[u64; 8], t: &[u8; 28]) -> bool
-    ensures { result ≡ draft_fits e Kind.SymbolUpdate n.now t.now }
-{
-    let security = security_from(e, n, t);
-    (n[5] <= FOUR)
-        & ((n[1] <= FOUR)
-            & ((security <= ONE)
-                & ((n[6] <= ONE) & ((n[7] <= ONE) & ((n[2] <= TWO) & (n[3] <= ONE))))))
-}
-
-// The same of any message; a number that it does not have may be anything.
-fn fits(e: Edition, k: Kind, n: &[u64; 8], t: &[u8; 28]) -> bool
-    ensures { result ≡ draft_fits e k n.now t.now }
-{
-    match k {
-        Kind::SystemTime => within(n, [FOUR, ANY, ANY, ANY, ANY, ANY, ANY]),
-        Kind::SymbolUpdate => update_fits(e, n, t),
-        Kind::SystemState => within(n, [FOUR, ONE, ONE, ANY, ANY, ANY, ANY]),
-        Kind::TradingStatus => within(n, [FOUR, FOUR, ONE, ONE, ONE, ANY, ANY]),
-        Kind::SymbolClear => within(n, [FOUR, FOUR, ANY, ANY, ANY, ANY, ANY]),
-        Kind::Add => within(n, [FOUR, FOUR, ANY, ONE, ANY, FOUR, FOUR]),
-        Kind::Modify => within(n, [FOUR, FOUR, ANY, ANY, FOUR, ONE, ANY]),
-        Kind::Delete => within(n, [FOUR, FOUR, ANY, ANY, ANY, ANY, ANY]),
-        Kind::Execution => within(n, [FOUR, FOUR, ANY, ANY, ANY, FOUR, ONE]),
-        Kind::Trade => within(n, [FOUR, FOUR, ANY, ONE, ANY, FOUR, ONE]),
-        Kind::TradeCancel => within(n, [FOUR, FOUR, ANY, ONE, ANY, FOUR, ANY]),
-        Kind::Unknown => true,
-    }
-}
-
-// A body, with zeros behind it.
-fn widen(b: &[u8]) -> [u8; 42]
-    ensures { result ≡ padded b.now 0 42 }
-{
-    let mut out = [0u8; 42];
-    wire::copy_at(b, 0, &mut out);
-    out
-}
-
-// The body of each message from its numbers, which are cut to the widths of their fields: they fit, so nothing is lost.
+// The body of each message from its numbers, in front of zeros: they fit their fields, so that nothing is lost.
 fn time_from(n: &[u64; 8]) -> [u8; 42]
     requires { Fit system_time (time_from n.now) }
     ensures { result ≡ padded (written system_time (time_from n.now)) 0 42 }
 {
-    let b = encode::time_body((n[1] % 4294967296) as u32);
-    widen(&b)
+    let b = encode::time_body(n[1] as u32);
+    wire::bytes_at(&b, 0)
 }
 
 fn symbol_from(n: &[u64; 8], t: &[u8; 28]) -> Symbol
     requires { (e : Edition) × Fit symbol_update (update_from e n.now t.now) }
     ensures { result ≡ symbol_from n.now t.now }
 {
-    let ticker = wire::eleven_at(t, 0);
-    let opening = wire::eight_at(t, 11);
-    let closing = wire::eight_at(t, 19);
     Symbol {
-        id: (n[1] % 4294967296) as u32,
-        ticker,
-        opening,
-        closing,
-        lot: (n[2] % 65536) as u16,
-        market: (n[3] % 256) as u8,
+        id: n[1] as u32,
+        ticker: wire::bytes_at(t, 0),
+        opening: wire::bytes_at(t, 11),
+        closing: wire::bytes_at(t, 19),
+        lot: n[2] as u16,
+        market: n[3] as u8,
     }
 }
 
@@ -349,30 +329,27 @@ fn update_from(e: Edition, n: &[u64; 8], t: &[u8; 28]) -> [u8; 42]
     requires { Fit symbol_update (update_from e n.now t.now) }
     ensures { result ≡ padded (written symbol_update (update_from e n.now t.now)) 0 42 }
 {
-    let symbol = symbol_from(n, t);
-    let security = security_from(e, n, t);
     let b = encode::update_body(SymbolUpdate {
-        nanos: (n[5] % 4294967296) as u32,
-        symbol,
-        security: (security % 256) as u8,
-        test: (n[6] % 256) as u8,
-        reserved: (n[7] % 256) as u8,
+        nanos: n[5] as u32,
+        symbol: symbol_from(n, t),
+        security: security_from(e, n, t),
+        test: n[6] as u8,
+        reserved: n[7] as u8,
     });
-    widen(&b)
+    wire::bytes_at(&b, 0)
 }
 
 fn state_from(n: &[u64; 8], t: &[u8; 28]) -> [u8; 42]
     requires { Fit system_state (state_from n.now t.now) }
     ensures { result ≡ padded (written system_state (state_from n.now t.now)) 0 42 }
 {
-    let version = wire::eight_at(t, 0);
     let b = encode::state_body(SystemState {
-        nanos: (n[1] % 4294967296) as u32,
-        version,
-        session: (n[2] % 256) as u8,
-        status: (n[3] % 256) as u8,
+        nanos: n[1] as u32,
+        version: wire::bytes_at(t, 0),
+        session: n[2] as u8,
+        status: n[3] as u8,
     });
-    widen(&b)
+    wire::bytes_at(&b, 0)
 }
 
 fn status_from(n: &[u64; 8]) -> [u8; 42]
@@ -380,13 +357,13 @@ fn status_from(n: &[u64; 8]) -> [u8; 42]
     ensures { result ≡ padded (written trading_status (status_from n.now)) 0 42 }
 {
     let b = encode::status_body(TradingStatus {
-        nanos: (n[1] % 4294967296) as u32,
-        symbol: (n[2] % 4294967296) as u32,
-        trading: (n[3] % 256) as u8,
-        market: (n[4] % 256) as u8,
-        short: (n[5] % 256) as u8,
+        nanos: n[1] as u32,
+        symbol: n[2] as u32,
+        trading: n[3] as u8,
+        market: n[4] as u8,
+        short: n[5] as u8,
     });
-    widen(&b)
+    wire::bytes_at(&b, 0)
 }
 
 fn clear_from(n: &[u64; 8]) -> [u8; 42]
@@ -394,10 +371,10 @@ fn clear_from(n: &[u64; 8]) -> [u8; 42]
     ensures { result ≡ padded (written symbol_clear (clear_from n.now)) 0 42 }
 {
     let b = encode::clear_body(SymbolClear {
-        nanos: (n[1] % 4294967296) as u32,
-        symbol: (n[2] % 4294967296) as u32,
+        nanos: n[1] as u32,
+        symbol: n[2] as u32,
     });
-    widen(&b)
+    wire::bytes_at(&b, 0)
 }
 
 fn add_from(n: &[u64; 8]) -> [u8; 42]
@@ -405,15 +382,15 @@ fn add_from(n: &[u64; 8]) -> [u8; 42]
     ensures { result ≡ padded (written add_order (add_from n.now)) 0 42 }
 {
     let b = encode::add_body(AddOrder {
-        nanos: (n[1] % 4294967296) as u32,
-        symbol: (n[2] % 4294967296) as u32,
+        nanos: n[1] as u32,
+        symbol: n[2] as u32,
         order: n[3],
-        side: (n[4] % 256) as u8,
+        side: n[4] as u8,
         price: n[5],
-        size: (n[6] % 4294967296) as u32,
-        attributable: (n[7] % 4294967296) as u32,
+        size: n[6] as u32,
+        attributable: n[7] as u32,
     });
-    widen(&b)
+    wire::bytes_at(&b, 0)
 }
 
 fn modify_from(n: &[u64; 8]) -> [u8; 42]
@@ -421,14 +398,14 @@ fn modify_from(n: &[u64; 8]) -> [u8; 42]
     ensures { result ≡ padded (written modify_order (modify_from n.now)) 0 42 }
 {
     let b = encode::modify_body(ModifyOrder {
-        nanos: (n[1] % 4294967296) as u32,
-        symbol: (n[2] % 4294967296) as u32,
+        nanos: n[1] as u32,
+        symbol: n[2] as u32,
         order: n[3],
         price: n[4],
-        size: (n[5] % 4294967296) as u32,
-        flags: (n[6] % 256) as u8,
+        size: n[5] as u32,
+        flags: n[6] as u8,
     });
-    widen(&b)
+    wire::bytes_at(&b, 0)
 }
 
 fn delete_from(n: &[u64; 8]) -> [u8; 42]
@@ -436,11 +413,11 @@ fn delete_from(n: &[u64; 8]) -> [u8; 42]
     ensures { result ≡ padded (written delete_order (delete_from n.now)) 0 42 }
 {
     let b = encode::delete_body(DeleteOrder {
-        nanos: (n[1] % 4294967296) as u32,
-        symbol: (n[2] % 4294967296) as u32,
+        nanos: n[1] as u32,
+        symbol: n[2] as u32,
         order: n[3],
     });
-    widen(&b)
+    wire::bytes_at(&b, 0)
 }
 
 fn execution_from(n: &[u64; 8]) -> [u8; 42]
@@ -448,15 +425,15 @@ fn execution_from(n: &[u64; 8]) -> [u8; 42]
     ensures { result ≡ padded (written order_execution (execution_from n.now)) 0 42 }
 {
     let b = encode::execution_body(OrderExecution {
-        nanos: (n[1] % 4294967296) as u32,
-        symbol: (n[2] % 4294967296) as u32,
+        nanos: n[1] as u32,
+        symbol: n[2] as u32,
         order: n[3],
         trade: n[4],
         price: n[5],
-        size: (n[6] % 4294967296) as u32,
-        flags: (n[7] % 256) as u8,
+        size: n[6] as u32,
+        flags: n[7] as u8,
     });
-    widen(&b)
+    wire::bytes_at(&b, 0)
 }
 
 fn trade_from(n: &[u64; 8]) -> [u8; 42]
@@ -464,15 +441,15 @@ fn trade_from(n: &[u64; 8]) -> [u8; 42]
     ensures { result ≡ padded (written trade (trade_from n.now)) 0 42 }
 {
     let b = encode::trade_body(Trade {
-        nanos: (n[1] % 4294967296) as u32,
-        symbol: (n[2] % 4294967296) as u32,
+        nanos: n[1] as u32,
+        symbol: n[2] as u32,
         trade: n[3],
-        correction: (n[4] % 256) as u8,
+        correction: n[4] as u8,
         price: n[5],
-        size: (n[6] % 4294967296) as u32,
-        flags: (n[7] % 256) as u8,
+        size: n[6] as u32,
+        flags: n[7] as u8,
     });
-    widen(&b)
+    wire::bytes_at(&b, 0)
 }
 
 fn cancel_from(n: &[u64; 8]) -> [u8; 42]
@@ -480,14 +457,14 @@ fn cancel_from(n: &[u64; 8]) -> [u8; 42]
     ensures { result ≡ padded (written trade_cancel (cancel_from n.now)) 0 42 }
 {
     let b = encode::cancel_body(TradeCancel {
-        nanos: (n[1] % 4294967296) as u32,
-        symbol: (n[2] % 4294967296) as u32,
+        nanos: n[1] as u32,
+        symbol: n[2] as u32,
         trade: n[3],
-        correction: (n[4] % 256) as u8,
+        correction: n[4] as u8,
         price: n[5],
-        size: (n[6] % 4294967296) as u32,
+        size: n[6] as u32,
     });
-    widen(&b)
+    wire::bytes_at(&b, 0)
 }
 
 // The body of any message; 42 zeros where the type is no message's.
@@ -511,46 +488,36 @@ fn body_from(e: Edition, k: Kind, n: &[u64; 8], t: &[u8; 28]) -> [u8; 42]
     }
 }
 
-fn refused(why: u8) -> Draft
-    ensures { result ≡ refused_draft why }
-{
-    Draft {
-        why,
-        len: 0,
-        bytes: [0u8; 42],
-    }
-}
-
 // Judges a body that stands in front of zeros, as long as its type has it in the table of kinds; a type that is no message's has length 0,
 // and is judged 3.
-fn judged(e: Edition, bytes: [u8; 42]) -> Draft
+fn judged(e: Edition, bytes: [u8; 42]) -> Result<Draft, Refusal>
     ensures { result ≡ held_draft e bytes }
 {
     let len = kinds::length_of(bytes[0]);
-    let c = body::judge(e, &bytes[..len]);
-    if c != 0 {
-        return refused((c % 256) as u8);
+    match body::judge(e, &bytes[..len]) {
+        Ok(()) => Ok(Draft { len, bytes }),
+        Err(f) => Err(Refusal { number: f.number }),
     }
-    Draft { why: 0, len, bytes }
 }
 
 // The kind of the message whose type a number is.
+#[tactic(auto, using(crate::proofs::Held::no_type))]
 fn kind_in(v: u64) -> Kind
     ensures { result ≡ kind_of v }
 {
-    if v < 256 {
-        return kinds::kind_of(v as u8);
+    match u8::try_from(v) {
+        Ok(t) => Kind::from(t),
+        Err(_) => Kind::Unknown,
     }
-    Kind::Unknown
 }
 
 // The body that eight numbers and 28 bytes stand for, or why it cannot be written.
-pub fn draft_of(e: Edition, n: &[u64; 8], t: &[u8; 28]) -> Draft
+pub fn draft_of(e: Edition, n: &[u64; 8], t: &[u8; 28]) -> Result<Draft, Refusal>
     ensures { result ≡ draft_of e n.now t.now }
 {
     let k = kind_in(n[0]);
-    if !fits(e, k, n, t) {
-        return refused(4);
+    if !fits(e, k, n) {
+        return Err(Refusal { number: 4 });
     }
     judged(e, body_from(e, k, n, t))
 }

@@ -9,7 +9,7 @@ ghost use Rattle.orders.specs.Work.{moves, remade, reduced, wiped, cleared, comm
 use rows::Row;
 
 // The work of a message on the order table: a row at its place, or the symbol whose rows go.
-#[derive(Clone, Copy)]
+#[derive(Clone, Copy, PartialEq, Eq, Debug)]
 pub enum RowWork {
     Keep,
     Put(usize, Row),
@@ -17,6 +17,7 @@ pub enum RowWork {
 }
 
 // Bit 0 of a Modify's flags.
+#[tactic(auto, unfolding(crate::specs::Work::moves))]
 pub fn loses_place(flags: u8) -> bool
     ensures { result ≡ moves flags }
 {
@@ -24,40 +25,28 @@ pub fn loses_place(flags: u8) -> bool
 }
 
 // Whoever moves to the back takes the sequence number as rank.
+#[tactic(auto, unfolding(crate::specs::Work::remade, facts::specs::Pick::pick))]
 pub fn remake(old: Row, price: u64, size: u64, moved: bool, number: u64) -> Row
     ensures { result ≡ remade price size moved number old }
 {
-    if moved {
-        return Row {
-            order: old.order,
-            key: old.key,
-            price,
-            size,
-            rank: number,
-        };
-    }
     Row {
-        order: old.order,
-        key: old.key,
         price,
         size,
-        rank: old.rank,
+        rank: if moved { number } else { old.rank },
+        ..old
     }
 }
 
 // The row with n shares fewer; at zero the order leaves.
+#[tactic(auto, unfolding(crate::specs::Work::reduced, facts::specs::Pick::pick))]
 pub fn reduce(r: Row, n: u64) -> Row
     ensures { result ≡ reduced n r }
 {
-    if r.size <= n {
-        return rows::zero_row();
-    }
-    Row {
-        order: r.order,
-        key: r.key,
-        price: r.price,
-        size: r.size - n,
-        rank: r.rank,
+    let size = r.size.saturating_sub(n);
+    if size == 0 {
+        rows::zero_row()
+    } else {
+        Row { size, ..r }
     }
 }
 
@@ -72,21 +61,19 @@ fn wipe(t: &mut [u64], i: usize, symbol: u64)
 fn clear(t: &mut [u64], symbol: u64)
     ensures { t.new ≡ cleared symbol t.old }
 {
-    let n = rows::row_count(t);
-    let mut i = 0;
-    while i < n {
+    for i in 0..rows::row_count(t) {
         wipe(t, i, symbol);
-        i += 1;
     }
 }
 
 // The one function that changes the order table.
+#[tactic(auto, unfolding(crate::specs::Work::committed))]
 pub fn commit(t: &mut [u64], w: RowWork)
     ensures { t.new ≡ committed w t.old }
 {
     match w {
         RowWork::Keep => {}
         RowWork::Put(i, r) => rows::put_row(t, i, r),
-        RowWork::Clear(symbol) => clear(t, symbol as u64),
+        RowWork::Clear(symbol) => clear(t, u64::from(symbol)),
     }
 }

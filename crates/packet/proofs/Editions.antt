@@ -18,27 +18,28 @@ use Rattle.fields.specs.Fields.{bad_at}
 use Rattle.fields.specs.declared.Fault.{Fault}
 use Rattle.body.specs.Read.{judge_body, good_body}
 use Rattle.body.specs.Editions.{IsUpdate, Lettered, Unlettered}
-use Rattle.body.specs.declared.Judged.{Judged}
+use Rattle.std.specs.Prelude.{Result, Ok, Err}
+use Rattle.packet.specs.declared.Why.{Why}
+use Rattle.kinds.specs.declared.Kind.{Kind}
 use Rattle.body.proofs.Laws.{Judgement, good as is_good, bad as is_bad, judgement}
 use Rattle.body.proofs.Editions.{good_lettered, no_update_alike, lettered_alike, older_alike, unlettered_refused, update_cases}
 use Rattle.packet.specs.Record.{number_ok, head_of, body_of, rec_of, shifted, body_judged, read_record}
-use Rattle.packet.specs.Packet.{placed, Framing, before, behind, frames_from, framing}
+use Rattle.packet.specs.Packet.{Framing, before, behind, frames_from, framing}
 use Rattle.packet.specs.Front.{Reached, at_front, past_good}
 use Rattle.packet.specs.Editions.{NoLetters, NoUpdates, TypeRefused}
-use Rattle.packet.specs.declared.Record.{Record}
 use Rattle.packet.proofs.Laws.{whole_record, frames_step, frames_end, first_bad}
 use Rattle.packet.proofs.Good.{AllGood, Fine, Step, step, step_end, framing_fine, framing_size}
 
 -- ---- a packet that is good in w, as r reads it: r judges each of its bodies as w does, or tells one that is Q by the fault f
 module _ (r w : Edition) (f : Fault) (Q : List ℕ → Type 0)
-    (each : (b : List ℕ) → good_body w b ≡ true → (judge_body r b ≡ judge_body w b) ⊎ ((judge_body r b ≡ Judged.Bad f) × Q b))
+    (each : (b : List ℕ) → good_body w b ≡ true → (judge_body r b ≡ judge_body w b) ⊎ ((judge_body r b ≡ Err f) × Q b))
     (p : List ℕ) (small : length p ≤ packet_most) where
   -- the first body that r tells, behind records that it takes
   record Told : Type 0 where
     at : ℕ
     reached : Reached r p at
     such : Q (body_of (drop at p))
-    refused : framing r p ≡ bad (placed (shifted at (shifted 10 f)))
+    refused : framing r p ≡ bad (Why.Placed (shifted at (shifted 10 f)))
 
   module _ (at : ℕ) (reached : Reached r p at) (inside : at < length p) (c : Rec) (cs : List Rec) (s : Step w p at (c ∷ cs)) where
     abbrev t : List ℕ
@@ -51,24 +52,24 @@ module _ (r w : Edition) (f : Fault) (Q : List ℕ → Type 0)
     unfolding number_ok both
     number_good = rw (le-leb 1 _ s.good.number_from, le-leb _ last_number s.good.number_to) refl
 
-    read_as : (j : Judged) → judge_body r (body_of t) ≡ j → read_record r t ≡ body_judged j (head_of t)
-    read_as j e = whole_record r t fits number_good ∙ ap (λ (x : Judged). body_judged x (head_of t)) e
+    read_as : (j : Result Kind Fault) → judge_body r (body_of t) ≡ j → read_record r t ≡ body_judged j (head_of t)
+    read_as j e = whole_record r t fits number_good ∙ ap (λ (x : Result Kind Fault). body_judged x (head_of t)) e
 
     -- told
-    told_here : judge_body r (body_of t) ≡ Judged.Bad f → Q (body_of t) → Told
+    told_here : judge_body r (body_of t) ≡ Err f → Q (body_of t) → Told
     unfolding body_judged
-    told_here e q = record { at = at; reached = reached; such = q; refused = first_bad r p at (shifted 10 f) small inside reached (read_as (Judged.Bad f) e) }
+    told_here e q = record { at = at; reached = reached; such = q; refused = first_bad r p at (shifted 10 f) small inside reached (read_as (Err f) e) }
 
     -- taken, as w takes it
-    taken_here : judge_body r (body_of t) ≡ judge_body w (body_of t) → read_record r t ≡ Record.Good (head_of t)
+    taken_here : judge_body r (body_of t) ≡ judge_body w (body_of t) → read_record r t ≡ Ok (head_of t)
     unfolding body_judged
     taken_here e = go (judgement w (body_of t))
       where
-        go : Judgement w (body_of t) → read_record r t ≡ Record.Good (head_of t)
-        go (is_good k g q z) = read_as (Judged.Good k) (e ∙ g)
+        go : Judgement w (body_of t) → read_record r t ≡ Ok (head_of t)
+        go (is_good k g q z) = read_as (Ok k) (e ∙ g)
         go (is_bad x g q h) = absurd (true≢false (sym s.good.body_good ∙ q))
 
-    then : (x : read_record r t ≡ Record.Good (head_of t)) → frames_from r (length p) (drop (at + (10 + (head_of t).len)) p) ≡ records cs → frames_from r (length p) t ≡ records (c ∷ cs)
+    then : (x : read_record r t ≡ Ok (head_of t)) → frames_from r (length p) (drop (at + (10 + (head_of t).len)) p) ≡ records cs → frames_from r (length p) t ≡ records (c ∷ cs)
     unfolding behind before
     then x e =
         let first : rec_of t ≡ c = cc in
@@ -95,11 +96,11 @@ module _ (r w : Edition) (f : Fault) (Q : List ℕ → Type 0)
           left : frames_from w (length p) (drop (at + (10 + (head_of (drop at p)).len)) p) ≡ records cs
           left = let q = s.first_is in let same : s.others ≡ cs = cc in s.next ∙ ap records same
 
-          by_rest : (x : read_record r (drop at p) ≡ Record.Good (head_of (drop at p))) → (frames_from r (length p) (drop (at + (10 + (head_of (drop at p)).len)) p) ≡ records cs) ⊎ Told → (frames_from r (length p) (drop at p) ≡ records (c ∷ cs)) ⊎ Told
+          by_rest : (x : read_record r (drop at p) ≡ Ok (head_of (drop at p))) → (frames_from r (length p) (drop (at + (10 + (head_of (drop at p)).len)) p) ≡ records cs) ⊎ Told → (frames_from r (length p) (drop at p) ≡ records (c ∷ cs)) ⊎ Told
           by_rest x (inl y) = inl (then at h l c cs s x y)
           by_rest x (inr y) = inr y
 
-          by_body : (judge_body r (body_of (drop at p)) ≡ judge_body w (body_of (drop at p))) ⊎ ((judge_body r (body_of (drop at p)) ≡ Judged.Bad f) × Q (body_of (drop at p))) → (frames_from r (length p) (drop at p) ≡ records (c ∷ cs)) ⊎ Told
+          by_body : (judge_body r (body_of (drop at p)) ≡ judge_body w (body_of (drop at p))) ⊎ ((judge_body r (body_of (drop at p)) ≡ Err f) × Q (body_of (drop at p))) → (frames_from r (length p) (drop at p) ≡ records (c ∷ cs)) ⊎ Told
           by_body (inl a) = let x = taken_here at h l c cs s a in by_rest x (on (at + (10 + (head_of (drop at p)).len)) (past_good at (head_of (drop at p)) h l x) left)
           by_body (inr b) = inr (told_here at h l c cs s b.0 b.1)
 
@@ -124,10 +125,10 @@ older_packet p cs e = go (read_so Edition.V13b Edition.V13 (bad_at 4 20) (λ b. 
     go (inr y) = absurd y.such
 
 -- ---- a packet of 1.3.b, read by 1.3
-by_letter : (b : List ℕ) → good_body Edition.V13b b ≡ true → (judge_body Edition.V13 b ≡ judge_body Edition.V13b b) ⊎ ((judge_body Edition.V13 b ≡ Judged.Bad (bad_at 4 20)) × Unlettered b)
+by_letter : (b : List ℕ) → good_body Edition.V13b b ≡ true → (judge_body Edition.V13 b ≡ judge_body Edition.V13b b) ⊎ ((judge_body Edition.V13 b ≡ Err (bad_at 4 20)) × Unlettered b)
 by_letter b g = go (update_cases b)
   where
-    go : (IsUpdate b → ⊥) ⊎ (Lettered b ⊎ Unlettered b) → (judge_body Edition.V13 b ≡ judge_body Edition.V13b b) ⊎ ((judge_body Edition.V13 b ≡ Judged.Bad (bad_at 4 20)) × Unlettered b)
+    go : (IsUpdate b → ⊥) ⊎ (Lettered b ⊎ Unlettered b) → (judge_body Edition.V13 b ≡ judge_body Edition.V13b b) ⊎ ((judge_body Edition.V13 b ≡ Err (bad_at 4 20)) × Unlettered b)
     go (inl n) = inl (no_update_alike Edition.V13 Edition.V13b b n)
     go (inr (inl l)) = inl (lettered_alike b l)
     go (inr (inr l)) = inr (unlettered_refused b g l, l)

@@ -9,22 +9,24 @@ use lib.ListN.{length, drop, length-drop}
 use Rattle.editions.specs.declared.Edition.{Edition}
 use Rattle.wire.specs.Records.{Rec, bad}
 use Rattle.fields.specs.Fields.{bad_at}
-use Rattle.body.specs.declared.Judged.{Judged}
+use Rattle.std.specs.Prelude.{Result, Err}
+use Rattle.packet.specs.declared.Why.{Why}
+use Rattle.fields.specs.declared.Fault.{Fault}
+use Rattle.kinds.specs.declared.Kind.{Kind}
 use Rattle.body.specs.Nanoseconds.{PastSecond}
 use Rattle.body.proofs.Nanoseconds.{past_judged, past_bad}
 use Rattle.packet.specs.Record.{number_ok, head_of, body_of, body_judged, read_record}
-use Rattle.packet.specs.declared.Record.{Record}
-use Rattle.packet.specs.Packet.{placed, framing}
+use Rattle.packet.specs.Packet.{framing}
 use Rattle.packet.specs.Nanoseconds.{PastIn}
 use Rattle.packet.proofs.Laws.{GoodRec, whole_record, first_bad}
 
 -- a record with nothing wrong before such a body
-past_record : (ed : Edition) (t : List ℕ) → 10 + (head_of t).len ≤ length t → number_ok (head_of t).number ≡ true → PastSecond (body_of t) → read_record ed t ≡ Record.Bad (bad_at 4 11)
+past_record : (ed : Edition) (t : List ℕ) → 10 + (head_of t).len ≤ length t → number_ok (head_of t).number ≡ true → PastSecond (body_of t) → read_record ed t ≡ Err (bad_at 4 11)
 unfolding body_judged
-past_record ed t w o p = whole_record ed t w o ∙ ap (λ (j : Judged). body_judged j (head_of t)) (past_judged ed (body_of t) p)
+past_record ed t w o p = whole_record ed t w o ∙ ap (λ (j : Result Kind Fault). body_judged j (head_of t)) (past_judged ed (body_of t) p)
 
 -- "Larger is refused with 4 and its offset": the packet whole, at the Timestamp
-pub past_packet : (ed : Edition) (p : List ℕ) (x : PastIn ed p) → framing ed p ≡ bad (placed (bad_at 4 (x.at + 11)))
+pub past_packet : (ed : Edition) (p : List ℕ) (x : PastIn ed p) → framing ed p ≡ bad (Why.Placed (bad_at 4 (x.at + 11)))
 past_packet ed p x =
     let t : List ℕ = drop x.at p in
     first_bad ed p x.at (bad_at 4 11) x.size (omega (arith, x.inside)) x.reached

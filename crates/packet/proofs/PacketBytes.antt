@@ -13,8 +13,11 @@ use Rattle.wire.specs.Records.{Rec, bad, records}
 use Rattle.wire.proofs.Bytewise.{bytes_take, bytes_drop}
 use Rattle.fields.specs.Fields.{refusal}
 use Rattle.packet.specs.Record.{body_of, rec_of, read_record}
-use Rattle.packet.specs.Packet.{alone, Framing, before, behind, frames_from, framing}
-use Rattle.packet.specs.declared.Record.{Record}
+use Rattle.packet.specs.Packet.{Framing, before, behind, frames_from, framing}
+use Rattle.std.specs.Prelude.{Result, Ok, Err}
+use Rattle.packet.specs.declared.Why.{Why}
+use Rattle.fields.specs.declared.Fault.{Fault}
+use Rattle.packet.specs.declared.Head.{Head}
 
 -- every record of a list has a body made of bytes
 abbrev pub AllBytes : List Rec → Type 0
@@ -34,10 +37,10 @@ unfolding before
 before_bytes n c (bad w) g f = tt
 before_bytes n c (records cs) g f = (g, f)
 
-behind_bytes : (rest : List ℕ → Framing) (t : List ℕ) (r : Record) → Bytes t → ((s : List ℕ) → Bytes s → Bytewise (rest s)) → Bytewise (behind rest t r)
+behind_bytes : (rest : List ℕ → Framing) (t : List ℕ) (r : Result Head Fault) → Bytes t → ((s : List ℕ) → Bytes s → Bytewise (rest s)) → Bytewise (behind rest t r)
 unfolding behind
-behind_bytes rest t (Record.Good x) h f = before_bytes (10 + x.len) (rec_of t) (rest (drop (10 + x.len) t)) (body_bytes t h) (f (drop (10 + x.len) t) (bytes_drop (10 + x.len) t h))
-behind_bytes rest t (Record.Bad w) h f = tt
+behind_bytes rest t (Ok x) h f = before_bytes (10 + x.len) (rec_of t) (rest (drop (10 + x.len) t)) (body_bytes t h) (f (drop (10 + x.len) t) (bytes_drop (10 + x.len) t h))
+behind_bytes rest t (Err w) h f = tt
 
 frames_bytes : (ed : Edition) (f : ℕ) (t : List ℕ) → Bytes t → Bytewise (frames_from ed f t)
 unfolding frames_from
@@ -49,4 +52,4 @@ frames_bytes ed (suc f) t h =
 
 pub framing_bytes : (ed : Edition) (p : List ℕ) → Bytes p → Bytewise (framing ed p)
 unfolding framing
-framing_bytes ed p h = pick_ind Bytewise (both (leb 1 (length p)) (leb (length p) packet_most)) (frames_from ed (length p) p) (bad (alone (refusal 1))) (λ _. frames_bytes ed (length p) p h) (λ _. tt)
+framing_bytes ed p h = pick_ind Bytewise (both (leb 1 (length p)) (leb (length p) packet_most)) (frames_from ed (length p) p) (bad (Why.Alone (refusal 1))) (λ _. frames_bytes ed (length p) p h) (λ _. tt)

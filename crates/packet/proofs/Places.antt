@@ -20,24 +20,24 @@ use Rattle.fields.specs.declared.Fault.{Fault}
 use Rattle.body.specs.Places.{BadBody}
 use Rattle.body.proofs.Places.{field_within, body_small}
 use Rattle.packet.specs.Record.{number_ok, head_of, body_of, rec_of, shifted, read_record}
-use Rattle.packet.specs.Packet.{Why, placed, later, Framing, before, behind, frames_from, framing, read_packet}
+use Rattle.packet.specs.Packet.{later, Framing, before, behind, frames_from, framing, read_packet}
 use Rattle.packet.specs.Front.{Reached, at_front, past_good}
 use Rattle.packet.specs.Places.{BadRecord, no_room, bad_number, bad_body, BadPlace, FieldPlace, EndPlace}
 use Rattle.packet.specs.declared.Head.{Head}
-use Rattle.packet.specs.declared.Record.{Record}
-use Rattle.packet.specs.declared.Packet.{Packet}
+use Rattle.std.specs.Prelude.{Result, Ok, Err}
+use Rattle.packet.specs.declared.Why.{Why}
 use Rattle.packet.proofs.Laws.{Held, record_held, body_length, shift_shift, shift_none}
 use Rattle.packet.proofs.Good.{bad_framing}
 
 -- what is wrong from `at` on, where good records have led
 record Found (ed : Edition) (p : List ℕ) (at : ℕ) (w : Why) : Type 0 where
   fault : Fault
-  why_is : w ≡ placed fault
+  why_is : w ≡ Why.Placed fault
   place : BadPlace ed p (shifted at fault)
 
 -- the records behind a good one; `again` is what is known of a packet's rest with one turn less
 module _ (ed : Edition) (f : ℕ) (p : List ℕ) (again : (at : ℕ) (w : Why) → Reached ed p at → frames_from ed f (drop at p) ≡ bad w → Found ed p at w) (at : ℕ) (w : Why) (r : Reached ed p at) (l : at < length p) where
-  by_rest : (h : Head) → read_record ed (drop at p) ≡ Record.Good h → (x : Framing) → frames_from ed f (drop (10 + h.len) (drop at p)) ≡ x → before (10 + h.len) (rec_of (drop at p)) x ≡ bad w → Found ed p at w
+  by_rest : (h : Head) → read_record ed (drop at p) ≡ Ok h → (x : Framing) → frames_from ed f (drop (10 + h.len) (drop at p)) ≡ x → before (10 + h.len) (rec_of (drop at p)) x ≡ bad w → Found ed p at w
   unfolding before
   by_rest h g (records cs) x q = let z : ◌≡◌ {A = ℕ} 0 1 = cc in absurd (omega arith)
   by_rest h g (bad v) x q =
@@ -50,11 +50,11 @@ module _ (ed : Edition) (f : ℕ) (p : List ℕ) (again : (at : ℕ) (w : Why) �
         place = subst (BadPlace ed p) (sym (shift_shift at n u.fault)) u.place;
       }
 
-  by_record : (c : Record) → read_record ed (drop at p) ≡ c → Held ed c (drop at p) → behind (frames_from ed f) (drop at p) c ≡ bad w → Found ed p at w
+  by_record : (c : Result Head Fault) → read_record ed (drop at p) ≡ c → Held ed c (drop at p) → behind (frames_from ed f) (drop at p) c ≡ bad w → Found ed p at w
   unfolding behind
-  by_record (Record.Good h) g k q = by_rest h g (frames_from ed f (drop (10 + h.len) (drop at p))) refl q
-  by_record (Record.Bad a) g k q =
-      let y : placed a ≡ w = cc in
+  by_record (Ok h) g k q = by_rest h g (frames_from ed f (drop (10 + h.len) (drop at p))) refl q
+  by_record (Err a) g k q =
+      let y : Why.Placed a ≡ w = cc in
       record { fault = a; why_is = sym y; place = record { start = at; reached = r; inside = l; fault = a; record_bad = k; place_is = refl } }
 
 found : (ed : Edition) (f : ℕ) (p : List ℕ) (at : ℕ) (w : Why) → Reached ed p at → frames_from ed f (drop at p) ≡ bad w → Found ed p at w
@@ -69,18 +69,18 @@ found ed (suc f) p at w r e =
     ]
 
 -- "Demand 1 reads "number and offset" for these four": all records before the one at fault are good, and that one is bad by that number at that byte
-pub bad_place : (ed : Edition) (p : List ℕ) (f : Fault) → read_packet ed p ≡ Packet.Bad f → BadPlace ed p f
+pub bad_place : (ed : Edition) (p : List ℕ) (f : Fault) → read_packet ed p ≡ Err (Why.Placed f) → BadPlace ed p f
 unfolding framing
-bad_place ed p f e = elim (pick_cases (bad_framing ed p f e)) [ inl h ↦ at_start (found ed (length p) p 0 (placed f) at_front h.1) | inr h ↦ let q = h.1 in let z : ◌≡◌ {A = ℕ} 0 1 = cc in absurd (omega arith) ]
+bad_place ed p f e = elim (pick_cases (bad_framing ed p f e)) [ inl h ↦ at_start (found ed (length p) p 0 (Why.Placed f) at_front h.1) | inr h ↦ let q = h.1 in let z : ◌≡◌ {A = ℕ} 0 1 = cc in absurd (omega arith) ]
   where
-    at_start : Found ed p 0 (placed f) → BadPlace ed p f
+    at_start : Found ed p 0 (Why.Placed f) → BadPlace ed p f
     at_start u =
         let q = u.why_is in
         let y : u.fault ≡ f = cc in
         subst (BadPlace ed p) (shift_none u.fault ∙ y) u.place
 
 -- a packet that is refused with 4 has at that offset the first byte of a field out of range; all fields before it in that record are in range, and all records before that are good
-pub field_place : (ed : Edition) (p : List ℕ) (f : Fault) → read_packet ed p ≡ Packet.Bad f → f.number ≡ 4 → FieldPlace ed p f.at
+pub field_place : (ed : Edition) (p : List ℕ) (f : Fault) → read_packet ed p ≡ Err (Why.Placed f) → f.number ≡ 4 → FieldPlace ed p f.at
 field_place ed p f e n = go (bad_place ed p f e)
   where
     go : BadPlace ed p f → FieldPlace ed p f.at
@@ -96,7 +96,7 @@ field_place ed p f e n = go (bad_place ed p f e)
         by_record _ (bad_body g w o h) i = by_body g w o h i
 
 -- "the offset in the packet": below the packet's length, or equal to it just for an empty body at the end
-pub place_within : (ed : Edition) (p : List ℕ) (f : Fault) → read_packet ed p ≡ Packet.Bad f → (f.at < length p) ⊎ ((f.number ≡ 3) × EndPlace ed p f.at)
+pub place_within : (ed : Edition) (p : List ℕ) (f : Fault) → read_packet ed p ≡ Err (Why.Placed f) → (f.at < length p) ⊎ ((f.number ≡ 3) × EndPlace ed p f.at)
 place_within ed p f e = go (bad_place ed p f e)
   where
     go : BadPlace ed p f → (f.at < length p) ⊎ ((f.number ≡ 3) × EndPlace ed p f.at)
@@ -134,15 +134,15 @@ place_within ed p f e = go (bad_place ed p f e)
         by_record _ (bad_body g w o h) i = by_body g w h i
 
 -- ---- an offset is a small number
-pub record_small : (ed : Edition) (t : List ℕ) (f : Fault) → Record.Bad f ≡ read_record ed t → f.at ≤ 10 + entry_size
-record_small ed t f e = go f (subst (λ (r : Record). Held ed r t) (sym e) (record_held ed t))
+pub record_small : (ed : Edition) (t : List ℕ) (f : Fault) → Err f ≡ read_record ed t → f.at ≤ 10 + entry_size
+record_small ed t f e = go f (subst (λ (r : Result Head Fault). Held ed r t) (sym e) (record_held ed t))
   where
     go : (f : Fault) → BadRecord ed t f → f.at ≤ 10 + entry_size
     go _ (no_room l) = omega arith
     go _ (bad_number w o) = omega arith
     go _ (bad_body g w o h) = omega (arith, body_small ed (body_of t) g h)
 
-pub packet_small : (ed : Edition) (p : List ℕ) (f : Fault) → read_packet ed p ≡ Packet.Bad f → f.at ≤ packet_most
+pub packet_small : (ed : Edition) (p : List ℕ) (f : Fault) → read_packet ed p ≡ Err (Why.Placed f) → f.at ≤ packet_most
 unfolding framing
 packet_small ed p f e = elim (pick_cases (bad_framing ed p f e)) [ inl h ↦ within h.0 (place_within ed p f e) | inr h ↦ let q = h.1 in let z : ◌≡◌ {A = ℕ} 0 1 = cc in absurd (omega arith) ]
   where

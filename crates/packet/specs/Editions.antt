@@ -5,8 +5,9 @@ use Rattle.wire.specs.Records.{Rec, bad}
 use Rattle.fields.specs.Fields.{bad_at}
 use Rattle.body.specs.Editions.{IsUpdate, Lettered, Unlettered}
 use Rattle.packet.specs.Record.{body_of}
-use Rattle.packet.specs.Packet.{placed, framing}
+use Rattle.packet.specs.Packet.{framing}
 use Rattle.packet.specs.Front.{Reached}
+use Rattle.packet.specs.declared.Why.{Why}
 
 -- "if no reserved byte 20 is `E` or `F`", of a packet's records
 abbrev pub NoLetters : List Rec → Type 0
@@ -23,4 +24,4 @@ pub record TypeRefused (p : List ℕ) : Type 0 where
   pub at : ℕ
   pub reached : Reached Edition.V13 p at
   pub unlettered : Unlettered (body_of (drop at p))
-  pub refused : framing Edition.V13 p ≡ bad (placed (bad_at 4 (at + 30)))
+  pub refused : framing Edition.V13 p ≡ bad (Why.Placed (bad_at 4 (at + 30)))

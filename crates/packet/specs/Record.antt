@@ -1,5 +1,5 @@
 -- "A record is: sequence number, 8 bytes; body length, 2 bytes; body" (document 01, "From the tap"), and at which of its bytes it is bad (request 5).
-use Rattle.std.specs.Prelude.{ℕ, ◌+◌, ◌-◌, List, Bool, length, take, drop, ltb, leb}
+use Rattle.std.specs.Prelude.{ℕ, ◌+◌, ◌-◌, List, Bool, length, take, drop, ltb, leb, Result, Ok, Err}
 use Rattle.facts.specs.Limits.{last_number}
 use Rattle.facts.specs.Pick.{pick, both}
 use Rattle.editions.specs.declared.Edition.{Edition}
@@ -8,9 +8,8 @@ use Rattle.wire.specs.Records.{Rec}
 use Rattle.fields.specs.Fields.{bad_at}
 use Rattle.fields.specs.declared.Fault.{Fault}
 use Rattle.body.specs.Read.{judge_body}
-use Rattle.body.specs.declared.Judged.{Judged}
+use Rattle.kinds.specs.declared.Kind.{Kind}
 use Rattle.packet.specs.declared.Head.{Head}
-use Rattle.packet.specs.declared.Record.{Record}
 
 -- "Sequence numbers run from 1 to 1,000,000,000,000"
 unfoldable pub number_ok : ℕ → Bool
@@ -32,16 +31,16 @@ abbrev pub shifted : ℕ → Fault → Fault
 shifted n f = bad_at f.number (n + f.at)
 
 -- "for 2 the record's start, for 5 the number's start", which is the record's
-abbrev pub bad_record : ℕ → Record
-bad_record n = Record.Bad (bad_at n 0)
+abbrev pub bad_record : ℕ → Result Head Fault
+bad_record n = Err (bad_at n 0)
 
 -- 3 or 4, as the body's judge says, or the record; a body starts behind 10 bytes
-unfoldable pub body_judged : Judged → Head → Record
-body_judged (Judged.Good k) h = Record.Good h
-body_judged (Judged.Bad f) h = Record.Bad (shifted 10 f)
+unfoldable pub body_judged : Result Kind Fault → Head → Result Head Fault
+body_judged (Ok k) h = Ok h
+body_judged (Err f) h = Err (shifted 10 f)
 
 -- each record is judged by 2, 5, 3, 4
-unfoldable pub read_record : Edition → List ℕ → Record
+unfoldable pub read_record : Edition → List ℕ → Result Head Fault
 read_record ed t =
     pick (ltb (length t) 10) (bad_record 2)
     (pick (ltb (length t - 10) (field t 8 2)) (bad_record 2)
@@ -50,6 +49,6 @@ read_record ed t =
     (bad_record 5)))
 
 -- document 01's number of each answer, 0 for a good record
-abbrev pub record_number : Record → ℕ
-record_number (Record.Good h) = 0
-record_number (Record.Bad f) = f.number
+abbrev pub record_number : Result Head Fault → ℕ
+record_number (Ok h) = 0
+record_number (Err f) = f.number

@@ -2,388 +2,230 @@
 // read or write ends it.
 #![tactic(auto)]
 
-use body::Security;
-use editions::Edition;
-use fields::{
-    AddOrder, Body, DeleteOrder, Fault, ModifyOrder, OrderExecution, Symbol, SymbolClear,
-    SystemState, Trade, TradeCancel, TradingStatus,
-};
-use kinds::Kind;
-use packet::{Packet, Record};
-use std::env::Env;
-use std::io;
-use std::io::Read;
-use words::Named;
+ghost use Rattle.std.specs.Prelude.{length};
+ghost use Rattle.std.specs.Iterator.{at_most};
 
-// The longest packet that a two-byte length can announce.
-const LONGEST: usize = 65535;
+use editions::Edition;
+use fields::{Body, Fault, Symbol};
+use kinds::Kind;
+use packet::Why;
+use std::env::Env;
+use std::{fmt, io};
+use streams::{Spaced, Word};
+use wire::Number;
 
 fn main(rt: HostRuntime) -> io::Result<()> {
-    let mut held = [0u8; LONGEST];
-    answer(&rt, &mut held)
+    answer(&rt)
 }
 
-// The edition that the words ask for.
-fn edition_asked(rt: &impl Env) -> Named {
-    let mut first = [0u8; 16];
-    let mut second = [0u8; 16];
-    let n = streams::word(rt, 1, &mut first);
-    let m = streams::word(rt, 2, &mut second);
-    words::edition_asked(
+fn answer(rt: &(impl Env + Input + Print + Eprint)) -> io::Result<()> {
+    let asked = words::edition_asked(
         streams::word_count(rt, usize::MAX),
-        &first[..n],
-        &second[..m],
-    )
-}
-
-fn answer(rt: &(impl Env + Input + Print + Eprint), held: &mut [u8]) -> io::Result<()> {
-    match edition_asked(rt) {
-        Named::Known(e) => read_all(rt, &mut rt.reader(), e, held),
-        Named::Unknown => rt.eprintln(
+        Word::<16>::at(rt, 1).as_slice(),
+        Word::<16>::at(rt, 2).as_slice(),
+    );
+    let Some(e) = asked else {
+        return rt.eprintln(
             "rimeheath: read takes no word but --edition with 1.3, 1.3.a or 1.3.b; the recording comes on standard input",
-        ),
-    }
+        );
+    };
+    read_all(rt, e)
 }
 
 // A proved loop has to end, so it counts its packets up to a number that no recording reaches.
-fn read_all(rt: &impl Print, from: &mut impl Read, e: Edition, held: &mut [u8]) -> io::Result<()> {
+fn read_all(rt: &(impl Input + Print), e: Edition) -> io::Result<()> {
+    let mut held = [0; streams::LONGEST];
+    let mut from = rt.reader();
     for _ in 0..u64::MAX {
-        if !read_one(rt, from, e, held)? {
+        let Some(n) = streams::read_packet(&mut from, &mut held)? else {
             break;
-        }
+        };
+        show_packet(rt, e, &held[..n])?;
     }
     Ok(())
 }
 
-// One packet; false at the end of the input.
-fn read_one(
-    rt: &impl Print,
-    from: &mut impl Read,
-    e: Edition,
-    held: &mut [u8],
-) -> io::Result<bool> {
-    let mut length = [0u8; 2];
-    if streams::read_full(from, &mut length)? < 2 {
-        return Ok(false);
-    }
-    let n = wire::u16_at(&length, 0) as usize;
-    if !fill(from, held, n)? {
-        return Ok(false);
-    }
-    show_first(rt, e, held, n)?;
-    Ok(true)
-}
-
-fn fill(from: &mut impl Read, held: &mut [u8], n: usize) -> io::Result<bool> {
-    if held.len() < n {
-        return Ok(false);
-    }
-    Ok(streams::read_full(from, &mut held[..n])? == n)
-}
-
-fn show_first(rt: &impl Print, e: Edition, held: &[u8], n: usize) -> io::Result<()> {
-    if held.len() < n {
-        return Ok(());
-    }
-    show_packet(rt, e, &held[..n])
-}
-
 fn show_packet(rt: &impl Print, e: Edition, p: &[u8]) -> io::Result<()> {
     match packet::read_packet(e, p) {
-        Packet::Refused(r) => {
-            rt.print("refused")?;
-            also(rt, r.number as u64)?;
-            end_line(rt)
+        Err(Why::Alone(r)) => println!(rt; "refused {}", r.number),
+        Err(Why::Placed(f)) => {
+            print!(rt; "refused {} at {}: record", f.number, f.at)?;
+            show_first_bad(rt, e, p)
         }
-        Packet::Bad(f) => show_fault(rt, e, p, f),
-        Packet::Good(n) => {
-            rt.print("records ")?;
-            rt.print(n as u64)?;
-            end_line(rt)?;
+        Ok(n) => {
+            println!(rt; "records {n}")?;
             show_records(rt, e, p)
         }
     }
 }
 
-// Number and offset, and in words where a reader finds it: the record, counted from 1, and what in it is wrong.
-fn show_fault(rt: &impl Print, e: Edition, p: &[u8], f: Fault) -> io::Result<()> {
-    rt.print("refused")?;
-    also(rt, f.number as u64)?;
-    rt.print(" at")?;
-    also(rt, f.at as u64)?;
-    rt.print(": record")?;
-    show_first_bad(rt, e, p)?;
-    end_line(rt)
+// The records of a packet one by one, each with its header, by the lengths that the headers tell; the last may be cut.
+#[derive(Drop)]
+struct Records<'a>(&'a [u8]);
+
+impl<'a> Iterator for Records<'a> {
+    type Item = &'a [u8];
+
+    ghost remaining = { λ r. at_most (length r.0.now) };
+
+    fn next(&mut self) -> Option<&'a [u8]> {
+        if self.0.is_empty() {
+            return None;
+        }
+        let n = packet::head_at(self.0, 0).len.saturating_add(10);
+        let (t, rest) = self.0.split_at(n.min(self.0.len()));
+        self.0 = rest;
+        Some(t)
+    }
 }
 
-// Over the good records to the first bad one, which is counted from 1.
+// The first bad record, counted from 1, and what in it is wrong.
 fn show_first_bad(rt: &impl Print, e: Edition, p: &[u8]) -> io::Result<()> {
-    let mut at = 0;
-    let mut count: usize = 1;
-    while at < p.len() {
-        match packet::read_record(e, &p[at..]) {
-            Record::Bad(f) => {
-                also(rt, count as u64)?;
-                return show_bad(rt, &p[at..], f);
-            }
-            Record::Good(h) => {
-                let n = h.len;
-                if p.len() - at < 10 {
-                    return Ok(());
-                }
-                if p.len() - at - 10 < n {
-                    return Ok(());
-                }
-                at = at + 10 + n;
-                count = count + 1;
-            }
+    for (i, t) in (1..u64::MAX).zip(Records(p)) {
+        if let Err(f) = packet::read_record(e, t) {
+            print!(rt; " {i}, {}", slip_of(t, f))?;
+            break;
         }
     }
-    Ok(())
+    rt.println("")
 }
 
-// What is wrong in a bad record.
-fn show_bad(rt: &impl Print, t: &[u8], f: Fault) -> io::Result<()> {
-    let n = f.number;
-    if n == 5 {
-        return rt.print(", sequence number");
+// What is wrong in a bad record: of a message, where the record has one.
+#[derive(Clone, Copy)]
+struct Slip {
+    of: Option<Kind>,
+    what: &'static str,
+}
+
+impl fmt::Display for Slip {
+    fn fmt<W: fmt::Write>(&self, f: &mut fmt::Formatter<W>) -> fmt::Result {
+        if let Some(k) = self.of {
+            write!(f, "{}, ", name_of(k))?;
+        }
+        write!(f, "{}", self.what)
     }
-    if n == 2 {
-        return show_room(rt, t);
-    }
+}
+
+fn slip_of(t: &[u8], f: Fault) -> Slip {
     let b = packet::body_at(t, 0);
-    if b.len() == 0 {
-        return rt.print(", empty body");
-    }
-    let k = kinds::kind_of(wire::u8_at(b, 0));
-    show_kind(rt, k)?;
-    if n == 4 {
-        show_field(rt, k, f.at)
-    } else {
-        show_length(rt, k)
-    }
-}
-
-fn show_room(rt: &impl Print, t: &[u8]) -> io::Result<()> {
-    if t.len() < 10 {
-        rt.print(", unfinished header")
-    } else {
-        rt.print(", body past the end")
+    let k = Kind::from(u8::at(b, 0));
+    match f.number {
+        5 => alone("sequence number"),
+        2 if t.len() < 10 => alone("unfinished header"),
+        2 => alone("body past the end"),
+        _ if b.is_empty() => alone("empty body"),
+        4 => Slip {
+            of: Some(k),
+            what: field_at(k, f.at),
+        },
+        _ if k == Kind::Unknown => alone("unknown type"),
+        _ => Slip {
+            of: Some(k),
+            what: "wrong length",
+        },
     }
 }
 
-fn show_kind(rt: &impl Print, k: Kind) -> io::Result<()> {
+fn alone(what: &'static str) -> Slip {
+    Slip { of: None, what }
+}
+
+fn name_of(k: Kind) -> &'static str {
     match k {
-        Kind::SystemTime => rt.print(", System Time"),
-        Kind::SymbolUpdate => rt.print(", Symbol Update"),
-        Kind::SystemState => rt.print(", System State"),
-        Kind::TradingStatus => rt.print(", Security Trading Status"),
-        Kind::SymbolClear => rt.print(", Symbol Clear"),
-        Kind::Add => rt.print(", Add Order"),
-        Kind::Modify => rt.print(", Modify Order"),
-        Kind::Delete => rt.print(", Delete Order"),
-        Kind::Execution => rt.print(", Order Execution"),
-        Kind::Trade => rt.print(", Trade"),
-        Kind::TradeCancel => rt.print(", Trade Cancel"),
-        Kind::Unknown => rt.print(", unknown type"),
+        Kind::SystemTime => "System Time",
+        Kind::SymbolUpdate => "Symbol Update",
+        Kind::SystemState => "System State",
+        Kind::TradingStatus => "Security Trading Status",
+        Kind::SymbolClear => "Symbol Clear",
+        Kind::Add => "Add Order",
+        Kind::Modify => "Modify Order",
+        Kind::Delete => "Delete Order",
+        Kind::Execution => "Order Execution",
+        Kind::Trade => "Trade",
+        Kind::TradeCancel => "Trade Cancel",
+        Kind::Unknown => "unknown type",
     }
 }
 
-fn show_length(rt: &impl Print, k: Kind) -> io::Result<()> {
-    match k {
-        Kind::Unknown => Ok(()),
-        _ => rt.print(", wrong length"),
+// The judged field of a message that starts at a place of its record. The Timestamp is the first field of all that have one; price and size
+// stand side by side.
+fn field_at(k: Kind, at: usize) -> &'static str {
+    match (k, at) {
+        (_, 11) => "nanoseconds",
+        (Kind::SymbolUpdate, 30) => "security type",
+        (Kind::SymbolUpdate, 31) => "test indicator",
+        (Kind::SymbolUpdate, _) => "market",
+        (Kind::Add, 27) => "side",
+        (Kind::Modify, 27) | (Kind::Execution, 35) => "price",
+        (Kind::Modify | Kind::Execution, _) => "size",
+        (_, 28) => "price",
+        _ => "size",
     }
 }
 
-// The judged field of a message that starts at a place of its record. The Timestamp is the first field of all that have one.
-fn show_field(rt: &impl Print, k: Kind, at: usize) -> io::Result<()> {
-    if at == 11 {
-        return rt.print(", nanoseconds");
-    }
-    match k {
-        Kind::SymbolUpdate => show_letter(rt, at),
-        Kind::Add => show_order(rt, at),
-        Kind::Modify => show_deal(rt, at, 27),
-        Kind::Execution => show_deal(rt, at, 35),
-        _ => show_deal(rt, at, 28),
-    }
-}
-
-// The letters of a Symbol Update.
-fn show_letter(rt: &impl Print, at: usize) -> io::Result<()> {
-    if at == 30 {
-        rt.print(", security type")
-    } else if at == 31 {
-        rt.print(", test indicator")
-    } else {
-        rt.print(", market")
-    }
-}
-
-fn show_order(rt: &impl Print, at: usize) -> io::Result<()> {
-    if at == 27 {
-        rt.print(", side")
-    } else {
-        show_deal(rt, at, 28)
-    }
-}
-
-// Price and size stand side by side.
-fn show_deal(rt: &impl Print, at: usize, price: usize) -> io::Result<()> {
-    if at == price {
-        rt.print(", price")
-    } else {
-        rt.print(", size")
-    }
-}
-
+// Each record's number, the type byte, and the fields in the order of their places.
 fn show_records(rt: &impl Print, e: Edition, p: &[u8]) -> io::Result<()> {
-    let mut at = 0;
-    while at < p.len() {
-        let h = packet::head_at(p, at);
-        let n = h.len;
-        if p.len() - at < 10 {
-            return Ok(());
-        }
-        if p.len() - at - 10 < n {
-            return Ok(());
-        }
-        rt.print(h.number)?;
-        show_body(rt, e, packet::body_at(p, at))?;
-        at = at + 10 + n;
+    for t in Records(p) {
+        let b = packet::body_at(t, 0);
+        print!(rt; "{} {}", packet::head_at(t, 0).number, u8::at(b, 0))?;
+        show_fields(rt, e, b)?;
+        rt.println("")?;
     }
     Ok(())
-}
-
-// The type byte, and the fields in the order of their places.
-fn show_body(rt: &impl Print, e: Edition, b: &[u8]) -> io::Result<()> {
-    also(rt, wire::u8_at(b, 0) as u64)?;
-    show_fields(rt, e, b)?;
-    end_line(rt)
 }
 
 fn show_fields(rt: &impl Print, e: Edition, b: &[u8]) -> io::Result<()> {
     match body::read_body(e, b) {
-        Body::SystemTime(seconds) => also(rt, seconds as u64),
-        Body::SymbolUpdate => show_symbol(rt, fields::symbol_of(b), body::security_in(e, b)),
-        Body::SystemState => show_state(rt, fields::state_of(b)),
-        Body::TradingStatus(m) => show_status(rt, m),
-        Body::SymbolClear(m) => show_clear(rt, m),
-        Body::Add(m) => show_add(rt, m),
-        Body::Modify(m) => show_modify(rt, m),
-        Body::Delete(m) => show_delete(rt, m),
-        Body::Execution(m) => show_execution(rt, m),
-        Body::Trade(m) => show_trade(rt, m),
-        Body::TradeCancel(m) => show_cancel(rt, m),
-        Body::Bad(f) => also(rt, f.number as u64),
+        Body::SystemTime(seconds) => print!(rt; " {seconds}"),
+        Body::SymbolUpdate(m) => show_symbol(rt, m.symbol, body::security_in(e, b)),
+        Body::SystemState(m) => print!(rt;
+            " {}{} {} {}",
+            m.nanos,
+            Spaced(&m.version),
+            m.session,
+            m.status
+        ),
+        Body::TradingStatus(m) => print!(rt;
+            " {} {} {} {} {}",
+            m.nanos, m.symbol, m.trading, m.market, m.short
+        ),
+        Body::SymbolClear(m) => print!(rt; " {} {}", m.nanos, m.symbol),
+        Body::Add(m) => print!(rt;
+            " {} {} {} {} {} {} {}",
+            m.nanos, m.symbol, m.order, m.side, m.price, m.size, m.attributable
+        ),
+        Body::Modify(m) => print!(rt;
+            " {} {} {} {} {} {}",
+            m.nanos, m.symbol, m.order, m.price, m.size, m.flags
+        ),
+        Body::Delete(m) => print!(rt; " {} {} {}", m.nanos, m.symbol, m.order),
+        Body::Execution(m) => print!(rt;
+            " {} {} {} {} {} {} {}",
+            m.nanos, m.symbol, m.order, m.trade, m.price, m.size, m.flags
+        ),
+        Body::Trade(m) => print!(rt;
+            " {} {} {} {} {} {} {}",
+            m.nanos, m.symbol, m.trade, m.correction, m.price, m.size, m.flags
+        ),
+        Body::TradeCancel(m) => print!(rt;
+            " {} {} {} {} {} {}",
+            m.nanos, m.symbol, m.trade, m.correction, m.price, m.size
+        ),
+        Body::Bad(f) => print!(rt; " {}", f.number),
     }
 }
 
-fn also(rt: &impl Print, n: u64) -> io::Result<()> {
-    print!(rt; " {n}")
-}
-
-fn end_line(rt: &impl Print) -> io::Result<()> {
-    rt.print("\n")
-}
-
-fn also_each(rt: &impl Print, b: &[u8]) -> io::Result<()> {
-    for x in b {
-        also(rt, *x as u64)?;
+// The Security Type, where there is one, stands behind the ticker.
+fn show_symbol(rt: &impl Print, s: Symbol, security: Option<u8>) -> io::Result<()> {
+    print!(rt; " {}{}", s.id, Spaced(&s.ticker))?;
+    if let Some(y) = security {
+        print!(rt; " {y}")?;
     }
-    Ok(())
-}
-
-fn also_two(rt: &impl Print, nanos: u32, symbol: u32) -> io::Result<()> {
-    also(rt, nanos as u64)?;
-    also(rt, symbol as u64)
-}
-
-fn also_deal(rt: &impl Print, price: u64, size: u32) -> io::Result<()> {
-    also(rt, price)?;
-    also(rt, size as u64)
-}
-
-// The Security Type, where there is one.
-fn show_type(rt: &impl Print, y: Security) -> io::Result<()> {
-    match y {
-        Security::Type(x) => also(rt, x as u64),
-        Security::Reserved => Ok(()),
-    }
-}
-
-fn show_symbol(rt: &impl Print, s: Symbol, y: Security) -> io::Result<()> {
-    let ticker = s.ticker;
-    let opening = s.opening;
-    let closing = s.closing;
-    also(rt, s.id as u64)?;
-    also_each(rt, &ticker)?;
-    show_type(rt, y)?;
-    also(rt, s.lot as u64)?;
-    also_each(rt, &opening)?;
-    also_each(rt, &closing)?;
-    also(rt, s.market as u64)
-}
-
-fn show_state(rt: &impl Print, s: SystemState) -> io::Result<()> {
-    let version = s.version;
-    also(rt, s.nanos as u64)?;
-    also_each(rt, &version)?;
-    also(rt, s.session as u64)?;
-    also(rt, s.status as u64)
-}
-
-fn show_status(rt: &impl Print, m: TradingStatus) -> io::Result<()> {
-    also_two(rt, m.nanos, m.symbol)?;
-    also(rt, m.trading as u64)?;
-    also(rt, m.market as u64)?;
-    also(rt, m.short as u64)
-}
-
-fn show_clear(rt: &impl Print, m: SymbolClear) -> io::Result<()> {
-    also_two(rt, m.nanos, m.symbol)
-}
-
-fn show_add(rt: &impl Print, m: AddOrder) -> io::Result<()> {
-    also_two(rt, m.nanos, m.symbol)?;
-    also(rt, m.order)?;
-    also(rt, m.side as u64)?;
-    also_deal(rt, m.price, m.size)?;
-    also(rt, m.attributable as u64)
-}
-
-fn show_modify(rt: &impl Print, m: ModifyOrder) -> io::Result<()> {
-    also_two(rt, m.nanos, m.symbol)?;
-    also(rt, m.order)?;
-    also_deal(rt, m.price, m.size)?;
-    also(rt, m.flags as u64)
-}
-
-fn show_delete(rt: &impl Print, m: DeleteOrder) -> io::Result<()> {
-    also_two(rt, m.nanos, m.symbol)?;
-    also(rt, m.order)
-}
-
-fn show_execution(rt: &impl Print, m: OrderExecution) -> io::Result<()> {
-    also_two(rt, m.nanos, m.symbol)?;
-    also(rt, m.order)?;
-    also(rt, m.trade)?;
-    also_deal(rt, m.price, m.size)?;
-    also(rt, m.flags as u64)
-}
-
-fn show_trade(rt: &impl Print, m: Trade) -> io::Result<()> {
-    also_two(rt, m.nanos, m.symbol)?;
-    also(rt, m.trade)?;
-    also(rt, m.correction as u64)?;
-    also_deal(rt, m.price, m.size)?;
-    also(rt, m.flags as u64)
-}
-
-fn show_cancel(rt: &impl Print, m: TradeCancel) -> io::Result<()> {
-    also_two(rt, m.nanos, m.symbol)?;
-    also(rt, m.trade)?;
-    also(rt, m.correction as u64)?;
-    also_deal(rt, m.price, m.size)
+    print!(rt;
+        " {}{}{} {}",
+        s.lot,
+        Spaced(&s.opening),
+        Spaced(&s.closing),
+        s.market
+    )
 }

@@ -23,7 +23,8 @@ use Rattle.arbitration.proofs.SameLaws.{run_twin, told_twin, said_twin}
 use Rattle.shelf.specs.Store.{shelf_store}
 use Rattle.receiver.specs.Receiver.{next_ok, account, Keeps, Handles, handled, handled_by, fit, receives, receives_all}
 use Rattle.receiver.specs.Lent.{tables_ok, sizes_ok, book_engine, ledger_engine, real, plain, Rx, Lent, plain_rx, plain_of, Handled, received, received_all}
-use Rattle.receiver.specs.declared.Received.{Received}
+use Rattle.std.specs.Prelude.{Ok, Err}
+use Rattle.packet.specs.declared.Why.{Why}
 use Rattle.receiver.proofs.Editions.{chosen_run, edition_kept}
 
 abbrev pub Plainly : Type 0
@@ -110,13 +111,13 @@ module _ (ed : Edition) (Q : Ledger → Type 0) (L : Along ed Q) where
           let s : told shelf_store (book_engine ed) cs (plain_rx k.rx) ≡ told shelf_store (ledger_engine ed) cs k.rx = told_twin shelf_store (book_engine ed) (ledger_engine ed) twins cs h t in
           let w = twin_shows (run_twin shelf_store (book_engine ed) (ledger_engine ed) twins cs h t) in
           record {
-            answer_same = ap (λ (y : Told). Received.Accepted (account y)) (sym s);
+            answer_same = ap (λ (y : Told). Ok (account y)) (sym s);
             rest_same = λ i. record { rx = w.0 i; stop = (sym s i).stopped; edition = k.edition };
             kind = w.1;
           }
 
       go : (t : Bool) → fit (plain ed) (plain_of k) ≡ t
-          → Followed Q (pick t (handled_by (plain ed) (framing ed p) (plain_of k)) (handled (plain ed) (Received.Refused (refusal 6)) (plain_of k))) (pick t (handled_by (real ed) (framing ed p) k) (handled (real ed) (Received.Refused (refusal 6)) k))
+          → Followed Q (pick t (handled_by (plain ed) (framing ed p) (plain_of k)) (handled (plain ed) (Err (Why.Alone (refusal 6))) (plain_of k))) (pick t (handled_by (real ed) (framing ed p) k) (handled (real ed) (Err (Why.Alone (refusal 6))) k))
       go true f = framed (from_1 k f) (framing ed p)
       go false f = record { answer_same = refl; rest_same = refl; kind = u }
 

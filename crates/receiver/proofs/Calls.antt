@@ -1,7 +1,7 @@
 -- The receiver's exits over what its calls ensure, in plain numbers and lists: the slot's number, length and body as the shelf told them, the book's answer and the packet's work as they came.
 -- Assumes nothing.
 use Prim.Native.Nat.{ℕ, ◌+◌, ◌-◌, ◌%◌, ◌≤◌}
-use mathlib.Core.Path.{◌≡◌, refl, sym, ap, subst, ◌∙◌}
+use mathlib.Core.Path.{◌≡◌, sym, ap, subst, ◌∙◌}
 use mathlib.Core.Logic.{◌≢◌}
 use mathlib.Core.Bool.{true, false}
 use mathlib.Core.List.{List}
@@ -12,15 +12,14 @@ use Rattle.kinds.specs.Table.{kind_of}
 use Rattle.kinds.specs.declared.Kind.{Kind}
 use Rattle.wire.specs.Records.{Rec, rec, records}
 use Rattle.fields.specs.Fields.{decoded}
-use Rattle.body.specs.Read.{good_body}
 use Rattle.packet.specs.Packet.{Framing, framing}
-use Rattle.book.specs.Plan.{plan_by}
-use Rattle.book.specs.Ledger.{Ledger, Posting, posting, looks, devised, tried, posted}
-use Rattle.book.proofs.Laws.{devised_good, tried_applied, tried_told}
+use Rattle.book.specs.Plan.{Plan, plan_by}
+use Rattle.book.specs.declared.Clock.{Clock}
+use Rattle.book.specs.Ledger.{Ledger, Posting, posting, looks, devised, posts, posted}
+use Rattle.book.proofs.Laws.{devised_good, posted_by}
 use Rattle.arbitration.specs.Slots.{Slot, empty_slot, slot_for, slot_body}
 use Rattle.arbitration.specs.Receive.{records_of, no_counts, stop, highest}
-use Rattle.arbitration.specs.Loops.{work}
-use Rattle.arbitration.specs.Lists.{Bounded}
+use Rattle.arbitration.specs.Loops.{Working, work}
 use Rattle.arbitration.specs.declared.Counts.{Counts}
 use Rattle.arbitration.proofs.SlotLaws.{empty_fits}
 use Rattle.arbitration.proofs.Range.{bounded_fits}
@@ -28,9 +27,9 @@ use Rattle.shelf.specs.Shelf.{slot_at, put_slot}
 use Rattle.shelf.specs.Store.{shelf_store}
 use Rattle.shelf.proofs.StoreLaws.{put_again}
 use Rattle.receiver.specs.Receiver.{handled_by}
-use Rattle.receiver.specs.Lent.{ledger_engine, real, Rx, rx, Lent, lent, handled, working_of}
-use Rattle.receiver.specs.declared.Place.{Place}
-use Rattle.receiver.specs.declared.Received.{Received}
+use Rattle.receiver.specs.Lent.{ledger_engine, real, Rx, rx, Lent, lent, handled}
+use Rattle.receiver.specs.AtWork.{Good}
+use Rattle.std.specs.Prelude.{Ok}
 use Rattle.receiver.proofs.Exits.{Turns, turn_broken, turn_goes, stops_rule}
 use Rattle.receiver.proofs.Direct.{next_broken, next_goes}
 use Rattle.receiver.proofs.Accounts.{next_grows, accepted}
@@ -52,9 +51,9 @@ module _ (ed : Edition) (next : ℕ) (l : Ledger) (h : List ℕ) (n len : ℕ) (
   fits = subst (λ (x : ℕ). x ≤ 64) len_is short
 
   -- the book's answer to it: the rule q, and the ledger l' that it left
-  module _ (q : ℕ) (l' : Ledger) (told : posting q l' ≡ tried true (devised ed next b l) b l) where
+  module _ (q : ℕ) (l' : Ledger) (tried : posting q l' ≡ posted ed next b l) where
     of_slot : posting q l' ≡ posted ed next (slot_body here) l
-    of_slot = told ∙ tried_applied ed next b l (devised ed next b l) refl ∙ ap (λ (x : List ℕ). posted ed next x l) b_is
+    of_slot = tried ∙ ap (λ (x : List ℕ). posted ed next x l) b_is
 
     rule_is : q ≡ (posted ed next (slot_body here) l).rule
     rule_is = ap (λ (x : Posting). x.rule) of_slot
@@ -68,56 +67,47 @@ module _ (ed : Edition) (next : ℕ) (l : Ledger) (h : List ℕ) (n len : ℕ) (
     pub slot_goes : q ≡ 0 → (h' : List ℕ) → h' ≡ put_slot h (next % 64) empty_slot → Turns (real ed) (real_laws ed) next l h (record { next = next + 1; shelf = h'; book = l' }) true
     slot_goes = turn_goes (real ed) (real_laws ed) next l h held is_next fits q l' rule_is after_is
 
-  -- its rule alone: nothing is changed
-  module _ (q : ℕ) (l' : Ledger) (told : posting q l' ≡ tried false (devised ed next b l) b l) where
-    kept : posting q l' ≡ posting (posted ed next b l).rule l
-    kept = told ∙ tried_told ed next b l
-
-    same : l' ≡ l
-    same = ap (λ (x : Posting). x.after) kept
-
-    pub slot_stops : (q ≡ stop shelf_store (ledger_engine ed) (record { next = next; shelf = h; book = l })) × (l'.plain.orders ≡ l.plain.orders) × (l'.plain.symbols ≡ l.plain.symbols) × (l'.index ≡ l.index)
-    slot_stops = (
-      ap (λ (x : Posting). x.rule) kept ∙ ap (λ (x : List ℕ). (posted ed next x l).rule) b_is ∙ stops_rule (real ed) (real_laws ed) next l h held is_next fits,
-      ap (λ (x : Ledger). x.plain.orders) same,
-      ap (λ (x : Ledger). x.plain.symbols) same,
-      ap (λ (x : Ledger). x.index) same,
-    )
+  -- its rule alone, by its plan
+  pub slot_stops : (p : Plan) → p ≡ devised ed next b l → (posts p b l).rule ≡ stop shelf_store (ledger_engine ed) (record { next = next; shelf = h; book = l })
+  slot_stops p e =
+      ap (λ (x : Posting). x.rule) (posted_by ed p next b l (sym e))
+      ∙ ap (λ (x : List ℕ). (posted ed next x l).rule) b_is
+      ∙ stops_rule (real ed) (real_laws ed) next l h held is_next fits
 
 -- ---- a good record that is next, tried as it came: x its type byte, k its kind
-module _ (ed : Edition) (next : ℕ) (l : Ledger) (h b : List ℕ) (sized : length h ≡ shelf_size) (from : 1 ≤ next) (fits : Bounded (rec next b)) (good : good_body ed b ≡ true)
+module _ (ed : Edition) (next : ℕ) (l : Ledger) (h b : List ℕ) (sized : length h ≡ shelf_size) (good : Good ed (rec next b))
     (x : ℕ) (k : Kind) (x_is : x ≡ get_or b 0 0) (k_is : k ≡ kind_of x) (q : ℕ) (l' : Ledger)
-    (told : posting q l' ≡ tried true (plan_by (decoded k b) next b l.plain.clock (looks l)) b l) where
+    (tried : posting q l' ≡ posts (plan_by (decoded k b) next b l.plain.clock (looks l)) b l) where
   of_body : posting q l' ≡ posted ed next b l
-  of_body = told ∙ tried_applied ed next b l (plan_by (decoded k b) next b l.plain.clock (looks l)) (devised_good ed next b l k good (k_is ∙ ap kind_of x_is))
+  of_body = tried ∙ posted_by ed (plan_by (decoded k b) next b l.plain.clock (looks l)) next b l (devised_good ed next b l k good.body_good (k_is ∙ ap kind_of x_is))
 
   abbrev laid : List ℕ
   laid = put_slot h (next % 64) (slot_for next b)
 
   pub came_broken : q ≢ 0 → (h' : List ℕ) → h' ≡ laid → Turns (real ed) (real_laws ed) next l laid (record { next = next; shelf = h'; book = l' }) false
-  came_broken = next_broken (real ed) (real_laws ed) next l h b sized from fits q l' (ap (λ (y : Posting). y.rule) of_body) (ap (λ (y : Posting). y.after) of_body)
+  came_broken = next_broken (real ed) (real_laws ed) next l h b sized good.number_from good.bounded q l' (ap (λ (y : Posting). y.rule) of_body) (ap (λ (y : Posting). y.after) of_body)
 
   pub came_goes : q ≡ 0 → (h' : List ℕ) → h' ≡ put_slot h (next % 64) empty_slot → Turns (real ed) (real_laws ed) next l laid (record { next = next + 1; shelf = h'; book = l' }) true
   came_goes e h' p =
-      next_goes (real ed) (real_laws ed) next l h b sized from fits q l' (ap (λ (y : Posting). y.rule) of_body) (ap (λ (y : Posting). y.after) of_body) e h' p
-      (put_again h (next % 64) (slot_for next b) empty_slot (bounded_fits (rec next b) fits) empty_fits)
+      next_goes (real ed) (real_laws ed) next l h b sized good.number_from good.bounded q l' (ap (λ (y : Posting). y.rule) of_body) (ap (λ (y : Posting). y.after) of_body) e h' p
+      (put_again h (next % 64) (slot_for next b) empty_slot (bounded_fits (rec next b) good.bounded) empty_fits)
 
 -- ---- a good packet, worked: the place and the counts that its records led to
-module _ (k : Lent) (p : List ℕ) (cs : List Rec) (framed : framing k.edition p ≡ records cs) (at : Place) (t : Counts) (o s h ix : List ℕ)
-    (worked : working_of k.edition at t o s h ix ≡ work shelf_store (ledger_engine k.edition) (records_of (framing k.edition p)) (record { rx = k.rx; counts = no_counts })) where
+module _ (k : Lent) (p : List ℕ) (cs : List Rec) (framed : framing k.edition p ≡ records cs) (next : ℕ) (clock : Clock) (t : Counts) (o s h ix : List ℕ)
+    (worked : ◌≡◌ {A = Working shelf_store (ledger_engine k.edition)} (record { rx = rx next clock o s h ix; counts = t }) (work shelf_store (ledger_engine k.edition) (records_of (framing k.edition p)) (record { rx = k.rx; counts = no_counts }))) where
   abbrev now : Rx
-  now = rx at.next at.clock o s h ix
+  now = rx next clock o s h ix
 
-  of_records : working_of k.edition at t o s h ix ≡ work shelf_store (ledger_engine k.edition) cs (record { rx = k.rx; counts = no_counts })
+  of_records : ◌≡◌ {A = Working shelf_store (ledger_engine k.edition)} (record { rx = now; counts = t }) (work shelf_store (ledger_engine k.edition) cs (record { rx = k.rx; counts = no_counts }))
   of_records = worked ∙ ap (λ (y : Framing). work shelf_store (ledger_engine k.edition) (records_of y) (record { rx = k.rx; counts = no_counts })) framed
 
-  pub worked_grows : k.rx.next ≤ at.next
+  pub worked_grows : k.rx.next ≤ next
   worked_grows = next_grows (real k.edition) cs k now t of_records
 
-  -- q the stop and top the highest number, told of tables that were left as they were
-  pub worked_told : (q top : ℕ) (o' s' ix' : List ℕ) → q ≡ stop shelf_store (ledger_engine k.edition) now → top ≡ highest shelf_store 64 h → o' ≡ o → s' ≡ s → ix' ≡ ix
-      → handled (Received.Accepted (record { counts = t; next = at.next; applied = at.next - k.rx.next; highest = top; stop = q })) (lent o' s' h ix' (record { next = at.next; clock = at.clock; stop = q; edition = k.edition }))
+  -- q the stop and top the highest number, told of the tables as they came back
+  pub worked_told : (q top : ℕ) (o' s' h' ix' : List ℕ) → o' ≡ o → s' ≡ s → h' ≡ h → ix' ≡ ix → q ≡ stop shelf_store (ledger_engine k.edition) now → top ≡ highest shelf_store 64 h'
+      → handled (Ok (record { counts = t; next = next; applied = next - k.rx.next; highest = top; stop = q })) (lent o' s' h' ix' (record { next = next; clock = clock; stop = q; edition = k.edition }))
       ≡ handled_by (real k.edition) (framing k.edition p) k
-  worked_told q top o' s' ix' e f os ss is =
-      (λ i. handled (Received.Accepted (record { counts = t; next = at.next; applied = at.next - k.rx.next; highest = top; stop = q })) (lent (os i) (ss i) h (is i) (record { next = at.next; clock = at.clock; stop = q; edition = k.edition })))
-      ∙ accepted (real k.edition) cs k now t of_records q top e f (framing k.edition p) framed
+  worked_told q top o' s' h' ix' os ss hs is e f =
+      (λ i. handled (Ok (record { counts = t; next = next; applied = next - k.rx.next; highest = top; stop = q })) (lent (os i) (ss i) (hs i) (is i) (record { next = next; clock = clock; stop = q; edition = k.edition })))
+      ∙ accepted (real k.edition) cs k now t of_records q top e (f ∙ ap (highest shelf_store 64) hs) (framing k.edition p) framed

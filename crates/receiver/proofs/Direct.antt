@@ -55,7 +55,7 @@ module _ (P : Parts) (L : PartsLaws P) (next : ℕ) (k : P.rules.Book) (h : P.st
     pub next_broken : q ≢ 0 → (h' : P.store.Shelf) → h' ≡ laid → Turns P L next k laid (record { next = next; shelf = h'; book = k' }) false
     next_broken e h' p =
         let t = turn_broken P L next k laid some own short q k' of_slot after_slot e in
-        ((λ i. record { next = next; shelf = p i; book = k' }) ∙ t.0, t.1)
+        record { to = (λ i. record { next = next; shelf = p i; book = k' }) ∙ t.to; on_is = t.on_is }
 
     -- one that applies leaves its slot zeroed, whether it lay there or not
     pub next_goes : q ≡ 0 → (h' : P.store.Shelf) → h' ≡ P.store.put h (next % 64) empty_slot → P.store.put laid (next % 64) empty_slot ≡ P.store.put h (next % 64) empty_slot

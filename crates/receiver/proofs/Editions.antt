@@ -7,16 +7,16 @@ use Rattle.facts.proofs.Picks.{pick_ind}
 use Rattle.editions.specs.declared.Edition.{Edition}
 use Rattle.wire.specs.Records.{Frames, bad, records}
 use Rattle.fields.specs.Fields.{refusal}
-use Rattle.packet.specs.Packet.{Why}
 use Rattle.receiver.specs.Parts.{Parts}
 use Rattle.receiver.specs.Receiver.{Receiver, Handled, handled, handled_by, fit, receives, receives_all}
 use Rattle.receiver.specs.Lent.{real, Lent, received, received_all}
-use Rattle.receiver.specs.declared.Received.{Received}
+use Rattle.std.specs.Prelude.{Err}
+use Rattle.packet.specs.declared.Why.{Why}
 
 -- accepted or refused
 pub edition_kept : (P : Parts) (k : Receiver P) (p : List ℕ) → (receives P k p).after.edition ≡ k.edition
 unfolding receives handled_by
-edition_kept P k p = pick_ind (λ (x : Handled P). x.after.edition ≡ k.edition) (fit P k) (handled_by P (P.frame p) k) (handled P (Received.Refused (refusal 6)) k) (λ _. go (P.frame p)) (λ _. refl)
+edition_kept P k p = pick_ind (λ (x : Handled P). x.after.edition ≡ k.edition) (fit P k) (handled_by P (P.frame p) k) (handled P (Err (Why.Alone (refusal 6))) k) (λ _. go (P.frame p)) (λ _. refl)
   where
     go : (x : Frames Why) → (handled_by P x k).after.edition ≡ k.edition
     go (bad w) = refl

@@ -36,7 +36,7 @@ use Rattle.receiver.specs.Demand3 as demand
 use Rattle.receiver.specs.Chosen.{Begins, Chosen}
 use Rattle.receiver.specs.Engines.{SameStarts, Call, packet, done, done_all, SameRuns}
 use Rattle.receiver.specs.Lent.{tables_ok, sizes_ok, real, plain, Lent, plain_of, orders_of, index_of, start_index, received, received_all, fresh, fresh_state, zero_book, zero_ledger, Begun, begun, started}
-use Rattle.receiver.specs.declared.Started.{Started}
+use Rattle.std.specs.Prelude.{Ok, Err}
 use Rattle.receiver.proofs.Accounts.{account_reports}
 use Rattle.receiver.proofs.Along.{Plainly, Along, Followed, sizes_one, said_along, one_along, runs_along, answers_along}
 use Rattle.receiver.proofs.Editions.{call_more, edition_kept}
@@ -121,8 +121,8 @@ module _ (ed : Edition) (o s h : List ℕ) where
   abbrev started_by : Bool → List ℕ → Begun
   started_by t ix =
       pick t
-      (begun (Started.Ready (fresh_state ed)) (replicate (length o) 0) (replicate (length s) 0) (replicate (length h) 0) (start_index (length ix) (length o)))
-      (begun (Started.Refused (refusal 6)) o s h ix)
+      (begun (Ok (fresh_state ed)) (replicate (length o) 0) (replicate (length s) 0) (replicate (length h) 0) (start_index (length ix) (length o)))
+      (begun (Err (refusal 6)) o s h ix)
 
   started_is : (ix : List ℕ) → good_index (length ix) ≡ true → started ed o s h ix ≡ started_by (tables_ok (length o) (length s) (length h)) ix
   unfolding started

@@ -9,7 +9,7 @@ use borrow.Author.Tests.{eqb-true, eqb-false}
 use Rattle.arbitration.specs.Slots.{Slot, empty_slot, slot_body}
 use Rattle.arbitration.specs.Engine.{ok, Engine, Store}
 use Rattle.arbitration.specs.Receive.{stuck, of_applied, try, stop}
-use Rattle.arbitration.specs.Loops.{turn_to, goes_on}
+use Rattle.arbitration.specs.Loops.{Turned}
 use Rattle.arbitration.proofs.Turns.{Stays, try_empty, try_other, try_bad, try_good, long_bad, short_good, stays_nothing, stays_stuck, moves, stop_nothing, stop_stuck, stop_goes}
 use Rattle.receiver.specs.Parts.{Parts, engine_of}
 use Rattle.receiver.specs.Receiver.{Rx}
@@ -30,10 +30,10 @@ module _ (P : Parts) (L : PartsLaws P) (next : ℕ) (k : P.rules.Book) (h : P.st
 
   -- what a turn answers: the state r', and whether a message was applied
   abbrev pub Turns : Rx P → Bool → Type 0
-  Turns r' on = (r' ≡ turn_to S E r) × (on ≡ goes_on S E r)
+  Turns r' on = Turned S E r r' on
 
   stayed : Stays S E r → Turns r false
-  stayed h = (sym h.same, sym h.off)
+  stayed h = record { to = sym h.same; on_is = sym h.off }
 
   -- an empty slot
   pub turn_empty : here.number ≡ 0 → Turns r false
@@ -82,13 +82,13 @@ module _ (P : Parts) (L : PartsLaws P) (next : ℕ) (k : P.rules.Book) (h : P.st
               let e' : rule ≢ 0 = λ z. e (rule_is ∙ z) in
               let same : k' ≡ k = book_is ∙ L.broken_keeps next (slot_body here) k e' in
               let t = stayed (stays_stuck S E r rule (tried_broken e')) in
-              ((λ i. record { next = next; shelf = h; book = same i }) ∙ t.0, t.1)
+              record { to = (λ i. record { next = next; shelf = h; book = same i }) ∙ t.to; on_is = t.on_is }
 
           pub turn_goes : q ≡ 0 → (h' : S.Shelf) → h' ≡ S.put h (next % 64) empty_slot → Turns (record { next = next + 1; shelf = h'; book = k' }) true
           turn_goes e h' p =
               let z : rule ≡ 0 = sym rule_is ∙ e in
               let m = moves S E r (P.rules.after next (slot_body here) k) (tried_goes z) in
-              ((λ i. record { next = next + 1; shelf = p i; book = book_is i }) ∙ sym m.moved, sym m.on)
+              record { to = (λ i. record { next = next + 1; shelf = p i; book = book_is i }) ∙ sym m.moved; on_is = sym m.on }
 
         -- the stop, from the rule that nothing was changed for
         pub stops_rule : rule ≡ stop S E r

@@ -11,7 +11,6 @@ use Rattle.facts.specs.Limits.{last_number}
 use Rattle.facts.proofs.Picks.{pick_ind}
 use Rattle.wire.specs.Records.{Rec, Frames, bad, records}
 use Rattle.fields.specs.Fields.{refusal}
-use Rattle.packet.specs.Packet.{Why}
 use Rattle.arbitration.specs.Slots.{empty_slot, slot_for, slot_body}
 use Rattle.arbitration.specs.Engine.{Engine, Store}
 use Rattle.arbitration.specs.Receive.{slot_of, records_of, shelved, turned, after, run, worked, told, stop}
@@ -24,7 +23,8 @@ use Rattle.arbitration.proofs.Range.{Below, after_below, start_below}
 use Rattle.receiver.specs.Parts.{Parts, engine_of}
 use Rattle.receiver.specs.Receiver.{next_ok, Rx, Receiver, Handled, handled, handled_by, fit, receives, receives_all}
 use Rattle.receiver.specs.Demand3.{Started}
-use Rattle.receiver.specs.declared.Received.{Received}
+use Rattle.std.specs.Prelude.{Err}
+use Rattle.packet.specs.declared.Why.{Why}
 use Rattle.receiver.proofs.PartsLaws.{PartsLaws, applied_shows, laws_of}
 use Rattle.receiver.proofs.Accounts.{by_frame}
 
@@ -114,7 +114,7 @@ module _ (P : Parts) (L : PartsLaws P) where
   -- ---- the stop that a receiver has is that of its state: an accepted packet tells it anew, a refused one leaves both
   packet_stop : (p : List ℕ) (k : Receiver P) → k.stop ≡ stop S E k.rx → (receives P k p).after.stop ≡ stop S E (receives P k p).after.rx
   unfolding receives handled_by told
-  packet_stop p k e = pick_ind (λ x. x.after.stop ≡ stop S E x.after.rx) (fit P k) (handled_by P (P.frame p) k) (handled P (Received.Refused (refusal 6)) k) (λ _. go (P.frame p)) (λ _. e)
+  packet_stop p k e = pick_ind (λ x. x.after.stop ≡ stop S E x.after.rx) (fit P k) (handled_by P (P.frame p) k) (handled P (Err (Why.Alone (refusal 6))) k) (λ _. go (P.frame p)) (λ _. e)
     where
       go : (x : Frames Why) → (handled_by P x k).after.stop ≡ stop S E (handled_by P x k).after.rx
       go (bad q) = e

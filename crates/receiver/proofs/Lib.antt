@@ -1,7 +1,9 @@
 pub mod PartsLaws
 pub mod Exits
 pub mod Direct
+pub mod Lying
 pub mod Records
+pub mod Steps
 pub mod Accounts
 pub mod Fits
 pub mod Demand
@@ -14,3 +16,4 @@ pub mod Runs
 pub mod Undefined
 pub mod Nanoseconds
 pub mod Places
+pub mod Named

@@ -15,7 +15,7 @@ use Rattle.body.specs.Read.{good_body}
 use Rattle.body.specs.Nanoseconds.{stamped, stamp_of, PastSecond}
 use Rattle.body.proofs.Laws.{framed_is}
 use Rattle.body.proofs.Nanoseconds.{past_bad, largest}
-use Rattle.packet.specs.Packet.{placed, framing}
+use Rattle.packet.specs.Packet.{framing}
 use Rattle.packet.specs.Nanoseconds.{PastIn}
 use Rattle.packet.proofs.Nanoseconds.{past_packet, past_none}
 use Rattle.arbitration.specs.Slots.{Slot, slot_for, slot_body}
@@ -31,13 +31,14 @@ use Rattle.shelf.specs.Store.{shelf_store}
 use Rattle.shelf.proofs.StoreLaws.{shelf_laws}
 use Rattle.receiver.specs.Receiver.{fit, receives, handled_by}
 use Rattle.receiver.specs.Lent.{ledger_engine, real, Rx, Lent, handled, received, received_all}
-use Rattle.receiver.specs.declared.Received.{Received}
+use Rattle.std.specs.Prelude.{Err}
+use Rattle.packet.specs.declared.Why.{Why}
 use Rattle.receiver.proofs.Accounts.{refused_lost}
 use Rattle.receiver.proofs.Editions.{calls_keep}
 use Rattle.receiver.proofs.Real.{every_framed}
 
 -- ---- "Larger is refused with 4 and its offset": a packet with such a record behind good ones is refused whole, at the Timestamp, where nothing is by 6
-pub past_received : (k : Lent) (p : List ℕ) → fit (real k.edition) k ≡ true → (x : PastIn k.edition p) → received k p ≡ handled (Received.Bad (bad_at 4 (x.at + 11))) k
+pub past_received : (k : Lent) (p : List ℕ) → fit (real k.edition) k ≡ true → (x : PastIn k.edition p) → received k p ≡ handled (Err (Why.Placed (bad_at 4 (x.at + 11)))) k
 unfolding receives handled_by pick
 past_received k p f x = rw (f, past_packet k.edition p x) refl
 
@@ -45,12 +46,12 @@ past_received k p f x = rw (f, past_packet k.edition p x) refl
 pub past_lost : (ps qs : List (List ℕ)) (p : List ℕ) (k : Lent) → PastIn k.edition p → received_all (ps ++ (p ∷ qs)) k ≡ received_all (ps ++ qs) k
 past_lost ps qs p k x =
     calls_keep (ps ++ (p ∷ qs)) k
-    ∙ refused_lost (real k.edition) p (placed (bad_at 4 (x.at + 11))) (past_packet k.edition p x) ps qs k
+    ∙ refused_lost (real k.edition) p (Why.Placed (bad_at 4 (x.at + 11))) (past_packet k.edition p x) ps qs k
     ∙ sym (calls_keep (ps ++ qs) k)
 
 -- and none of its records is accepted, the good ones no more than the other
 pub past_gap : (ed : Edition) (ps qs : List (List ℕ)) (p : List ℕ) → PastIn ed p → accepted (framing ed) (ps ++ (p ∷ qs)) ≡ accepted (framing ed) (ps ++ qs)
-past_gap ed ps qs p x = refused_adds_none (framing ed) p (placed (bad_at 4 (x.at + 11))) (past_packet ed p x) ps qs
+past_gap ed ps qs p x = refused_adds_none (framing ed) p (Why.Placed (bad_at 4 (x.at + 11))) (past_packet ed p x) ps qs
 
 -- wherever in a packet it stands: no accepted record is such
 pub never_accepted : (ed : Edition) (ps : List (List ℕ)) → Every (λ (c : Rec). PastSecond c.body → ⊥) (accepted (framing ed) ps)

@@ -29,7 +29,7 @@ use Rattle.shelf.proofs.Laws.{good_size, zeros_empty}
 use Rattle.receiver.specs.Demand3 as demand
 use Rattle.receiver.specs.Lent.{tables_ok, sizes_ok, real, plain, Lent, lent, plain_of, fresh, fresh_state, zero_book, zero_ledger, Begun, begun, start_number, started}
 use Rattle.receiver.specs.declared.State.{State}
-use Rattle.receiver.specs.declared.Started.{Started}
+use Rattle.std.specs.Prelude.{Ok, Err}
 use Rattle.receiver.proofs.PartsLaws.{PartsLaws}
 use Rattle.receiver.proofs.Records.{good_bounded}
 use Rattle.receiver.proofs.Demand.{demand_3}
@@ -124,14 +124,14 @@ fresh_real ed o s h i e =
 
 -- ---- what `start` ensures
 -- "a refusal changes no byte and no state"
-pub start_keeps : (ed : Edition) (o s h ix : List ℕ) → (start_number (started ed o s h ix).answer ≡ 0 → ⊥) → started ed o s h ix ≡ begun (Started.Refused (refusal 6)) o s h ix
+pub start_keeps : (ed : Edition) (o s h ix : List ℕ) → (start_number (started ed o s h ix).answer ≡ 0 → ⊥) → started ed o s h ix ≡ begun (Err (refusal 6)) o s h ix
 unfolding started
 start_keeps ed o s h ix =
-    pick_ind (λ x. (start_number x.answer ≡ 0 → ⊥) → x ≡ begun (Started.Refused (refusal 6)) o s h ix) (sizes_ok (length o) (length s) (length h) (length ix)) _ (begun (Started.Refused (refusal 6)) o s h ix)
+    pick_ind (λ x. (start_number x.answer ≡ 0 → ⊥) → x ≡ begun (Err (refusal 6)) o s h ix) (sizes_ok (length o) (length s) (length h) (length ix)) _ (begun (Err (refusal 6)) o s h ix)
     (λ _ n. absurd (n refl)) (λ _ _. refl)
 
 -- a start that was not refused: sizes are good, and the receiver is a fresh one
-module _ (ed : Edition) (o s h ix : List ℕ) (st : State) (o' s' h' ix' : List ℕ) (e : begun (Started.Ready st) o' s' h' ix' ≡ started ed o s h ix) where
+module _ (ed : Edition) (o s h ix : List ℕ) (st : State) (o' s' h' ix' : List ℕ) (e : begun (Ok st) o' s' h' ix' ≡ started ed o s h ix) where
   pub start_ready : (sizes_ok (length o) (length s) (length h) (length ix) ≡ true) × (lent o' s' h' ix' st ≡ fresh ed (length o) (length s) (length h) (length ix))
   unfolding started pick
   start_ready = go (sizes_ok (length o) (length s) (length h) (length ix)) refl
@@ -140,12 +140,12 @@ module _ (ed : Edition) (o s h ix : List ℕ) (st : State) (o' s' h' ix' : List 
           → (sizes_ok (length o) (length s) (length h) (length ix) ≡ true) × (lent o' s' h' ix' st ≡ fresh ed (length o) (length s) (length h) (length ix))
       go true f =
           let y = rw f at e in
-          let a : Started.Ready st ≡ Started.Ready (fresh_state ed) = ap (λ (u : Begun). u.answer) y in
+          let a : Ok st ≡ Ok (fresh_state ed) = ap (λ (u : Begun). u.answer) y in
           let st_is : st ≡ fresh_state ed = cc in
           (f, λ i. lent (y i).orders (y i).symbols (y i).shelf (y i).index (st_is i))
       go false f =
           let y = rw f at e in
-          let a : Started.Ready st ≡ Started.Refused (refusal 6) = ap (λ (u : Begun). u.answer) y in
+          let a : Ok st ≡ Err (refusal 6) = ap (λ (u : Begun). u.answer) y in
           let z : ◌≡◌ {A = ℕ} 0 1 = cc in absurd (omega arith)
 
   -- and demand 3 speaks of it

@@ -1,12 +1,12 @@
 -- DEMAND 3 of document 00, sentence by sentence, of a start and any number of calls of `receive`. Whatever gives packets to a receiver (`feed`, a program, C) is a case of it.
-use Rattle.std.specs.Prelude.{ℕ, ◌-◌, ◌≤◌, ◌≡◌, ◌⊎◌, true, List, [], ◌∷◌, ◌++◌, length}
+use Rattle.std.specs.Prelude.{ℕ, ◌-◌, ◌≤◌, ◌≡◌, ◌⊎◌, true, List, [], ◌∷◌, ◌++◌, length, Result, Ok}
 use Rattle.arbitration.specs.Engine.{ok, broke}
 use Rattle.arbitration.specs.Receive.{records_of, accepted, said, counts_of}
 use Rattle.arbitration.specs.Lists.{WellFormed, Copies, Answered, made, Zeroed}
 use Rattle.receiver.specs.Parts.{Parts, engine_of}
 use Rattle.receiver.specs.Receiver.{Receiver, receives, receives_all}
 use Rattle.receiver.specs.declared.Account.{Account}
-use Rattle.receiver.specs.declared.Received.{Received}
+use Rattle.packet.specs.declared.Why.{Why}
 
 module _ (P : Parts) where
   -- "Start a receiver": good sizes, everything zeroed, next 1, no stop; b0 is its book, the lent tables all zero and the second 0
@@ -51,7 +51,7 @@ module _ (P : Parts) where
     pub Kept : Type 0
     pub seen : Kept → Receiver P
     pub begins : Kept → Type 0
-    pub answers : Kept → List ℕ → Received
+    pub answers : Kept → List ℕ → Result Account Why
     pub leaves : Kept → List ℕ → Kept
     pub calls : List (List ℕ) → Kept → Kept
 
@@ -68,7 +68,7 @@ module _ (P : Parts) where
     -- "each": one packet more is one call more, so that all of this is said of the receiver after each call of a run
     pub one_more : (k0 : C.Kept) (ps : List (List ℕ)) (p : List ℕ) → C.calls (ps ++ (p ∷ [])) k0 ≡ C.leaves (C.calls ps k0) p
     -- "the next number it reports", the rule that it names, and how many records were answered in each way: an accepted packet's account tells them
-    pub reported : (k0 : C.Kept) (ps : List (List ℕ)) (p : List ℕ) (a : Account) → C.begins k0 → Started b0 (C.seen k0) → C.answers (C.calls ps k0) p ≡ Received.Accepted a
+    pub reported : (k0 : C.Kept) (ps : List (List ℕ)) (p : List ℕ) (a : Account) → C.begins k0 → Started b0 (C.seen k0) → C.answers (C.calls ps k0) p ≡ Ok a
         → Reported (C.seen (C.calls ps k0)) p a (C.seen (C.leaves (C.calls ps k0) p))
 
   -- the calls of a receiver of these parts

@@ -1,6 +1,6 @@
 -- The real receiver: the book of document 01's rules over lent tables, with the index that is lent beside them, the lent shelf, packets as `packet` reads them. What `start` and
 -- `receive` ensure is said with these.
-use Rattle.std.specs.Prelude.{ℕ, Bool, List, [], ◌∷◌, length, replicate, ◌≡◌}
+use Rattle.std.specs.Prelude.{ℕ, Bool, List, [], ◌∷◌, length, replicate, ◌≡◌, Result, Ok, Err}
 use Rattle.facts.specs.Pick.{pick, both}
 use Rattle.editions.specs.declared.Edition.{Edition}
 use Rattle.editions.specs.Editions.{number_of}
@@ -18,17 +18,15 @@ use Rattle.index.specs.Index.{built}
 use Rattle.engines.specs.Engines.{good_index}
 use Rattle.arbitration.specs.Engine.{Engine}
 use Rattle.arbitration.specs.Receive as theory
-use Rattle.arbitration.specs.Loops.{Working}
-use Rattle.arbitration.specs.declared.Counts.{Counts}
 use Rattle.shelf.specs.Shelf.{good_shelf}
 use Rattle.shelf.specs.Store.{shelf_store}
 use Rattle.receiver.specs.Parts.{Rules, Parts, engine_of}
 use Rattle.receiver.specs.Receiver as generic
 use Rattle.receiver.specs.declared.State.{State}
-use Rattle.receiver.specs.declared.Place.{Place}
 use Rattle.receiver.specs.declared.Answer.{Answer}
-use Rattle.receiver.specs.declared.Received.{Received}
-use Rattle.receiver.specs.declared.Started.{Started}
+use Rattle.packet.specs.declared.Why.{Why}
+use Rattle.fields.specs.declared.Refusal.{Refusal}
+use Rattle.receiver.specs.declared.Account.{Account}
 
 -- ---- the parts
 -- "a table size outside these limits or not in whole rows": 6
@@ -109,7 +107,7 @@ state_numbers s = s.next ∷ s.clock.second ∷ s.stop ∷ number_of s.edition �
 abbrev pub Handled : Type 0
 Handled = generic.Handles (List ℕ) Ledger
 
-abbrev pub handled : Received → Lent → Handled
+abbrev pub handled : Result Account Why → Lent → Handled
 handled a k = generic.handles a k
 
 -- by the edition that the state has; where a caller changed it between calls, "the same steps hold over what is found"
@@ -144,25 +142,25 @@ zero_ledger o s i = ledger (zero_book o s) (start_index i o)
 
 -- what a start answers, and the tables after it
 pub record Begun : Type 0 where
-  pub answer : Started
+  pub answer : Result State Refusal
   pub orders : List ℕ
   pub symbols : List ℕ
   pub shelf : List ℕ
   pub index : List ℕ
 
-abbrev pub begun : Started → List ℕ → List ℕ → List ℕ → List ℕ → Begun
+abbrev pub begun : Result State Refusal → List ℕ → List ℕ → List ℕ → List ℕ → Begun
 begun a o s h ix = record { answer = a; orders = o; symbols = s; shelf = h; index = ix }
 
 -- document 01's number of each answer to a start, 0 for a receiver
-abbrev pub start_number : Started → ℕ
-start_number (Started.Ready s) = 0
-start_number (Started.Refused r) = r.number
+abbrev pub start_number : Result State Refusal → ℕ
+start_number (Ok s) = 0
+start_number (Err r) = r.number
 
 unfoldable pub started : Edition → List ℕ → List ℕ → List ℕ → List ℕ → Begun
 started ed o s h ix =
     pick (sizes_ok (length o) (length s) (length h) (length ix))
-    (begun (Started.Ready (fresh_state ed)) (replicate (length o) 0) (replicate (length s) 0) (replicate (length h) 0) (start_index (length ix) (length o)))
-    (begun (Started.Refused (refusal 6)) o s h ix)
+    (begun (Ok (fresh_state ed)) (replicate (length o) 0) (replicate (length s) 0) (replicate (length h) 0) (start_index (length ix) (length o)))
+    (begun (Err (refusal 6)) o s h ix)
 
 -- ---- inside the code
 -- the case of each answer, and with it its number 10 to 14 (`code_of` of arbitration)
@@ -177,7 +175,3 @@ answer_of Answer.Differing = theory.differing
 pub record GoodPacket (ed : Edition) (p : List ℕ) : Type 0 where
   pub cs : List Rec
   pub framing_is : framing ed p ≡ records cs
-
--- the work of a packet: where it stands, and the answers so far
-abbrev pub working_of : (ed : Edition) → Place → Counts → List ℕ → List ℕ → List ℕ → List ℕ → Working shelf_store (ledger_engine ed)
-working_of ed a t o s h ix = record { rx = rx a.next a.clock o s h ix; counts = t }

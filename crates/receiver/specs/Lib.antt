@@ -6,3 +6,5 @@ pub mod Chosen
 pub mod Order
 pub mod Undefined
 pub mod Engines
+pub mod Lying
+pub mod AtWork

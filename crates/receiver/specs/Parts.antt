@@ -2,8 +2,8 @@
 use Rattle.std.specs.Prelude.{ℕ, Bool, List, eqb}
 use Rattle.facts.specs.Pick.{pick}
 use Rattle.wire.specs.Records.{Frames}
-use Rattle.packet.specs.Packet.{Why}
 use Rattle.arbitration.specs.Engine.{ok, broke, Engine, Store}
+use Rattle.packet.specs.declared.Why.{Why}
 
 -- a book with its rules: the rule that a message (its number, its body) breaks, 0 for none; the book after it; and which bodies are good
 pub record Rules : Type 1 where

@@ -1,15 +1,14 @@
 -- A receiver over any parts, and what a packet does to it (document 01, "Lent tables and the shelf", "Refused, and what is left").
-use Rattle.std.specs.Prelude.{ℕ, ◌+◌, Bool, List, [], ◌∷◌, leb}
+use Rattle.std.specs.Prelude.{ℕ, ◌+◌, Bool, List, [], ◌∷◌, leb, Result, Ok, Err}
 use Rattle.facts.specs.Pick.{pick, both}
 use Rattle.facts.specs.Limits.{last_number}
 use Rattle.editions.specs.declared.Edition.{Edition}
 use Rattle.wire.specs.Records.{Frames, bad, records}
 use Rattle.fields.specs.Fields.{refusal}
-use Rattle.packet.specs.Packet.{Why, alone, placed}
 use Rattle.arbitration.specs.Receive as theory
 use Rattle.receiver.specs.Parts.{Parts, engine_of}
 use Rattle.receiver.specs.declared.Account.{Account}
-use Rattle.receiver.specs.declared.Received.{Received}
+use Rattle.packet.specs.declared.Why.{Why}
 
 -- "a next number outside 1 to 10^12 + 1": 6
 unfoldable pub next_ok : ℕ → Bool
@@ -20,15 +19,14 @@ abbrev pub account : theory.Told → Account
 account t = record { counts = t.counts; next = t.next_number; applied = t.applied; highest = t.top; stop = t.stopped }
 
 -- document 01's number of each answer to a packet, 0 for an account
-abbrev pub received_number : Received → ℕ
-received_number (Received.Accepted a) = 0
-received_number (Received.Refused r) = r.number
-received_number (Received.Bad f) = f.number
+abbrev pub received_number : Result Account Why → ℕ
+received_number (Ok a) = 0
+received_number (Err (Why.Alone r)) = r.number
+received_number (Err (Why.Placed f)) = f.number
 
 -- "Demand 1 reads "number and offset" for these four" (request 5): a refused packet is told as its reader tells it
-abbrev pub refused_by : Why → Received
-refused_by (alone r) = Received.Refused r
-refused_by (placed f) = Received.Bad f
+abbrev pub refused_by : Why → Result Account Why
+refused_by w = Err w
 
 -- a receiver with what it is lent: the next number, the shelf, the book; the stop of its last accepted packet; and its edition, which is "chosen at start" (request 10): no packet changes it
 pub record Keeps (Shelf Book : Type 0) : Type 0 where
@@ -41,10 +39,10 @@ keeps r q v = record { rx = r; stop = q; edition = v }
 
 -- an answer, and the receiver after it
 pub record Handles (Shelf Book : Type 0) : Type 0 where
-  pub answer : Received
+  pub answer : Result Account Why
   pub after : Keeps Shelf Book
 
-abbrev pub handles : {Shelf Book : Type 0} → Received → Keeps Shelf Book → Handles Shelf Book
+abbrev pub handles : {Shelf Book : Type 0} → Result Account Why → Keeps Shelf Book → Handles Shelf Book
 handles a k = record { answer = a; after = k }
 
 module _ (P : Parts) where
@@ -61,7 +59,7 @@ module _ (P : Parts) where
   abbrev pub Handled : Type 0
   Handled = Handles P.store.Shelf P.rules.Book
 
-  abbrev pub handled : Received → Receiver → Handled
+  abbrev pub handled : Result Account Why → Receiver → Handled
   handled a k = handles a k
 
   -- "tables, output and state keep every byte"
@@ -69,7 +67,7 @@ module _ (P : Parts) where
   handled_by (bad w) k = handled (refused_by w) k
   handled_by (records cs) k =
       let t : theory.Told = theory.told P.store (engine_of P.rules) cs k.rx in
-      handled (Received.Accepted (account t)) (receiver (theory.run P.store (engine_of P.rules) cs k.rx) t.stopped k.edition)
+      handled (Ok (account t)) (receiver (theory.run P.store (engine_of P.rules) cs k.rx) t.stopped k.edition)
 
   -- no 6
   unfoldable pub fit : Receiver → Bool
@@ -77,7 +75,7 @@ module _ (P : Parts) where
 
   -- "Order: 6, 1, then records from the front, each by 2, 5, 3, 4"
   unfoldable pub receives : Receiver → List ℕ → Handled
-  receives k p = pick (fit k) (handled_by (P.frame p) k) (handled (Received.Refused (refusal 6)) k)
+  receives k p = pick (fit k) (handled_by (P.frame p) k) (handled (Err (Why.Alone (refusal 6))) k)
 
   -- packet after packet, a call for each; a refused one leaves the receiver as it is
   unfoldable pub receives_all : List (List ℕ) → Receiver → Receiver

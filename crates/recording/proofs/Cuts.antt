@@ -22,7 +22,7 @@ use Rattle.recording.specs.Stream.{Standing, Hearing, hearing, heard, hearer, by
 use Rattle.recording.specs.Carve.{passed, grown, carve}
 use Rattle.recording.specs.Whole.{rest_of}
 use Rattle.recording.specs.declared.Stream.{Stream}
-use Rattle.recording.specs.declared.Fed.{Fed}
+use Rattle.std.specs.Prelude.{Ok, Err}
 use Rattle.recording.proofs.Exits.{buffer_fits}
 use Rattle.recording.proofs.Heard.{cut_rest}
 
@@ -48,10 +48,10 @@ module _ (w : ℕ) (big : hold_least ≤ w) where
   all_in (b ∷ bs) x h = all_in bs (byte b x) (byte_in b x h)
 
 -- ---- what is left between two chunks is all that counts
-module _ (w : ℕ) (y : Hearing) (k : Stream) (o s h ix w' : List ℕ) (left : took w y ≡ feeding (Fed.Took k) o s h ix w') where
+module _ (w : ℕ) (y : Hearing) (k : Stream) (o s h ix w' : List ℕ) (left : took w y ≡ feeding (Ok k) o s h ix w') where
   pub same_stream : stream_in y ≡ k
   unfolding took
-  same_stream = let e : Fed.Took (stream_in y) ≡ Fed.Took k = ap (λ (v : Feeding). v.answer) left in cc
+  same_stream = let e : Ok (stream_in y) ≡ Ok k = ap (λ (v : Feeding). v.answer) left in cc
 
   pub again : hearing_of k o s h ix w' ≡ y
   unfolding took
@@ -66,15 +66,15 @@ module _ (w : ℕ) (y : Hearing) (k : Stream) (o s h ix w' : List ℕ) (left : t
       ∙ rw (length-append, length-replicate) (omega arith)
 
 -- a stream that was not refused took the chunk's bytes
-module _ (k k' : Stream) (o s h ix w o' s' h' ix' w' a : List ℕ) (e : fed k o s h ix w a ≡ feeding (Fed.Took k') o' s' h' ix' w') where
-  fed_bytes : (feedable k (length o) (length s) (length h) (length ix) (length w) ≡ true) × (took (length w) (each byte a (hearing_of k o s h ix w)) ≡ feeding (Fed.Took k') o' s' h' ix' w')
+module _ (k k' : Stream) (o s h ix w o' s' h' ix' w' a : List ℕ) (e : fed k o s h ix w a ≡ feeding (Ok k') o' s' h' ix' w') where
+  fed_bytes : (feedable k (length o) (length s) (length h) (length ix) (length w) ≡ true) × (took (length w) (each byte a (hearing_of k o s h ix w)) ≡ feeding (Ok k') o' s' h' ix' w')
   unfolding fed
   fed_bytes = go (pick_cases e)
     where
-      go : ((feedable k (length o) (length s) (length h) (length ix) (length w) ≡ true) × (took (length w) (each byte a (hearing_of k o s h ix w)) ≡ feeding (Fed.Took k') o' s' h' ix' w')) ⊎ ((feedable k (length o) (length s) (length h) (length ix) (length w) ≡ false) × (feeding (Fed.Refused (refusal 6)) o s h ix w ≡ feeding (Fed.Took k') o' s' h' ix' w')) → (feedable k (length o) (length s) (length h) (length ix) (length w) ≡ true) × (took (length w) (each byte a (hearing_of k o s h ix w)) ≡ feeding (Fed.Took k') o' s' h' ix' w')
+      go : ((feedable k (length o) (length s) (length h) (length ix) (length w) ≡ true) × (took (length w) (each byte a (hearing_of k o s h ix w)) ≡ feeding (Ok k') o' s' h' ix' w')) ⊎ ((feedable k (length o) (length s) (length h) (length ix) (length w) ≡ false) × (feeding (Err (refusal 6)) o s h ix w ≡ feeding (Ok k') o' s' h' ix' w')) → (feedable k (length o) (length s) (length h) (length ix) (length w) ≡ true) × (took (length w) (each byte a (hearing_of k o s h ix w)) ≡ feeding (Ok k') o' s' h' ix' w')
       go (inl q) = q
       go (inr q) =
-          let r : Fed.Refused (refusal 6) ≡ Fed.Took k' = ap (λ (v : Feeding). v.answer) q.1 in
+          let r : Err (refusal 6) ≡ Ok k' = ap (λ (v : Feeding). v.answer) q.1 in
           let z : ◌≡◌ {A = ℕ} 0 1 = cc in absurd (omega arith)
 
   -- a and then b is a ++ b, wherever the stream that a left is not refused
@@ -88,13 +88,13 @@ module _ (k k' : Stream) (o s h ix w o' s' h' ix' w' a : List ℕ) (e : fed k o 
       let few : length y.unfinished ≤ length w = all_in (length w) room.1 a x (rw (length-take-le k.held w room.0) room.0) in
       let size : length w' ≡ length w = same_size (length w) y k' o' s' h' ix' w' q.1 few in
       let back : hearing_of k' o' s' h' ix' w' ≡ y = again (length w) y k' o' s' h' ix' w' q.1 in
-      ap (λ t. pick t (took (length w') (each byte b (hearing_of k' o' s' h' ix' w'))) (feeding (Fed.Refused (refusal 6)) o' s' h' ix' w')) f
+      ap (λ t. pick t (took (length w') (each byte b (hearing_of k' o' s' h' ix' w'))) (feeding (Err (refusal 6)) o' s' h' ix' w')) f
       ∙ (λ i. took (size i) (each byte b (back i)))
       ∙ ap (took (length w)) (sym (feed_append byte a b x))
-      ∙ ap (λ t. pick t (took (length w) (each byte (a ++ b) x)) (feeding (Fed.Refused (refusal 6)) o s h ix w)) (sym q.0)
+      ∙ ap (λ t. pick t (took (length w) (each byte (a ++ b) x)) (feeding (Err (refusal 6)) o s h ix w)) (sym q.0)
 
 -- "a recording that ends inside a length or packet gives `recording=cut`": an opened stream that took t is cut where anything is left of t behind its packets, and only there
-pub fed_cut : (q : State) (k : Stream) (o s h ix w o' s' h' ix' w' t : List ℕ) → fed (opened q) o s h ix w t ≡ feeding (Fed.Took k) o' s' h' ix' w' → cut k ≡ ltb 0 (length (rest_of t))
+pub fed_cut : (q : State) (k : Stream) (o s h ix w o' s' h' ix' w' t : List ℕ) → fed (opened q) o s h ix w t ≡ feeding (Ok k) o' s' h' ix' w' → cut k ≡ ltb 0 (length (rest_of t))
 fed_cut q k o s h ix w o' s' h' ix' w' t e =
     let y : Hearing = each byte t (hearing_of (opened q) o s h ix w) in
     let left = (fed_bytes (opened q) k o s h ix w o' s' h' ix' w' t e).1 in

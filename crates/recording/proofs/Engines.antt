@@ -13,11 +13,12 @@ use Rattle.editions.specs.declared.Edition.{Edition}
 use Rattle.wire.specs.Le.{field}
 use Rattle.receiver.specs.Lent.{Lent, plain_of, received, sizes_ok}
 use Rattle.receiver.specs.Engines.{packet, done, done_all, SameRuns}
-use Rattle.receiver.specs.declared.Received.{Received}
+use Rattle.std.specs.Prelude.{Result, Ok, Err}
+use Rattle.packet.specs.declared.Why.{Why}
+use Rattle.receiver.specs.declared.Account.{Account}
 use Rattle.receiver.proofs.Engines.{both_engines}
 use Rattle.recording.specs.Stream.{more, added, Standing, noted, too_long, heard, hears, hearing, Feeding, took}
 use Rattle.recording.specs.Whole.{packets_of, rest_of, waiting, fed_all, began, opened_over, SameFeeds}
-use Rattle.recording.specs.declared.Fed.{Fed}
 use Rattle.recording.proofs.FromStart.{any_pieces}
 
 -- what packets change, alike but for the index
@@ -27,11 +28,10 @@ record Alike (x y : Standing) : Type 0 where
   totals_same : x.totals ≡ y.totals
   runs_same : SameRuns x.lent y.lent
 
-noted_alike : (a : Received) (l l' : Lent) (x y : Standing) → SameRuns l l' → Alike x y → Alike (noted a l x) (noted a l' y)
+noted_alike : (a : Result Account Why) (l l' : Lent) (x y : Standing) → SameRuns l l' → Alike x y → Alike (noted a l x) (noted a l' y)
 unfolding noted
-noted_alike (Received.Accepted a) l l' x y r h = record { bad_same = h.bad_same; last_same = h.last_same; totals_same = ap (added a.counts) h.totals_same; runs_same = r }
-noted_alike (Received.Refused q) l l' x y r h = record { bad_same = ap (λ (n : ℕ). more n 1) h.bad_same; last_same = refl; totals_same = h.totals_same; runs_same = r }
-noted_alike (Received.Bad f) l l' x y r h = record { bad_same = ap (λ (n : ℕ). more n 1) h.bad_same; last_same = refl; totals_same = h.totals_same; runs_same = r }
+noted_alike (Ok a) l l' x y r h = record { bad_same = h.bad_same; last_same = h.last_same; totals_same = ap (added a.counts) h.totals_same; runs_same = r }
+noted_alike (Err w) l l' x y r h = record { bad_same = ap (λ (n : ℕ). more n 1) h.bad_same; last_same = refl; totals_same = h.totals_same; runs_same = r }
 
 heard_alike : (p : List ℕ) (x y : Standing) → Alike x y → Alike (heard p x) (heard p y)
 unfolding heard pick done done_all
@@ -47,7 +47,7 @@ heard_alike p x y h = go (ltb packet_most (length p))
         → Alike (pick t (too_long x) (noted (received x.lent p).answer (received x.lent p).after x)) (pick t (too_long y) (noted (received y.lent p).answer (received y.lent p).after y))
     go true = record { bad_same = ap (λ (n : ℕ). more n 1) h.bad_same; last_same = refl; totals_same = h.totals_same; runs_same = h.runs_same }
     go false =
-        subst (λ (a : Received). Alike (noted a (received x.lent p).after x) (noted (received y.lent p).answer (received y.lent p).after y)) (sym answer_same)
+        subst (λ (a : Result Account Why). Alike (noted a (received x.lent p).after x) (noted (received y.lent p).answer (received y.lent p).after y)) (sym answer_same)
         (noted_alike (received y.lent p).answer (received x.lent p).after (received y.lent p).after x y after_same h)
 
 hears_alike : (ps : List (List ℕ)) (x y : Standing) → Alike x y → Alike (hears ps x) (hears ps y)
@@ -62,7 +62,7 @@ module _ (w : ℕ) (x y : Standing) (h : Alike x y) where
   took_alike u n =
       let e : plain_of x.lent ≡ plain_of y.lent = h.runs_same.tables [] in
       record {
-        answer = λ i. Fed.Took (record { receiver = record { next = (e i).rx.next; clock = (e i).rx.book.clock; stop = (e i).stop; edition = (e i).edition }; held = length u; skip = n; bad = h.bad_same i; last = h.last_same i; totals = h.totals_same i });
+        answer = λ i. Ok (record { receiver = record { next = (e i).rx.next; clock = (e i).rx.book.clock; stop = (e i).stop; edition = (e i).edition }; held = length u; skip = n; bad = h.bad_same i; last = h.last_same i; totals = h.totals_same i });
         orders = λ i. (e i).rx.book.orders;
         symbols = λ i. (e i).rx.book.symbols;
         shelf = λ i. (e i).rx.shelf;

@@ -7,8 +7,8 @@ use mathlib.Core.List.{List, [], ◌∷◌, ◌++◌, append-nil}
 use native.Mathlib.Nat.{add-sub_cancel_left}
 use native.Mathlib.Numerals.{add-one}
 use native.Mathlib.Omega.{arith}
-use lib.ListN.{length, take, drop, get_or, set, replicate, drop_of_length-le, length-drop, length-set}
-use lib.Seq.{take-suc-set, drop-drop, length-take-le}
+use lib.ListN.{length, take, drop, get_or, set, replicate, drop_of_length-le, length-take, length-drop, length-set}
+use lib.Seq.{take-suc-set, length-take-le}
 use borrow.Rule.Slice.PartMut.{put_mid}
 use lib.Dec.{leb, eqb}
 use borrow.Author.Tests.{leb-true, lt-ltb, le-ltb, eq-eqb, ne_eqb}
@@ -18,64 +18,41 @@ use Rattle.facts.proofs.Picks.{both_true, pick_ind}
 use Rattle.wire.specs.Le.{field}
 use Rattle.arbitration.specs.Stream.{each}
 use Rattle.fields.specs.Fields.{refusal, bad_at}
-use Rattle.fields.specs.declared.Refusal.{Refusal}
-use Rattle.fields.specs.declared.Fault.{Fault}
 use Rattle.receiver.specs.Receiver.{next_ok}
-use Rattle.receiver.specs.Lent.{Handled, lent, received, sizes_ok}
-use Rattle.receiver.specs.declared.State.{State}
+use Rattle.receiver.specs.Lent.{Handled, received, sizes_ok}
 use Rattle.receiver.specs.declared.Account.{Account}
-use Rattle.receiver.specs.declared.Received.{Received}
-use Rattle.recording.specs.Stream.{more, added, Standing, standing, refused_for, noted, heard, hearer, Hearing, hearing, byte, standing_of, hearing_of, feedable, feeding, took, fed}
+use Rattle.std.specs.Prelude.{Result, Ok, Err}
+use Rattle.packet.specs.declared.Why.{Why}
+use Rattle.recording.specs.Stream.{added, Standing, standing, refused_for, placed, noted, heard, hearer, Hearing, hearing, byte, standing_of, hearing_of, feedable, feeding, took, fed}
 use Rattle.recording.specs.Carve.{passed, grown}
-use Rattle.recording.specs.Steps.{missing, passed_on, passed_end, WholeAt, Passed, Pushed, Stepped, Ran}
+use Rattle.recording.specs.Steps.{missed, passed_on, passed_over}
+use Rattle.recording.specs.Whole.{InFront}
 use Rattle.arbitration.specs.declared.Counts.{Counts}
 use Rattle.recording.specs.declared.Stream.{Stream}
-use Rattle.recording.specs.declared.Fed.{Fed}
-use Rattle.recording.specs.declared.Moved.{Moved}
 use Rattle.recording.proofs.Bytes.{byte_grows, at_byte, passes, keeps_one, over_long, keeps, gives, at_once, length_grew, same_length_field, same_bytes}
 
 -- ---- `hear`: a packet, by its answer
 module _ (k : Standing) (p : List ℕ) (short : length p ≤ packet_most) (x : Handled) (x_is : x ≡ received k.lent p) where
-  heard_as : (a : Received) → x.answer ≡ a → noted a x.after k ≡ heard p k
+  heard_as : (a : Result Account Why) → x.answer ≡ a → noted a x.after k ≡ heard p k
   unfolding heard pick
-  heard_as a e = simp (le-ltb packet_most (length p) short) (ap (λ (b : Received). noted b x.after k) (sym e) ∙ ap (λ (y : Handled). noted y.answer y.after k) x_is)
+  heard_as a e = simp (le-ltb packet_most (length p) short) (ap (λ (b : Result Account Why). noted b x.after k) (sym e) ∙ ap (λ (y : Handled). noted y.answer y.after k) x_is)
 
-  pub heard_accepted : (a : Account) → x.answer ≡ Received.Accepted a → (n : Counts) → n ≡ added a.counts k.totals → standing k.bad k.last n x.after ≡ heard p k
+  pub heard_accepted : (a : Account) → x.answer ≡ Ok a → (n : Counts) → n ≡ added a.counts k.totals → standing k.bad k.last n x.after ≡ heard p k
   unfolding noted
-  heard_accepted a e n q = ap (λ m. standing k.bad k.last m x.after) q ∙ heard_as (Received.Accepted a) e
+  heard_accepted a e n q = ap (λ m. standing k.bad k.last m x.after) q ∙ heard_as (Ok a) e
 
-  pub heard_refused : (r : Refusal) → x.answer ≡ Received.Refused r → refused_for (bad_at r.number 0) x.after k ≡ heard p k
+  pub heard_refused : (w : Why) → x.answer ≡ Err w → refused_for (placed w) x.after k ≡ heard p k
   unfolding noted
-  heard_refused r e = heard_as (Received.Refused r) e
+  heard_refused w e = heard_as (Err w) e
 
-  pub heard_bad : (f : Fault) → x.answer ≡ Received.Bad f → refused_for f x.after k ≡ heard p k
-  unfolding noted
-  heard_bad f e = heard_as (Received.Bad f) e
+-- ---- `passed`: n bytes of an over-long packet, with or without its last one
+pub passed_last : (n : ℕ) (k v : Stream) → n ≤ k.skip → k.skip - n ≡ 0 → v ≡ missed (bad_at 1 0) (passed_on n k) → v ≡ passed_over n k
+unfolding pick
+passed_last n k v l z e = e ∙ (λ i. pick (sym (eq-eqb n k.skip (omega arith)) i) (missed (bad_at 1 0) (passed_on n k)) (passed_on n k))
 
--- a refused packet, over any tables
-pub missed_as : (k v : Stream) (q : State) (f : Fault) (o s h ix : List ℕ) → v ≡ missing k q f → standing_of v o s h ix ≡ standing (more k.bad 1) f k.totals (lent o s h ix q)
-missed_as k v q f o s h ix e = ap (λ (x : Stream). standing_of x o s h ix) e
-
--- ---- `pass`
-module _ (k : Stream) (at end : ℕ) (inside : at < end) where
-  pub passed_whole : k.skip ≤ end - at → 0 < k.skip → (b : ℕ) → b ≡ more k.bad 1 → Passed k at end (record { at = at + k.skip; stream = record { receiver = k.receiver; held = k.held; skip = 0; bad = b; last = bad_at 1 0; totals = k.totals } })
-  unfolding pick
-  passed_whole l p b e =
-      let n : at + k.skip - at ≡ k.skip = omega arith in
-      let z : 0 ≡ k.skip - (at + k.skip - at) = omega arith in
-      let t : eqb (at + k.skip - at) k.skip ≡ true = eq-eqb (at + k.skip - at) k.skip n in
-      record {
-        on = omega arith;
-        within = omega arith;
-        most = omega arith;
-        stream_is = (λ i. record { receiver = k.receiver; held = k.held; skip = z i; bad = e i; last = bad_at 1 0; totals = k.totals }) ∙ (λ i. pick (sym t i) (passed_end (at + k.skip - at) k) (passed_on (at + k.skip - at) k));
-      }
-
-  pub passed_part : end - at < k.skip → Passed k at end (record { at = end; stream = passed_on (end - at) k })
-  unfolding pick
-  passed_part l =
-      let t : eqb (end - at) k.skip ≡ false = ne_eqb (end - at) k.skip (λ e. omega arith) in
-      record { on = inside; within = omega arith; most = omega arith; stream_is = λ i. pick (sym t i) (passed_end (end - at) k) (passed_on (end - at) k) }
+pub passed_more : (n : ℕ) (k : Stream) → (k.skip - n ≡ 0 → ⊥) → passed_on n k ≡ passed_over n k
+unfolding pick
+passed_more n k z = λ i. pick (sym (ne_eqb n k.skip (λ e. z (omega arith))) i) (missed (bad_at 1 0) (passed_on n k)) (passed_on n k)
 
 -- ---- `clear`
 pub clear_zeros : (w : List ℕ) (h : ℕ) (z : List ℕ) → h ≤ length w → z ≡ replicate (length (take (length w - h) (drop h w))) 0 → put_mid h (length w - h) w z ≡ take h w ++ replicate (length w - h) 0
@@ -104,12 +81,12 @@ module _ (k : Stream) (o s h ix w : List ℕ) (b : ℕ) (no_skip : k.skip ≡ 0)
   u_size : length u ≡ k.held + 1
   u_size = length_grew w k.held b fits
 
-  one_kept : grown hearer u K ≡ hearing u 0 K → k.held < length w → (m : ℕ) → m ≡ k.held + 1 → Pushed b x (record { receiver = k.receiver; held = m; skip = k.skip; bad = k.bad; last = k.last; totals = k.totals }) o s h ix w'
+  one_kept : grown hearer u K ≡ hearing u 0 K → k.held < length w → (m : ℕ) → m ≡ k.held + 1 → hearing (take m w') k.skip K ≡ byte b x
   one_kept g l m e =
       let front : take m w' ≡ u = ap (λ v. take m v) stored ∙ ap (λ j. take j (set w k.held b)) (e ∙ add-one k.held) ∙ take-suc-set w k.held b l in
-      record { fits = omega (arith, same_size); is = (λ i. hearing (front i) (no_skip i) K) ∙ sym g ∙ sym is_grown }
+      (λ i. hearing (front i) (no_skip i) K) ∙ sym g ∙ sym is_grown
 
-  pub push_first : k.held ≡ 0 → Pushed b x (record { receiver = k.receiver; held = 1; skip = k.skip; bad = k.bad; last = k.last; totals = k.totals }) o s h ix w'
+  pub push_first : k.held ≡ 0 → hearing (take 1 w') k.skip K ≡ byte b x
   push_first z = one_kept (keeps_one hearer u K (omega (arith, u_size))) (omega arith) 1 (omega arith)
 
   module _ (some : k.held ≡ 0 → ⊥) (n : ℕ) (n_is : n ≡ field w' 0 2) where
@@ -119,92 +96,79 @@ module _ (k : Stream) (o s h ix w : List ℕ) (b : ℕ) (no_skip : k.skip ≡ 0)
     u_two : 2 ≤ length u
     u_two = omega (arith, u_size)
 
-    pub push_over : packet_most < n → Pushed b x (record { receiver = k.receiver; held = 0; skip = n; bad = k.bad; last = k.last; totals = k.totals }) o s h ix w'
+    pub push_over : packet_most < n → hearing [] n K ≡ byte b x
     push_over l =
         let g = over_long hearer u K u_two (lt-ltb packet_most (field u 0 2) (omega (arith, u_field))) in
-        record { fits = omega arith; is = (λ i. hearing [] (u_field i) K) ∙ sym g ∙ sym is_grown }
+        (λ i. hearing [] (u_field i) K) ∙ sym g ∙ sym is_grown
 
-    pub push_keeps : n ≤ packet_most → k.held ≤ n → Pushed b x (record { receiver = k.receiver; held = k.held + 1; skip = k.skip; bad = k.bad; last = k.last; totals = k.totals }) o s h ix w'
+    pub push_keeps : n ≤ packet_most → k.held ≤ n → hearing (take (k.held + 1) w') k.skip K ≡ byte b x
     push_keeps a c = one_kept (keeps hearer u K u_two (le-ltb packet_most (field u 0 2) (omega (arith, u_field))) (omega (arith, u_field, u_size))) (omega arith) (k.held + 1) refl
 
-    pub push_gives : n ≤ packet_most → n < k.held → (r : Stream) (o' s' h' ix' : List ℕ) → standing_of r o' s' h' ix' ≡ heard (take (2 + n - 2) (drop 2 w')) K → r.held ≡ 0 → r.skip ≡ 0 → Pushed b x r o' s' h' ix' w'
-    push_gives a c r o' s' h' ix' e z y =
+    -- z: where the whole packet led, with nothing held
+    pub push_gives : n ≤ packet_most → n < k.held → (z : Standing) → z ≡ heard (take (2 + n - 2) (drop 2 w')) K → hearing [] 0 z ≡ byte b x
+    push_gives a c z e =
         let g = gives hearer u K u_two (le-ltb packet_most (field u 0 2) (omega (arith, u_field))) (omega (arith, u_field, u_size)) in
         let p : take (2 + n - 2) (drop 2 w') ≡ take (field u 0 2) (drop 2 u) = rw (add-sub_cancel_left 2 n, stored, ← u_field) (same_bytes w k.held b fits n (omega arith) (omega arith)) in
-        record { fits = omega arith; is = (λ i. hearing (take (z i) w') (y i) (e i)) ∙ ap (λ q. hearing [] 0 (heard q K)) p ∙ sym g ∙ sym is_grown }
+        ap (hearing [] 0) e ∙ ap (λ q. hearing [] 0 (heard q K)) p ∙ sym g ∙ sym is_grown
 
 -- ---- `step`
-here_length : (t : List ℕ) (at : ℕ) → field (drop at t) 0 2 ≡ field t at 2
-unfolding field
-here_length t at = refl
-
 -- a stream that passes bytes over is the carving that does
-as_passed : (t : Bool) (n : ℕ) (k : Stream) (o s h ix w : List ℕ) → hearing_of (pick t (passed_end n k) (passed_on n k)) o s h ix w ≡ hearing (take k.held w) (k.skip - n) (pick t (hearer.long (standing_of k o s h ix)) (standing_of k o s h ix))
+as_passed : (t : Bool) (n : ℕ) (k : Stream) (o s h ix w : List ℕ) → hearing_of (pick t (missed (bad_at 1 0) (passed_on n k)) (passed_on n k)) o s h ix w ≡ hearing (take k.held w) (k.skip - n) (pick t (hearer.long (standing_of k o s h ix)) (standing_of k o s h ix))
 unfolding pick
 as_passed true n k o s h ix w = refl
 as_passed false n k o s h ix w = refl
 
-pub step_passes : (k : Stream) (o s h ix w chunk : List ℕ) (at : ℕ) (r : Moved) → 0 < k.skip → k.held ≤ length w → Passed k at (length chunk) r → Stepped chunk at (hearing_of k o s h ix w) r o s h ix w
+-- ch: what is left of a chunk
+pub step_passes : (k : Stream) (o s h ix w ch : List ℕ) (n : ℕ) (v : Stream) → 0 < n → n ≤ k.skip → n ≤ length ch → v ≡ passed_over n k → each byte (drop n ch) (hearing_of v o s h ix w) ≡ each byte ch (hearing_of k o s h ix w)
 unfolding passed
-step_passes k o s h ix w chunk at r p fits q =
-    let n : ℕ = r.at - at in
-    let place : at + n ≡ r.at = omega (arith, q.on) in
-    let behind : drop n (drop at chunk) ≡ drop r.at chunk = drop-drop n at chunk ∙ ap (λ j. drop j chunk) place in
-    let ends : r.stream.held ≡ k.held = ap (λ (v : Stream). v.held) q.stream_is ∙ pick_ind (λ (v : Stream). v.held ≡ k.held) (eqb n k.skip) (passed_end n k) (passed_on n k) (λ _. refl) (λ _. refl) in
-    record {
-      on = q.on;
-      within = q.within;
-      fits = omega arith;
-      same =
-          ap (λ v. each byte (drop r.at chunk) (hearing_of v o s h ix w)) q.stream_is
-          ∙ ap (each byte (drop r.at chunk)) (as_passed (eqb n k.skip) n k o s h ix w)
-          ∙ ap (λ d. each byte d (passed hearer n (hearing_of k o s h ix w))) (sym behind)
-          ∙ passes hearer n (drop at chunk) (hearing_of k o s h ix w) (omega (arith, q.on)) q.most (rw length-drop (omega (arith, q.on, q.within)));
-    }
+step_passes k o s h ix w ch n v p a l e =
+    ap (λ x. each byte (drop n ch) (hearing_of x o s h ix w)) e
+    ∙ ap (each byte (drop n ch)) (as_passed (eqb n k.skip) n k o s h ix w)
+    ∙ passes hearer n ch (hearing_of k o s h ix w) p a l
 
-pub step_gives : (k : Stream) (o s h ix w chunk : List ℕ) (at m : ℕ) → k.skip ≡ 0 → k.held ≡ 0 → 0 < m → WholeAt chunk at m → (r : Stream) (o' s' h' ix' : List ℕ) → standing_of r o' s' h' ix' ≡ heard (take (at + m - (at + 2)) (drop (at + 2) chunk)) (standing_of k o s h ix) → r.held ≡ 0 → r.skip ≡ 0 → Stepped chunk at (hearing_of k o s h ix w) (record { at = at + m; stream = r }) o' s' h' ix' w
-step_gives k o s h ix w chunk at m no_skip none some q r o' s' h' ix' e z y =
-    let l : List ℕ = drop at chunk in
-    let f : field l 0 2 ≡ field chunk at 2 = here_length chunk at in
-    let size : at + m - (at + 2) ≡ field l 0 2 = omega (arith, q.is) in
-    let p : take (at + m - (at + 2)) (drop (at + 2) chunk) ≡ take (field l 0 2) (drop 2 l) = rw (size, drop-drop 2 at chunk) refl in
-    let place : at + (2 + field l 0 2) ≡ at + m = omega (arith, q.is) in
-    let behind : drop (2 + field l 0 2) l ≡ drop (at + m) chunk = drop-drop (2 + field l 0 2) at chunk ∙ ap (λ j. drop j chunk) place in
-    record {
-      on = omega arith;
-      within = q.fits;
-      fits = omega arith;
-      same =
-          (λ i. each byte (drop (at + m) chunk) (hearing (take (z i) w) (y i) (e i)))
-          ∙ ap (λ v. each byte (drop (at + m) chunk) (hearing [] 0 (heard v (standing_of k o s h ix)))) p
-          ∙ ap (λ d. each byte d (hearing [] 0 (heard (take (field l 0 2) (drop 2 l)) (standing_of k o s h ix)))) (sym behind)
-          ∙ at_once hearer l (standing_of k o s h ix) (le-ltb packet_most (field l 0 2) (omega (arith, q.small))) (rw length-drop (omega (arith, q.is, q.fits)))
-          ∙ (λ i. each byte l (hearing (take (sym none i) w) (sym no_skip i) (standing_of k o s h ix)));
-    }
+-- bytes passed over leave the bytes that are held
+pub passed_holds : (n : ℕ) (k v : Stream) → v ≡ passed_over n k → v.held ≡ k.held
+passed_holds n k v e = ap (λ (x : Stream). x.held) e ∙ pick_ind (λ (x : Stream). x.held ≡ k.held) (eqb n k.skip) (missed (bad_at 1 0) (passed_on n k)) (passed_on n k) (λ _. refl) (λ _. refl)
 
-pub step_pushes : (chunk : List ℕ) (at : ℕ) (x : Hearing) (r : Stream) (o s h ix w : List ℕ) → at < length chunk → Pushed (get_or chunk at 0) x r o s h ix w → Stepped chunk at x (record { at = at + 1; stream = r }) o s h ix w
-step_pushes chunk at x r o s h ix w l q =
-    record { on = omega arith; within = omega arith; fits = q.fits; same = ap (each byte (drop (at + 1) chunk)) q.is ∙ at_byte hearer chunk at x l }
+-- a packet in front lies inside
+pub in_front : {p t : List ℕ} → InFront p t → 2 + length p ≤ length t
+in_front {p = p} {t = t} q = omega (arith, q.length_there, simp (length-take, length-drop) at (ap length q.bytes_are))
+
+-- z: where the whole packet in front led, with nothing held
+pub step_gives : (k : Stream) (o s h ix w ch p : List ℕ) → k.skip ≡ 0 → k.held ≡ 0 → InFront p ch → length p ≤ packet_most → 2 + length p ≤ length ch → (z : Standing) → z ≡ heard p (standing_of k o s h ix)
+    → each byte (drop (2 + length p) ch) (hearing [] 0 z) ≡ each byte ch (hearing_of k o s h ix w)
+step_gives k o s h ix w ch p no_skip none q short there z e =
+    let K : Standing = standing_of k o s h ix in
+    let m : length p ≡ field ch 0 2 = sym q.length_is in
+    let bytes : p ≡ take (field ch 0 2) (drop 2 ch) = sym q.bytes_are ∙ ap (λ n. take n (drop 2 ch)) m in
+    ap (λ x. each byte (drop (2 + length p) ch) (hearing [] 0 x)) e
+    ∙ (λ i. each byte (drop (2 + m i) ch) (hearing [] 0 (heard (bytes i) K)))
+    ∙ at_once hearer ch K (le-ltb packet_most (field ch 0 2) (omega (arith, q.length_is))) (omega (arith, q.length_is))
+    ∙ (λ i. each byte ch (hearing (take (sym none i) w) (sym no_skip i) K))
+
+pub step_pushes : (ch : List ℕ) (x y : Hearing) → 0 < length ch → y ≡ byte (get_or ch 0 0) x → each byte (drop 1 ch) y ≡ each byte ch x
+step_pushes ch x y l e = ap (each byte (drop 1 ch)) e ∙ at_byte hearer ch 0 x l
 
 -- ---- the loop's end
-pub ran : (chunk : List ℕ) (at : ℕ) → length chunk ≤ at → (y end : Hearing) → each byte (drop at chunk) y ≡ end → y ≡ end
+pub ran : (ch : List ℕ) → length ch ≡ 0 → (y z : Hearing) → each byte ch y ≡ z → y ≡ z
 unfolding each
-ran chunk at l y end e = ap (λ d. each byte d y) (sym (drop_of_length-le chunk l)) ∙ e
+ran [] l y z e = e
+ran (c ∷ cs) l y z e = absurd (omega arith)
 
 -- ---- `feed`
 module _ (k : Stream) (o s h ix w chunk : List ℕ) where
-  pub fed_refused : feedable k (length o) (length s) (length h) (length ix) (length w) ≡ false → feeding (Fed.Refused (refusal 6)) o s h ix w ≡ fed k o s h ix w chunk
+  pub fed_refused : feedable k (length o) (length s) (length h) (length ix) (length w) ≡ false → feeding (Err (refusal 6)) o s h ix w ≡ fed k o s h ix w chunk
   unfolding fed pick
   fed_refused e = simp e
 
-  -- r and o' to w' after all bytes, z the buffer with the rest zeroed
-  pub fed_took : feedable k (length o) (length s) (length h) (length ix) (length w) ≡ true → (r : Stream) (o' s' h' ix' w' z : List ℕ) → length w' ≡ length w → Ran chunk (hearing_of k o s h ix w) r o' s' h' ix' w' → z ≡ take r.held w' ++ replicate (length w' - r.held) 0 → feeding (Fed.Took r) o' s' h' ix' z ≡ fed k o s h ix w chunk
+  -- r and o' to ix' after all bytes, as they came back; w' the buffer then, and z it with the rest zeroed
+  pub fed_took : feedable k (length o) (length s) (length h) (length ix) (length w) ≡ true → (r : Stream) (o' s' h' ix' w' z o₁ s₁ h₁ ix₁ : List ℕ) → o' ≡ o₁ → s' ≡ s₁ → h' ≡ h₁ → ix' ≡ ix₁ → length w' ≡ length w → r.held ≤ length w' → hearing_of r o₁ s₁ h₁ ix₁ w' ≡ each byte chunk (hearing_of k o s h ix w) → z ≡ take r.held w' ++ replicate (length w' - r.held) 0 → feeding (Ok r) o' s' h' ix' z ≡ fed k o s h ix w chunk
   unfolding fed took pick
-  fed_took e r o' s' h' ix' w' z n q c =
-      let len : r.held ≡ length (take r.held w') = sym (length-take-le r.held w' q.fits) in
+  fed_took e r o' s' h' ix' w' z o₁ s₁ h₁ ix₁ os ss hs is n fits q c =
+      let len : r.held ≡ length (take r.held w') = sym (length-take-le r.held w' fits) in
       let buffer : z ≡ take r.held w' ++ replicate (length w - length (take r.held w')) 0 = c ∙ (λ i. take r.held w' ++ replicate (n i - len i) 0) in
-      (λ i. feeding (Fed.Took (record { receiver = r.receiver; held = len i; skip = r.skip; bad = r.bad; last = r.last; totals = r.totals })) o' s' h' ix' (buffer i))
-      ∙ ap (took (length w)) q.is
+      (λ i. feeding (Ok (record { receiver = r.receiver; held = len i; skip = r.skip; bad = r.bad; last = r.last; totals = r.totals })) (os i) (ss i) (hs i) (is i) (buffer i))
+      ∙ ap (took (length w)) q
       ∙ simp e
 
 -- the buffer of a stream that is not refused

@@ -28,7 +28,7 @@ use Rattle.receiver.specs.Receiver.{receives_all}
 use Rattle.receiver.specs.Lent.{real, plain, book_engine, Lent, lent, orders_of, symbols_of, shelf_of, index_of, state_of, plain_of, received_all, start_index, fresh, fresh_state, zero_book, zero_ledger, sizes_ok, begun, started}
 use Rattle.receiver.specs.Chosen.{Begins}
 use Rattle.receiver.specs.declared.State.{State}
-use Rattle.receiver.specs.declared.Started.{Started}
+use Rattle.std.specs.Prelude.{Ok, Err}
 use Rattle.receiver.proofs.Fits.{never_six}
 use Rattle.receiver.proofs.Editions.{calls_keep}
 use Rattle.receiver.proofs.Real.{real_laws, fresh_started, fresh_real, start_ready, sizes_are}
@@ -36,7 +36,6 @@ use Rattle.receiver.proofs.Engines.{fresh_begins, calls_demand}
 use Rattle.recording.specs.Stream.{Standing, hears, Hearing, hearing, byte, standing_of, hearing_of, opened, cut, feedable, Feeding, feeding, stream_in, took, fed}
 use Rattle.recording.specs.Whole.{packets_of, rest_of, waiting, fed_on, fed_all, began, opened_over}
 use Rattle.recording.specs.declared.Stream.{Stream}
-use Rattle.recording.specs.declared.Fed.{Fed}
 use Rattle.recording.proofs.Heard.{all_heard, packets_heard, hears_receives, cut_rest}
 use Rattle.recording.proofs.Cuts.{all_in, same_stream, again, same_size, fed_then}
 
@@ -46,10 +45,10 @@ unfolding feedable both
 feedable_by k o s h i w six big fits = simp (six.0, six.1, le-leb hold_least w big, le-leb k.held w fits)
 
 -- `start` and `open`: a start that was not refused is where this begins
-pub start_opened : (ed : Edition) (o s h ix w : List ℕ) (st : State) (o' s' h' ix' : List ℕ) → begun (Started.Ready st) o' s' h' ix' ≡ started ed o s h ix → (sizes_ok (length o) (length s) (length h) (length ix) ≡ true) × (feeding (Fed.Took (opened st)) o' s' h' ix' w ≡ opened_over ed (length o) (length s) (length h) (length ix) w)
+pub start_opened : (ed : Edition) (o s h ix w : List ℕ) (st : State) (o' s' h' ix' : List ℕ) → begun (Ok st) o' s' h' ix' ≡ started ed o s h ix → (sizes_ok (length o) (length s) (length h) (length ix) ≡ true) × (feeding (Ok (opened st)) o' s' h' ix' w ≡ opened_over ed (length o) (length s) (length h) (length ix) w)
 start_opened ed o s h ix w st o' s' h' ix' e =
     let r = start_ready ed o s h ix st o' s' h' ix' e in
-    (r.0, ap (λ (l : Lent). feeding (Fed.Took (opened (state_of l))) (orders_of l) (symbols_of l) (shelf_of l) (index_of l) w) r.1)
+    (r.0, ap (λ (l : Lent). feeding (Ok (opened (state_of l))) (orders_of l) (symbols_of l) (shelf_of l) (index_of l) w) r.1)
 
 -- o, s, h, i: the lengths of the lent tables and of the index; w: the lent buffer
 module _ (ed : Edition) (o s h i : ℕ) (w : List ℕ) (sizes : sizes_ok o s h i ≡ true) (big : hold_least ≤ length w) where
@@ -81,7 +80,7 @@ module _ (ed : Edition) (o s h i : ℕ) (w : List ℕ) (sizes : sizes_ok o s h i
   one_is t = simp (feedable_by (opened (fresh_state ed)) (length (replicate o 0)) (length (replicate s 0)) (length (replicate h 0)) (length (start_index i o)) (length w) (six [] (fresh ed o s h i) refl) big (omega arith))
 
   -- what t left can be fed
-  goes_on : (t : List ℕ) (k : Stream) (o' s' h' ix' w' : List ℕ) → took (length w) (heard_all t) ≡ feeding (Fed.Took k) o' s' h' ix' w' → feedable k (length o') (length s') (length h') (length ix') (length w') ≡ true
+  goes_on : (t : List ℕ) (k : Stream) (o' s' h' ix' w' : List ℕ) → took (length w) (heard_all t) ≡ feeding (Ok k) o' s' h' ix' w' → feedable k (length o') (length s') (length h') (length ix') (length w') ≡ true
   goes_on t k o' s' h' ix' w' e =
       let few : length (heard_all t).unfinished ≤ length w = all_in (length w) big t (hearing [] 0 (began ed o s h i)) (omega arith) in
       let size : length w' ≡ length w = same_size (length w) (heard_all t) k o' s' h' ix' w' e few in
@@ -114,27 +113,27 @@ module _ (ed : Edition) (o s h i : ℕ) (w : List ℕ) (sizes : sizes_ok o s h i
   cut_alike c d cs ds e = as_one c cs ∙ ap one_chunk e ∙ sym (as_one d ds)
 
   -- no chunk is refused
-  pub never_refused : (cs : List (List ℕ)) (r : Refusal) → (fed_all cs (opened_over ed o s h i w)).answer ≡ Fed.Refused r → ⊥
+  pub never_refused : (cs : List (List ℕ)) (r : Refusal) → (fed_all cs (opened_over ed o s h i w)).answer ≡ Err r → ⊥
   unfolding fed_all took
   never_refused [] r e = let z : ◌≡◌ {A = ℕ} 0 1 = cc in absurd (omega arith)
   never_refused (c ∷ cs) r e =
       let y = heard_all (join (c ∷ cs)) in
-      let q : Fed.Took (stream_in y) ≡ Fed.Refused r = sym (ap (λ (x : Feeding). x.answer) (as_one c cs ∙ one_is (join (c ∷ cs)))) ∙ e in
+      let q : Ok (stream_in y) ≡ Err r = sym (ap (λ (x : Feeding). x.answer) (as_one c cs ∙ one_is (join (c ∷ cs)))) ∙ e in
       let z : ◌≡◌ {A = ℕ} 0 1 = cc in absurd (omega arith)
 
   -- ---- the stream and the tables at the end of any chunks, none included
-  module _ (cs : List (List ℕ)) (k : Stream) (o' s' h' ix' w' : List ℕ) (ended : fed_all cs (opened_over ed o s h i w) ≡ feeding (Fed.Took k) o' s' h' ix' w') where
+  module _ (cs : List (List ℕ)) (k : Stream) (o' s' h' ix' w' : List ℕ) (ended : fed_all cs (opened_over ed o s h i w) ≡ feeding (Ok k) o' s' h' ix' w') where
     pieces_heard : (stream_in (heard_all (join cs)) ≡ k) × (hearing_of k o' s' h' ix' w' ≡ heard_all (join cs))
     unfolding fed_all join each
     pieces_heard = go cs ended
       where
-        go : (ds : List (List ℕ)) → fed_all ds (opened_over ed o s h i w) ≡ feeding (Fed.Took k) o' s' h' ix' w' → (stream_in (heard_all (join ds)) ≡ k) × (hearing_of k o' s' h' ix' w' ≡ heard_all (join ds))
+        go : (ds : List (List ℕ)) → fed_all ds (opened_over ed o s h i w) ≡ feeding (Ok k) o' s' h' ix' w' → (stream_in (heard_all (join ds)) ≡ k) × (hearing_of k o' s' h' ix' w' ≡ heard_all (join ds))
         go [] e =
-            let f : Fed.Took (opened (fresh_state ed)) ≡ Fed.Took k = ap (λ (x : Feeding). x.answer) e in
+            let f : Ok (opened (fresh_state ed)) ≡ Ok k = ap (λ (x : Feeding). x.answer) e in
             let g : opened (fresh_state ed) ≡ k = cc in
             (g, sym (λ j. hearing_of (g j) (e j).orders (e j).symbols (e j).shelf (e j).index (e j).hold))
         go (d ∷ ds) e =
-            let left : took (length w) (heard_all (join (d ∷ ds))) ≡ feeding (Fed.Took k) o' s' h' ix' w' = sym (as_one d ds ∙ one_is (join (d ∷ ds))) ∙ e in
+            let left : took (length w) (heard_all (join (d ∷ ds))) ≡ feeding (Ok k) o' s' h' ix' w' = sym (as_one d ds ∙ one_is (join (d ∷ ds))) ∙ e in
             (same_stream (length w) (heard_all (join (d ∷ ds))) k o' s' h' ix' w' left, again (length w) (heard_all (join (d ∷ ds))) k o' s' h' ix' w' left)
 
     -- the counts, the receiver and its tables: the recording's packets, heard one after another

@@ -19,11 +19,13 @@ use Rattle.editions.specs.declared.Edition.{Edition}
 use Rattle.wire.specs.Le.{field}
 use Rattle.wire.specs.Records.{bad}
 use Rattle.fields.specs.Fields.{refusal}
-use Rattle.packet.specs.Packet.{alone, framing}
+use Rattle.packet.specs.Packet.{framing}
 use Rattle.arbitration.specs.Stream.{each}
 use Rattle.receiver.specs.Lent.{real, Lent, Handled, received, received_all}
 use Rattle.receiver.proofs.Accounts.{bad_keeps}
-use Rattle.receiver.specs.declared.Received.{Received}
+use Rattle.std.specs.Prelude.{Result, Ok, Err}
+use Rattle.packet.specs.declared.Why.{Why}
+use Rattle.receiver.specs.declared.Account.{Account}
 use Rattle.recording.specs.Carve.{Carved, carved, passed, grown, carve}
 use Rattle.recording.specs.Stream.{Standing, too_long, noted, heard, hears, hearer, Hearing, hearing, byte, cut, stream_in}
 use Rattle.recording.specs.Whole.{collects, packets_of, rest_of, Inside, waiting}
@@ -31,7 +33,7 @@ use Rattle.recording.proofs.Bytes.{byte_grows, byte_passes, keeps_one, over_long
 use Rattle.recording.proofs.Packets.{longer, announced, completed, size, same_length, exact, one_byte, Tiled, tiled_byte, none_tiled, packets_laid}
 
 -- a packet of more than 1,500 bytes is refused, as any bad one is
-framing_long : (ed : Edition) (p : List ℕ) → packet_most < length p → framing ed p ≡ bad (alone (refusal 1))
+framing_long : (ed : Edition) (p : List ℕ) → packet_most < length p → framing ed p ≡ bad (Why.Alone (refusal 1))
 unfolding framing both pick
 framing_long ed p h = simp (le-leb 1 (length p) (omega arith), lt-leb (length p) packet_most h)
 
@@ -162,18 +164,18 @@ pub cut_rest : (t : List ℕ) (k : Standing) → cut (stream_in (each byte t (he
 cut_rest t k = ap (λ (x : Hearing). cut (stream_in x)) (all_heard t k) ∙ cut_waiting (rest_of t) (hears (packets_of t) k) (packets_laid t).1
 
 -- the receiver and its tables are those of as many calls of `receive`: over-long packets, which it would refuse, make no difference
-counted_after : (a : Received) (after : Lent) (k : Standing) → (noted a after k).lent ≡ after
+counted_after : (a : Result Account Why) (after : Lent) (k : Standing) → (noted a after k).lent ≡ after
 unfolding noted
-counted_after (Received.Accepted t) after k = refl
-counted_after (Received.Refused r) after k = refl
-counted_after (Received.Bad f) after k = refl
+counted_after (Ok t) after k = refl
+counted_after (Err (Why.Alone r)) after k = refl
+counted_after (Err (Why.Placed f)) after k = refl
 
 heard_after : (p : List ℕ) (k : Standing) → (heard p k).lent ≡ (received k.lent p).after
 unfolding heard
 heard_after p k =
     let x : Handled = received k.lent p in
     pick_ind (λ (y : Standing). y.lent ≡ x.after) (ltb packet_most (length p)) (too_long k) (noted x.answer x.after k)
-    (λ e. sym (bad_keeps (real k.lent.edition) k.lent p (alone (refusal 1)) (framing_long k.lent.edition p (ltb-true packet_most (length p) e))))
+    (λ e. sym (bad_keeps (real k.lent.edition) k.lent p (Why.Alone (refusal 1)) (framing_long k.lent.edition p (ltb-true packet_most (length p) e))))
     (λ _. counted_after x.answer x.after k)
 
 pub hears_receives : (ps : List (List ℕ)) (k : Standing) → (hears ps k).lent ≡ received_all ps k.lent

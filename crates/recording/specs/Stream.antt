@@ -1,5 +1,5 @@
 -- A recording that is heard by a receiver, in chunks of any size: its packets one after another, and what is counted of them (document 01, "The sheet").
-use Rattle.std.specs.Prelude.{ℕ, ◌+◌, ◌-◌, min, Bool, List, [], ◌∷◌, ◌++◌, length, take, replicate, leb, ltb}
+use Rattle.std.specs.Prelude.{ℕ, ◌+◌, ◌-◌, min, Bool, List, [], ◌∷◌, ◌++◌, length, take, replicate, leb, ltb, Result, Ok, Err}
 use Rattle.facts.specs.Pick.{pick, both, either}
 use Rattle.fields.specs.Fields.{refusal, bad_at}
 use Rattle.fields.specs.declared.Fault.{Fault}
@@ -10,10 +10,11 @@ use Rattle.arbitration.specs.Stream.{each}
 use Rattle.receiver.specs.Receiver.{next_ok}
 use Rattle.receiver.specs.Lent.{Lent, lent, orders_of, symbols_of, shelf_of, index_of, state_of, received, sizes_ok}
 use Rattle.receiver.specs.declared.State.{State}
-use Rattle.receiver.specs.declared.Received.{Received}
+use Rattle.packet.specs.declared.Why.{Why}
+use Rattle.fields.specs.declared.Refusal.{Refusal}
+use Rattle.receiver.specs.declared.Account.{Account}
 use Rattle.recording.specs.Carve.{Hearer, Carved, carved, carve}
 use Rattle.recording.specs.declared.Stream.{Stream}
-use Rattle.recording.specs.declared.Fed.{Fed}
 
 -- a count of 64 bits: one that would pass 2^64 - 1 stays there
 unfoldable pub more : ℕ → ℕ → ℕ
@@ -38,10 +39,13 @@ abbrev pub refused_for : Fault → Lent → Standing → Standing
 refused_for f after k = standing (more k.bad 1) f k.totals after
 
 -- by number and offset (request 5), and with offset 0 where the number stands alone
-unfoldable pub noted : Received → Lent → Standing → Standing
-noted (Received.Accepted a) after k = standing k.bad k.last (added a.counts k.totals) after
-noted (Received.Refused r) after k = refused_for (bad_at r.number 0) after k
-noted (Received.Bad f) after k = refused_for f after k
+abbrev pub placed : Why → Fault
+placed (Why.Alone r) = bad_at r.number 0
+placed (Why.Placed f) = f
+
+unfoldable pub noted : Result Account Why → Lent → Standing → Standing
+noted (Ok a) after k = standing k.bad k.last (added a.counts k.totals) after
+noted (Err w) after k = refused_for (placed w) after k
 
 -- "A packet is 1 to 1,500 bytes": a longer one is refused by 1, unread
 abbrev pub too_long : Standing → Standing
@@ -90,20 +94,20 @@ feedable k o s h i w = both (both (sizes_ok o s h i) (next_ok k.receiver.next)) 
 
 -- an answer, and what was lent after it
 pub record Feeding : Type 0 where
-  pub answer : Fed
+  pub answer : Result Stream Refusal
   pub orders : List ℕ
   pub symbols : List ℕ
   pub shelf : List ℕ
   pub index : List ℕ
   pub hold : List ℕ
 
-abbrev pub feeding : Fed → List ℕ → List ℕ → List ℕ → List ℕ → List ℕ → Feeding
+abbrev pub feeding : Result Stream Refusal → List ℕ → List ℕ → List ℕ → List ℕ → List ℕ → Feeding
 feeding a o s h ix w = record { answer = a; orders = o; symbols = s; shelf = h; index = ix; hold = w }
 
 -- document 01's number of each answer, 0 where nothing is refused
-unfoldable pub fed_number : Fed → ℕ
-fed_number (Fed.Took k) = 0
-fed_number (Fed.Refused r) = r.number
+unfoldable pub fed_number : Result Stream Refusal → ℕ
+fed_number (Ok k) = 0
+fed_number (Err r) = r.number
 
 abbrev pub stream_in : Hearing → Stream
 stream_in x = record { receiver = state_of x.kept.lent; held = length x.unfinished; skip = x.skip; bad = x.kept.bad; last = x.kept.last; totals = x.kept.totals }
@@ -111,7 +115,7 @@ stream_in x = record { receiver = state_of x.kept.lent; held = length x.unfinish
 -- the stream after a chunk: in a buffer of w bytes the unfinished ones, and zeros behind them
 unfoldable pub took : ℕ → Hearing → Feeding
 took w x =
-    feeding (Fed.Took (stream_in x))
+    feeding (Ok (stream_in x))
     (orders_of x.kept.lent) (symbols_of x.kept.lent) (shelf_of x.kept.lent) (index_of x.kept.lent)
     (x.unfinished ++ replicate (w - length x.unfinished) 0)
 
@@ -120,4 +124,4 @@ unfoldable pub fed : Stream → List ℕ → List ℕ → List ℕ → List ℕ 
 fed k o s h ix w chunk =
     pick (feedable k (length o) (length s) (length h) (length ix) (length w))
     (took (length w) (each byte chunk (hearing_of k o s h ix w)))
-    (feeding (Fed.Refused (refusal 6)) o s h ix w)
+    (feeding (Err (refusal 6)) o s h ix w)

@@ -1,5 +1,5 @@
 -- A whole recording: its packets, what lies behind the last one, and chunk after chunk from a start (document 01, "The sheet").
-use Rattle.std.specs.Prelude.{ℕ, ◌+◌, ◌-◌, ◌≤◌, ◌<◌, ◌≡◌, ◌⊎◌, false, List, [], ◌∷◌, ◌++◌, length, take, drop, replicate, leb, ltb}
+use Rattle.std.specs.Prelude.{ℕ, ◌+◌, ◌-◌, ◌≤◌, ◌<◌, ◌≡◌, ◌⊎◌, false, List, [], ◌∷◌, ◌++◌, length, take, drop, replicate, leb, ltb, Result, Ok, Err}
 use Rattle.facts.specs.Pick.{pick, both}
 use Rattle.facts.specs.Limits.{packet_most}
 use Rattle.editions.specs.declared.Edition.{Edition}
@@ -10,7 +10,8 @@ use Rattle.arbitration.specs.Receive.{no_counts}
 use Rattle.arbitration.specs.Stream.{each}
 use Rattle.recording.specs.Carve.{Hearer, Carved, carved, carve}
 use Rattle.recording.specs.Stream.{Standing, standing, Hearing, hearing, opened, Feeding, feeding, fed}
-use Rattle.recording.specs.declared.Fed.{Fed}
+use Rattle.fields.specs.declared.Refusal.{Refusal}
+use Rattle.recording.specs.declared.Stream.{Stream}
 
 -- ---- its packets
 -- all of them as they are, over-long ones too, one after another
@@ -53,9 +54,9 @@ waiting u k = pick (both (leb 2 (length u)) (ltb packet_most (field u 0 2))) (he
 unfoldable pub fed_on : List ℕ → Feeding → Feeding
 fed_on c x = go x.answer
   where
-    go : Fed → Feeding
-    go (Fed.Took k) = fed k x.orders x.symbols x.shelf x.index x.hold c
-    go (Fed.Refused r) = x
+    go : Result Stream Refusal → Feeding
+    go (Ok k) = fed k x.orders x.symbols x.shelf x.index x.hold c
+    go (Err r) = x
 
 unfoldable pub fed_all : List (List ℕ) → Feeding → Feeding
 fed_all [] x = x
@@ -68,7 +69,7 @@ began ed o s h i = standing 0 (bad_at 0 0) no_counts (fresh ed o s h i)
 
 -- a stream that was opened over the tables of a start; w: the lent buffer, with any bytes
 abbrev pub opened_over : Edition → ℕ → ℕ → ℕ → ℕ → List ℕ → Feeding
-opened_over ed o s h i w = feeding (Fed.Took (opened (fresh_state ed))) (replicate o 0) (replicate s 0) (replicate h 0) (start_index i o) w
+opened_over ed o s h i w = feeding (Ok (opened (fresh_state ed))) (replicate o 0) (replicate s 0) (replicate h 0) (start_index i o) w
 
 -- ---- both engines: "Both give the same answers and the same tables on every run from a start that leaves tables and index to them" (request 9)
 -- two streams after the same chunks: the answer (counts, why the last refused packet was, what is held, the receiver's state), the tables, the shelf and the buffer; all but the index

@@ -1,2 +1,3 @@
 pub mod ExceptionLaws
 pub mod Laws
+pub mod Named

@@ -3,6 +3,7 @@ use Rattle.std.specs.Prelude.{ℕ, Bool, List, get_or, set, eqb}
 use Rattle.facts.specs.Pick.{pick}
 use Rattle.editions.specs.declared.Edition.{Edition}
 use Rattle.retype.specs.Types.{type_for}
+use Rattle.retype.specs.declared.Asked.{Asked as AskedLent}
 
 -- what is asked for: the edition, and for 1.3 the types
 pub record Asked : Type 0 where
@@ -12,6 +13,10 @@ pub record Asked : Type 0 where
 
 abbrev pub asked : Edition → ℕ → List ℕ → Asked
 asked ed all others = record { to = ed; all = all; others = others }
+
+-- the same, as the code has it: the exceptions are lent
+abbrev pub asked_of : AskedLent → Asked
+asked_of a = asked a.to a.all a.others.now
 
 -- a Symbol Update, by its type byte
 unfoldable pub is_update : List ℕ → Bool

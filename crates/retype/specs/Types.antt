@@ -1,13 +1,13 @@
 -- Which Security Type a symbol gets, where a recording is made one of 1.3: one for all symbols, with exceptions by symbol ID or ticker.
-use Rattle.std.specs.Prelude.{ℕ, ◌%◌, Bool, not, List, [], get_or, eqb}
+use Rattle.std.specs.Prelude.{ℕ, ◌%◌, Bool, not, List, [], get_or, eqb, Option, Some, None}
 use Rattle.facts.specs.Pick.{pick, both}
 use Rattle.facts.specs.Pieces.{pieces}
 use Rattle.facts.specs.Same.{same_bytes}
 use Rattle.facts.specs.Search.{first, is_found}
-use Rattle.facts.specs.declared.Found.{Found}
 use Rattle.editions.specs.declared.Edition.{Edition}
 use Rattle.wire.specs.Le.{field, padded}
 use Rattle.fields.specs.Fields.{symbol_of}
+use Rattle.fields.specs.declared.Symbol.{Symbol}
 use Rattle.body.specs.Ranges.{security_ok}
 
 -- an exception is 13 bytes: by which name it is (0: the symbol ID, 1: the ticker), the name in 11 bytes (an ID in the first four of them), and the type
@@ -21,19 +21,23 @@ exceptions t = pieces exception_size t
 unfoldable pub whole_exceptions : ℕ → Bool
 whole_exceptions n = eqb (n % exception_size) 0
 
--- it names the symbol of a Symbol Update: by the ID, or by all eleven bytes of the ticker; an exception by any other name names none
+-- it names a symbol: by the ID, or by all eleven bytes of the ticker; an exception by any other name names none
+unfoldable pub names_symbol : List ℕ → Symbol → Bool
+names_symbol x s =
+    pick (eqb (get_or x 0 0) 0) (eqb (field x 1 4) s.id)
+    (both (eqb (get_or x 0 0) 1) (same_bytes (padded x 1 11) s.ticker))
+
+-- and so the symbol of a Symbol Update
 unfoldable pub names : List ℕ → List ℕ → Bool
-names x b =
-    pick (eqb (get_or x 0 0) 0) (eqb (field x 1 4) (symbol_of b).id)
-    (both (eqb (get_or x 0 0) 1) (same_bytes (padded x 1 11) (symbol_of b).ticker))
+names x b = names_symbol x (symbol_of b)
 
 abbrev pub type_of : List ℕ → ℕ
 type_of x = get_or x 12 0
 
 -- the type of the first exception that names the symbol, else the one for all
-abbrev pub type_at : Found → List (List ℕ) → ℕ → ℕ
-type_at (Found.At i) xs all = type_of (get_or xs i [])
-type_at Found.Nothing xs all = all
+abbrev pub type_at : Option ℕ → List (List ℕ) → ℕ → ℕ
+type_at (Some i) xs all = type_of (get_or xs i [])
+type_at None xs all = all
 
 unfoldable pub type_for : ℕ → List ℕ → List ℕ → ℕ
 type_for all others b = type_at (first (λ x. names x b) 0 (exceptions others)) (exceptions others) all

@@ -1,114 +1,80 @@
 // Which Security Type a symbol gets where a recording is made one of 1.3, and byte 20 of a Symbol Update as another edition has it.
 #![tactic(auto)]
 
-ghost use Rattle.std.specs.Prelude.{◌<◌, ◌≡◌, [], length, get_or};
-ghost use Rattle.facts.specs.Search.{first};
-ghost use Rattle.retype.specs.Types.{exceptions, whole_exceptions, names as names_symbol, type_for, bad_type, types_ok};
-ghost use Rattle.retype.specs.Retyped.{asked, byte_in, retyping, retypes};
+ghost use Rattle.std.specs.Prelude.{◌≡◌};
+ghost use Rattle.retype.specs.Types.{whole_exceptions, names_symbol, type_for, types_ok};
+ghost use Rattle.retype.specs.Retyped.{byte_in, retyping, retypes, asked_of};
 
 use editions::Edition;
-use facts::Found;
+use fields::Symbol;
+use wire::Number;
 
 // The bytes of an exception.
 pub const EXCEPTION_SIZE: usize = 13;
 
+// What is asked for: the edition, and for 1.3 the type of all symbols and the exceptions from it, one behind the other.
+#[derive(Clone, Copy)]
+pub struct Asked<'a> {
+    pub to: Edition,
+    pub all: u8,
+    pub others: &'a [u8],
+}
+
 // Whole exceptions, none too.
+#[tactic(auto, unfolding(crate::specs::Types::whole_exceptions))]
 pub fn whole_exceptions(n: usize) -> bool
     ensures { result ≡ whole_exceptions n }
 {
     n % EXCEPTION_SIZE == 0
 }
 
-// The exception names the symbol of a Symbol Update, by ID or by ticker.
-fn names(x: &[u8], b: &[u8]) -> bool
-    ensures { result ≡ names_symbol x.now b.now }
+// The exception names the symbol, by ID or by ticker.
+#[tactic(auto, using(crate::proofs::ExceptionLaws::same_eq), unfolding(crate::specs::Types::names_symbol, facts::specs::Pick::pick, facts::specs::Pick::both))]
+fn names(x: &[u8], s: &Symbol) -> bool
+    ensures { result ≡ names_symbol x.now s.now }
 {
-    let s = fields::symbol_of(b);
-    let by = wire::u8_at(x, 0);
-    if by == 0 {
-        return wire::u32_at(x, 1) == s.id;
+    match u8::at(x, 0) {
+        0 => u32::at(x, 1) == s.id,
+        1 => wire::bytes_at::<11>(x, 1) == s.ticker,
+        _ => false,
     }
-    if by != 1 {
-        return false;
+}
+
+impl Asked<'_> {
+    // The type of the first exception that names the symbol of a Symbol Update, else the one for all.
+    pub fn type_for(&self, b: &[u8]) -> u8
+        ensures { result ≡ type_for self.now.all self.now.others.now b.now }
+    {
+        let s = fields::symbol_of(b);
+        self.others
+            .chunks_exact(EXCEPTION_SIZE)
+            .find(|x| names(x, &s))
+            .map_or(self.all, |x| u8::at(x, 12))
     }
-    let ticker = s.ticker;
-    let name = wire::eleven_at(x, 1);
-    check::same(&name, &ticker)
-}
 
-fn exception_count(others: &[u8]) -> usize
-    ensures { result ≡ length (exceptions others.now) }
-{
-    others.len() / EXCEPTION_SIZE
-}
+    // Each type that is asked for is one of the edition's.
+    pub fn types_ok(&self) -> bool
+        ensures { result ≡ types_ok self.now.to self.now.all self.now.others.now }
+    {
+        body::security_ok(self.to, self.all)
+            && self
+                .others
+                .chunks_exact(EXCEPTION_SIZE)
+                .all(|x| body::security_ok(self.to, u8::at(x, 12)))
+    }
 
-// An exception that is there.
-fn exception_in(others: &[u8], i: usize) -> &[u8]
-    requires { i < length (exceptions others.now) }
-    ensures { result.now ≡ get_or (exceptions others.now) i [] }
-{
-    let b = EXCEPTION_SIZE * i;
-    let e = b + EXCEPTION_SIZE;
-    &others[b..e]
-}
-
-// The first exception that names the symbol of a Symbol Update.
-fn find_name(others: &[u8], b: &[u8]) -> Found
-    ensures { result ≡ first (λ x. names_symbol x b.now) 0 (exceptions others.now) }
-{
-    let end = exception_count(others);
-    let mut i = 0;
-    while i < end {
-        if names(exception_in(others, i), b) {
-            return Found::At(i);
+    // A body as the edition asked for has it; whether it is a Symbol Update.
+    #[tactic(auto, unfolding(crate::specs::Retyped::retyped, crate::specs::Retyped::is_update, facts::specs::Pick::pick))]
+    pub fn retype_body(&self, b: &mut [u8]) -> bool
+        ensures { retyping result b.new ≡ retypes (asked_of self.now) b.old }
+    {
+        if u8::at(b, 0) != 1 {
+            return false;
         }
-        i += 1;
-    }
-    Found::Nothing
-}
-
-// Its type, else the one for all.
-pub fn type_for(all: u8, others: &[u8], b: &[u8]) -> u8
-    ensures { result ≡ type_for all others.now b.now }
-{
-    match find_name(others, b) {
-        Found::At(i) => wire::u8_at(exception_in(others, i), 12),
-        Found::Nothing => all,
-    }
-}
-
-// The exception's type is none of the edition's.
-fn is_bad(e: Edition, x: &[u8]) -> bool
-    ensures { result ≡ bad_type e x.now }
-{
-    !body::security_ok(e, wire::u8_at(x, 12))
-}
-
-// The first exception whose type is none of the edition's.
-fn find_bad(e: Edition, others: &[u8]) -> Found
-    ensures { result ≡ first (bad_type e) 0 (exceptions others.now) }
-{
-    let end = exception_count(others);
-    let mut i = 0;
-    while i < end {
-        if is_bad(e, exception_in(others, i)) {
-            return Found::At(i);
+        if 20 < b.len() {
+            b[20] = byte_in(self.to, self.type_for(b));
         }
-        i += 1;
-    }
-    Found::Nothing
-}
-
-// Each type that is asked for is one of the edition's.
-pub fn types_ok(e: Edition, all: u8, others: &[u8]) -> bool
-    ensures { result ≡ types_ok e all others.now }
-{
-    if !body::security_ok(e, all) {
-        return false;
-    }
-    match find_bad(e, others) {
-        Found::At(_) => false,
-        Found::Nothing => true,
+        true
     }
 }
 
@@ -120,17 +86,4 @@ fn byte_in(e: Edition, y: u8) -> u8
         Edition::V13 => y,
         Edition::V13b => 0,
     }
-}
-
-// A body as the edition asked for has it; whether it is a Symbol Update.
-pub fn retype_body(to: Edition, all: u8, others: &[u8], b: &mut [u8]) -> bool
-    ensures { retyping result b.new ≡ retypes (asked to all others.now) b.old }
-{
-    if wire::u8_at(b, 0) != 1 {
-        return false;
-    }
-    if 20 < b.len() {
-        b[20] = byte_in(to, type_for(all, others, b));
-    }
-    true
 }

@@ -123,9 +123,6 @@ pub rows_good : (n : ℕ) → RowsFit n → good_rows n ≡ true
 unfolding good_rows
 rows_good n h = fits_good 5 most_rows n h
 
-pub rows_not_good : (n : ℕ) → (RowsFit n → ⊥) → false ≡ good_rows n
-rows_not_good n h = refuted (good_rows n) (λ e. h (good_rows_lem n e))
-
 -- ---- a number that decides before the row is judged
 pub other_number : (a b : ℕ) (l : Bool) → (a ≡ b → ⊥) → false ≡ both (eqb a b) l
 unfolding both

@@ -7,8 +7,7 @@ use Prim.Native.Nat.{ℕ, ◌<◌}
 use lib.ListN.{length, get_or, get_or-eq_default}
 use lib.Dec.{ltb}
 use borrow.Author.Tests.{ltb-true, ltb-false}
-use Rattle.facts.specs.declared.Found.{Found}
-use Rattle.facts.specs.declared.Found.TheVariants.{At, Nothing}
+use Rattle.std.specs.Prelude.{Option, Some, None}
 use Rattle.facts.proofs.Searches.{first_none}
 use Rattle.rows.specs.declared.Row.{Row}
 use Rattle.rows.specs.Rows.{zero_row, free, live}
@@ -23,14 +22,14 @@ module _ (rs : List Row) where
       go true e = ltb-true j (length rs) e
       go false e = absurd (true≢false (sym l ∙ ap live (get_or-eq_default rs zero_row (ltb-false j (length rs) e)) ∙ zero_not_live))
 
-  pub order_nowhere : (id : ℕ) → find_order id rs ≡ Nothing → (j : ℕ) → live (get_or rs j zero_row) ≡ true → (get_or rs j zero_row).order ≡ id → ⊥
+  pub order_nowhere : (id : ℕ) → find_order id rs ≡ None → (j : ℕ) → live (get_or rs j zero_row) ≡ true → (get_or rs j zero_row).order ≡ id → ⊥
   unfolding find_order
   order_nowhere id e j l o = true≢false (sym (is_this id (get_or rs j zero_row) o l) ∙ first_none (is_order id) 0 rs e j zero_row (live_there j l))
 
-  pub free_somewhere : (i : ℕ) → i < length rs → free (get_or rs i zero_row) ≡ true → (k : ℕ) × (find_free rs ≡ At k)
+  pub free_somewhere : (i : ℕ) → i < length rs → free (get_or rs i zero_row) ≡ true → (k : ℕ) × (find_free rs ≡ Some k)
   unfolding find_free
   free_somewhere i h f = go (find_free rs) refl
     where
-      go : (a : Found) → find_free rs ≡ a → (k : ℕ) × (find_free rs ≡ At k)
-      go (At k) e = (k, e)
-      go Nothing e = absurd (true≢false (sym f ∙ first_none free 0 rs e i zero_row h))
+      go : (a : Option ℕ) → find_free rs ≡ a → (k : ℕ) × (find_free rs ≡ Some k)
+      go (Some k) e = (k, e)
+      go None e = absurd (true≢false (sym f ∙ first_none free 0 rs e i zero_row h))

@@ -1,25 +1,23 @@
 -- A row is a piece of five numbers, so the laws of tables are those of pieces.
 -- Assumes nothing.
-use mathlib.Core.Path.{◌≡◌, refl, sym, ap, ◌∙◌}
+use mathlib.Core.Path.{◌≡◌, refl, ap, ◌∙◌}
 use mathlib.Core.List.{List, [], ◌∷◌, ◌++◌, map}
 use mathlib.Core.Bool.{Bool, true, false}
-use Prim.Native.Nat.{ℕ, suc, ◌+◌, ◌*◌, ◌/◌, ◌≤◌, ◌<◌}
-use native.Mathlib.Nat.{add-zero, mod-lt, mod_def}
+use Prim.Native.Nat.{ℕ, zero, suc, ◌*◌, ◌/◌, ◌≤◌, ◌<◌}
+use native.Mathlib.Nat.{mod-lt, mod_def}
 use native.Mathlib.Omega.{arith}
 use lib.ListN.{length, get_or, set, take, drop, replicate, length-replicate, get_or-replicate, length-drop, length-map, get_or-map, get_or-eq_default}
 use lib.Seq.{get_or-set_same, get_or-set_other}
 use lib.Dec.{ltb}
 use borrow.Author.Tests.{ltb-true, ltb-false}
-use Rattle.facts.specs.Pieces.{pieces}
-use Rattle.facts.proofs.PieceLaws.{length_pieces, get_or_pieces, get_or_piece, put_in, put_out, length_put, put_self, pieces_replicate, map_replicate, length_piece, length_join, wide_map, values_put, values_join, rest_put, rest_values, values_rest}
+use Rattle.std.specs.Simd.{first_chunks}
+use Rattle.facts.specs.Pieces.{cut, pieces}
+use Rattle.facts.proofs.PieceLaws.{length_pieces, get_or_pieces, put_out, length_put, put_self, pieces_replicate, map_replicate, length_piece, length_join, wide_map, values_put, values_join, rest_put, rest_values, values_rest}
 use Rattle.rows.specs.declared.Row.{Row}
 use Rattle.rows.specs.Rows.{row_of, numbers_of, rows, row_count, rest, flat, put_row, zero_row}
 
 -- ---- a row and its five numbers
-pub row_eq : (a b : Row) → a.order ≡ b.order → a.key ≡ b.key → a.price ≡ b.price → a.size ≡ b.size → a.rank ≡ b.rank → a ≡ b
-row_eq a b p q r s u = λ i. record { order = p i; key = q i; price = r i; size = s i; rank = u i }
-
-length_numbers : (r : Row) → length (numbers_of r) ≡ 5
+pub length_numbers : (r : Row) → length (numbers_of r) ≡ 5
 unfolding numbers_of
 length_numbers r = refl
 
@@ -41,6 +39,16 @@ numbers_row (a ∷ b ∷ c ∷ d ∷ e ∷ f ∷ x) h = absurd (omega arith)
 pub length_rows : (t : List ℕ) → length (rows t) ≡ row_count t
 unfolding rows
 length_rows t = length-map (pieces 5 t) row_of ∙ length_pieces 5 t
+
+-- pieces as std cuts a slice
+chunks_cut : (w n : ℕ) (t : List ℕ) → first_chunks w n t ≡ cut w n t
+unfolding cut
+chunks_cut w zero t = refl
+chunks_cut w (suc n) t = rw (chunks_cut w n (drop w t))
+
+pub rows_chunks : (t : List ℕ) → map row_of (first_chunks 5 (row_count t) t) ≡ rows t
+unfolding rows pieces
+rows_chunks t = rw (chunks_cut 5 (row_count t) t)
 
 pub length_flat : (rs : List Row) → length (flat rs) ≡ 5 * length rs
 unfolding flat
@@ -98,32 +106,6 @@ row_put_other t i r j n = rw (rows_put t i r) (get_or-set_other (rows t) i j r z
 pub get_d_rows : (t : List ℕ) (i : ℕ) → get_or (rows t) i zero_row ≡ row_of (get_or (pieces 5 t) i [])
 unfolding rows row_of zero_row
 get_d_rows t i = get_or-map row_of (pieces 5 t) i []
-
-pub row_read : (t : List ℕ) (i : ℕ) → i < row_count t
-    → ◌≡◌ {A = Row} (record { order = get_or t (5 * i) 0; key = get_or t (5 * i + 1) 0; price = get_or t (5 * i + 2) 0; size = get_or t (5 * i + 3) 0; rank = get_or t (5 * i + 4) 0 })
-    (get_or (rows t) i zero_row)
-unfolding row_of
-row_read t i h =
-    sym (get_d_rows t i ∙ ap row_of (get_or_pieces 5 t i [] h)
-    ∙ row_eq _ _
-    (get_or_piece 5 t i 0 0 (omega arith) ∙ rw (add-zero (5 * i)))
-    (get_or_piece 5 t i 1 0 (omega arith))
-    (get_or_piece 5 t i 2 0 (omega arith))
-    (get_or_piece 5 t i 3 0 (omega arith))
-    (get_or_piece 5 t i 4 0 (omega arith)))
-
-pub row_past : (t : List ℕ) (i : ℕ) → row_count t ≤ i → get_or (rows t) i zero_row ≡ zero_row
-row_past t i h = get_or-eq_default (rows t) zero_row (rw length_rows h)
-
-pub row_written : (t : List ℕ) (i : ℕ) (r : Row) → i < row_count t
-    → set (set (set (set (set t (5 * i) r.order) (5 * i + 1) r.key) (5 * i + 2) r.price) (5 * i + 3) r.size) (5 * i + 4) r.rank ≡ put_row t i r
-unfolding put_row numbers_of
-row_written t i r h =
-    let e1 : 5 * i + 1 ≡ suc (5 * i) = omega arith in
-    let e2 : 5 * i + 2 ≡ suc (suc (5 * i)) = omega arith in
-    let e3 : 5 * i + 3 ≡ suc (suc (suc (5 * i))) = omega arith in
-    let e4 : 5 * i + 4 ≡ suc (suc (suc (suc (5 * i)))) = omega arith in
-    rw (put_in 5 t i (numbers_of r) h, e1, e2, e3, e4)
 
 pub put_row_past : (t : List ℕ) (i : ℕ) (r : Row) → row_count t ≤ i → put_row t i r ≡ t
 unfolding put_row

@@ -1,11 +1,9 @@
 -- Which rows a search or a view takes (document 01: "a search for an ID taking the lowest live row or used entry, while ladders, counts and Symbol Clear take every live row").
-use Rattle.std.specs.Prelude.{ℕ, List, Bool, get_or, eqb}
+use Rattle.std.specs.Prelude.{ℕ, List, Bool, get_or, eqb, Option, Some, None}
 use Rattle.facts.specs.Pick.{both}
 use Rattle.facts.specs.Search.{first}
 use Rattle.facts.specs.Sums.{count_by}
-use Rattle.facts.specs.declared.Found.{Found}
 use Rattle.rows.specs.declared.Row.{Row}
-use Rattle.rows.specs.declared.Held.{Held}
 use Rattle.rows.specs.Rows.{zero_row, symbol_of, free, live}
 
 -- "order ID already live"
@@ -13,16 +11,16 @@ unfoldable pub is_order : ℕ → Row → Bool
 is_order id r = both (eqb r.order id) (live r)
 
 -- "a search for an ID taking the lowest live row"
-unfoldable pub find_order : ℕ → List Row → Found
+unfoldable pub find_order : ℕ → List Row → Option ℕ
 find_order id rs = first (is_order id) 0 rs
 
 -- what a search for an ID ended at: the place, and the row that lies there
-unfoldable pub held_at : Found → List Row → Held
-held_at (Found.At i) rs = Held.Live i (get_or rs i zero_row)
-held_at Found.Nothing rs = Held.Nowhere
+unfoldable pub held_at : Option ℕ → List Row → Option (ℕ × Row)
+held_at (Some i) rs = Some (i, (get_or rs i zero_row))
+held_at None rs = None
 
 -- "the lowest free row is used"
-unfoldable pub find_free : List Row → Found
+unfoldable pub find_free : List Row → Option ℕ
 find_free rs = first free 0 rs
 
 -- "Every live row of that symbol"

@@ -2,14 +2,12 @@
 // carved out by `recording`, and the sheet is what `answer_sheet` writes.
 #![tactic(auto)]
 
-use answer_sheet::{Recording, SheetAnswer};
+use answer_sheet::Recording;
 use editions::Edition;
-use receiver::{Started, State};
-use recording::{Fed, Stream};
+use fields::Refusal;
+use recording::Stream;
 use std::env::Env;
-use std::io;
-use std::io::{ErrorKind, Read};
-use words::Named;
+use streams::{Failure, Word};
 
 // "It uses full capacities"; of rows "the sheet program keeps 1,600" (document 02, No. 9)
 const ORDERS: usize = rows::ROW_SIZE * facts::SHEET_ROWS;
@@ -19,285 +17,111 @@ const SYMBOLS: usize = facts::ENTRY_SIZE * facts::MOST_ENTRIES;
 // What is read at a time.
 const BLOCK: usize = 65536;
 
+const VERSION: &str = "rimeheath 1.0, for DoM 1.3, 1.3.a and 1.3.b\n";
+
+const HELP: &str = "Reads a recording from standard input, packets each behind a 2-byte length,
+and prints the order book that it leaves as an answer sheet.
+  --edition  names its edition: 1.3, where byte 20 of a Symbol Update is its
+             type, or 1.3.a or 1.3.b, where it is reserved; 1.3.b if not named
+  --help     prints this
+  --version  prints the program's version
+";
+
+const WRONG_WORDS: &str =
+    "sheet takes no word but --help, --version, and --edition with 1.3, 1.3.a or 1.3.b; the recording comes on standard input";
+
+// Never reached with this program's tables; said rather than a wrong sheet printed.
+const REFUSED: &str = "the tables were refused";
+
 // What the program is asked for.
-#[derive(Drop)]
-pub enum Task {
+#[derive(Clone, Copy)]
+enum Task {
     Sheet(Edition),
     Help,
     Version,
-    Unknown,
 }
 
-// What came of reading once.
-#[derive(Drop)]
-pub enum Outcome {
-    More(Stream),
-    End(Stream),
-    Failed(io::Error),
-    Refused,
-}
-
-// Each array is lent once, and no element of one is read or stored here.
+// What went wrong goes to standard error, which is the last place where anything could be told.
 fn main(rt: HostRuntime) {
-    let mut orders = [0u64; ORDERS];
-    let mut symbols = [0u8; SYMBOLS];
-    let mut shelf = [0u8; facts::SHELF_SIZE];
-    let mut index = [0u64; index::INDEX_SIZE];
-    let mut hold = [0u8; facts::HOLD_LEAST];
-    let mut block = [0u8; BLOCK];
-    let mut text = [0u8; answer_sheet::SHEET_MOST];
-    lend(
-        &rt,
-        &mut orders,
-        &mut symbols,
-        &mut shelf,
-        &mut index,
-        &mut hold,
-        &mut block,
-        &mut text,
-    );
-}
-
-// The arrays become slices here: at an array's reference no length is asked, however long it is.
-fn lend(
-    rt: &(impl Env + Input + Print + Eprint),
-    orders: &mut [u64; ORDERS],
-    symbols: &mut [u8; SYMBOLS],
-    shelf: &mut [u8; facts::SHELF_SIZE],
-    index: &mut [u64; index::INDEX_SIZE],
-    hold: &mut [u8; facts::HOLD_LEAST],
-    block: &mut [u8; BLOCK],
-    text: &mut [u8; answer_sheet::SHEET_MOST],
-) {
-    answer(rt, orders, symbols, shelf, index, hold, block, text);
-}
-
-fn answer(
-    rt: &(impl Env + Input + Print + Eprint),
-    orders: &mut [u64],
-    symbols: &mut [u8],
-    shelf: &mut [u8],
-    index: &mut [u64],
-    hold: &mut [u8],
-    block: &mut [u8],
-    text: &mut [u8],
-) {
-    match task_asked(rt) {
-        Task::Help => help(rt),
-        Task::Version => say(rt, "rimeheath 1.0, for DoM 1.3, 1.3.a and 1.3.b\n"),
-        Task::Unknown => tell(
-            rt,
-            "sheet takes no word but --help, --version, and --edition with 1.3, 1.3.a or 1.3.b; the recording comes on standard input",
-        ),
-        Task::Sheet(e) => work(rt, e, orders, symbols, shelf, index, hold, block, text),
+    if let Err(e) = answer(&rt) {
+        let _ = eprintln!(rt; "rimeheath: {e}");
     }
 }
 
-// Words on standard output. Where they cannot be written, nobody reads them.
-fn say(rt: &impl Print, words: &str) {
+fn answer(rt: &(impl Env + Input + Print)) -> Result<(), Failure> {
+    let words = match task_asked(rt).ok_or(Failure::Told(WRONG_WORDS))? {
+        Task::Sheet(e) => return sheet(rt, e),
+        Task::Help => HELP,
+        Task::Version => VERSION,
+    };
+    // Where they cannot be written, nobody reads them.
     let _ = rt.print(words);
+    Ok(())
 }
 
-// A line on standard error, which is the last place where anything could be told.
-fn tell(rt: &impl Eprint, words: &str) {
-    let _ = eprintln!(rt; "rimeheath: {words}");
-}
-
-// What the system refused, and why.
-fn fail(rt: &impl Eprint, what: &str, e: io::Error) {
-    let _ = eprintln!(rt; "rimeheath: {what}: {e}");
-}
-
-fn help(rt: &impl Print) {
-    say(
-        rt,
-        "Reads a recording from standard input, packets each behind a 2-byte length,\n",
-    );
-    say(
-        rt,
-        "and prints the order book that it leaves as an answer sheet.\n",
-    );
-    say(
-        rt,
-        "  --edition  names its edition: 1.3, where byte 20 of a Symbol Update is its\n",
-    );
-    say(
-        rt,
-        "             type, or 1.3.a or 1.3.b, where it is reserved; 1.3.b if not named\n",
-    );
-    say(
-        rt,
-        "  --help     prints this\n  --version  prints the program's version\n",
-    );
-}
-
-// The edition that the words ask for.
-fn edition_asked(rt: &impl Env) -> Named {
-    let mut first = [0u8; 16];
-    let mut second = [0u8; 16];
-    let n = streams::word(rt, 1, &mut first);
-    let m = streams::word(rt, 2, &mut second);
-    words::edition_asked(
-        streams::word_count(rt, usize::MAX),
-        &first[..n],
-        &second[..m],
-    )
-}
-
-// A sheet, in the edition that the words ask for; or one word alone.
-fn task_asked(rt: &impl Env) -> Task {
-    match edition_asked(rt) {
-        Named::Known(e) => Task::Sheet(e),
-        Named::Unknown => word_alone(rt),
+// A sheet, in the edition that the words ask for; or what one word alone asks for.
+fn task_asked(rt: &impl Env) -> Option<Task> {
+    let count = streams::word_count(rt, usize::MAX);
+    let first = Word::<16>::at(rt, 1);
+    let second = Word::<16>::at(rt, 2);
+    if let Some(e) = words::edition_asked(count, first.as_slice(), second.as_slice()) {
+        return Some(Task::Sheet(e));
     }
-}
-
-// One word is understood; a second makes both unknown. One that is too long for the array comes as an empty one, and is unknown like that.
-fn word_alone(rt: &impl Env) -> Task {
-    if 2 < streams::word_count(rt, usize::MAX) {
-        return Task::Unknown;
+    match first.as_slice() {
+        b"--help" if count <= 2 => Some(Task::Help),
+        b"--version" if count <= 2 => Some(Task::Version),
+        _ => None,
     }
-    let mut word = [0u8; 16];
-    let n = streams::word(rt, 1, &mut word);
-    if check::same(&word[..n], b"--help") {
-        return Task::Help;
-    }
-    if check::same(&word[..n], b"--version") {
-        return Task::Version;
-    }
-    Task::Unknown
-}
-
-fn work(
-    rt: &(impl Input + Print + Eprint),
-    e: Edition,
-    orders: &mut [u64],
-    symbols: &mut [u8],
-    shelf: &mut [u8],
-    index: &mut [u64],
-    hold: &mut [u8],
-    block: &mut [u8],
-    text: &mut [u8],
-) {
-    match receiver::start(e, orders, symbols, shelf, index) {
-        Started::Refused(_) => refused(rt),
-        Started::Ready(s) => follow(rt, orders, symbols, shelf, index, hold, block, s, text),
-    }
-}
-
-fn follow(
-    rt: &(impl Input + Print + Eprint),
-    orders: &mut [u64],
-    symbols: &mut [u8],
-    shelf: &mut [u8],
-    index: &mut [u64],
-    hold: &mut [u8],
-    block: &mut [u8],
-    s: State,
-    text: &mut [u8],
-) {
-    let end = read_all(
-        &mut rt.reader(),
-        orders,
-        symbols,
-        shelf,
-        index,
-        hold,
-        block,
-        recording::open(s),
-    );
-    finish(rt, orders, symbols, text, end);
-}
-
-fn finish(
-    rt: &(impl Print + Eprint),
-    orders: &[u64],
-    symbols: &[u8],
-    text: &mut [u8],
-    end: Outcome,
-) {
-    match end {
-        Outcome::End(t) => print(rt, orders, symbols, text, t),
-        Outcome::More(_) => refused(rt),
-        Outcome::Failed(e) => fail(rt, "standard input", e),
-        Outcome::Refused => refused(rt),
-    }
-}
-
-// Never reached with this program's tables; said rather than a wrong sheet printed.
-fn refused(rt: &impl Eprint) {
-    tell(rt, "the tables were refused");
 }
 
 // A proved loop has to end, so it counts its blocks up to a number that no recording reaches.
-fn read_all(
-    from: &mut impl Read,
-    orders: &mut [u64],
-    symbols: &mut [u8],
-    shelf: &mut [u8],
-    index: &mut [u64],
-    hold: &mut [u8],
-    block: &mut [u8],
-    start: Stream,
-) -> Outcome {
-    let mut s = start;
+fn sheet(rt: &(impl Input + Print), e: Edition) -> Result<(), Failure> {
+    let mut orders = [0; ORDERS];
+    let mut symbols = [0; SYMBOLS];
+    let mut shelf = [0; facts::SHELF_SIZE];
+    let mut index = [0; index::INDEX_SIZE];
+    let mut hold = [0; facts::HOLD_LEAST];
+    let mut block = [0; BLOCK];
+    let mut text = [0; answer_sheet::SHEET_MOST];
+    let mut from = rt.reader();
+    let started = receiver::start(e, &mut orders, &mut symbols, &mut shelf, &mut index);
+    let mut stream = recording::open(started.map_err(refused)?);
     for _ in 0..u64::MAX {
-        let t = turn(from, orders, symbols, shelf, index, hold, block, s);
-        let Outcome::More(next) = t else {
-            return t;
-        };
-        s = next;
-    }
-    Outcome::More(s)
-}
-
-// Reads once and feeds what came. A read that a signal broke off is tried again.
-fn turn(
-    from: &mut impl Read,
-    orders: &mut [u64],
-    symbols: &mut [u8],
-    shelf: &mut [u8],
-    index: &mut [u64],
-    hold: &mut [u8],
-    block: &mut [u8],
-    s: Stream,
-) -> Outcome {
-    match from.read(block) {
-        Ok(0) => Outcome::End(s),
-        Ok(n) => told(recording::feed(orders, symbols, shelf, index, hold, s, &block[..n])),
-        Err(e) => {
-            if e.kind() == ErrorKind::Interrupted {
-                Outcome::More(s)
-            } else {
-                Outcome::Failed(e)
-            }
+        let n = streams::read_once(&mut from, &mut block).map_err(Failure::Input)?;
+        if n == 0 {
+            return print(rt, &orders, &symbols, stream, &mut text);
         }
+        let fed = recording::feed(
+            &mut orders,
+            &mut symbols,
+            &mut shelf,
+            &mut index,
+            &mut hold,
+            stream,
+            &block[..n],
+        );
+        stream = fed.map_err(refused)?;
     }
+    Err(Failure::Told(REFUSED))
 }
 
-// What a block came to.
-fn told(f: Fed) -> Outcome {
-    match f {
-        Fed::Took(t) => Outcome::More(t),
-        Fed::Refused(_) => Outcome::Refused,
-    }
+fn refused(_: Refusal) -> Failure {
+    Failure::Told(REFUSED)
 }
 
-fn print(rt: &(impl Print + Eprint), orders: &[u64], symbols: &[u8], text: &mut [u8], s: Stream) {
+// The sheet's memory is lent as an array: one so long is no slice where it is made, since its length would be counted there.
+fn print(
+    rt: &impl Print,
+    orders: &[u64],
+    symbols: &[u8],
+    s: Stream,
+    sheet: &mut [u8; answer_sheet::SHEET_MOST],
+) -> Result<(), Failure> {
     let word = if recording::is_cut(s) {
         Recording::Cut
     } else {
         Recording::Whole
     };
-    let state = s.receiver;
-    match answer_sheet::sheet(text, orders, symbols, state, s.bad, word) {
-        SheetAnswer::Length(n) => show(rt, text, n),
-        SheetAnswer::Refused(_) => refused(rt),
-    }
-}
-
-fn show(rt: &(impl Print + Eprint), text: &[u8], n: usize) {
-    if let Err(e) = rt.write_all(text::front(text, n)) {
-        fail(rt, "standard output", e);
-    }
+    let n = answer_sheet::sheet(sheet, orders, symbols, s.receiver, s.bad, word).map_err(refused)?;
+    rt.write_all(text::front(sheet, n)).map_err(Failure::Output)
 }

@@ -1,44 +1,42 @@
 -- Where a slot's parts lie in the lent bytes: a slot is a piece of 74 bytes, its number, length and body are parts of that.
 -- Assumes nothing.
-use Prim.Native.Nat.{ℕ, zero, suc, ◌+◌, ◌*◌, ◌/◌, ◌-◌, ◌≤◌, ◌<◌, max}
+use Prim.Native.Nat.{ℕ, zero, suc, ◌+◌, ◌*◌, ◌/◌, ◌-◌, ◌≤◌, ◌<◌, min, max}
 use mathlib.Core.Path.{◌≡◌, refl, sym, ap, ◌∙◌}
-use mathlib.Core.Logic.{◌≢◌, ◌⊎◌, inl, inr}
-use mathlib.Core.List.{List, [], ◌++◌, append_assoc, append-nil}
-use mathlib.Core.Bool.{true, false}
-use lib.ListN.{length, get_or, take, drop, replicate, length-append, length-drop, drop_of_length-le, get_or-eq_default}
-use lib.Seq.{sets, take_all, take_at, drop_at, take-take, length-take-le, drop-drop, sets-eq, ext_get_or}
-use native.Mathlib.Nat.{add-sub_cancel_left, zero-add}
+use mathlib.Core.Logic.{◌≢◌}
+use mathlib.Core.List.{List, [], ◌∷◌, ◌++◌, append_assoc, append-nil}
+use mathlib.Core.Bool.{Bool, true, false, ◌&&◌}
+use lib.Dec.{eqb}
+use lib.Pointwise.{pointwise}
+use lib.ListN.{length, get_or, take, drop, replicate, length-append, length-drop, drop_of_length-le}
+use lib.Seq.{sets, take_at, drop_at, take-take, length-take-le, drop-drop, sets-eq}
+use native.Mathlib.Nat.{add-sub_cancel_left}
 use native.Mathlib.Omega.{arith}
-use native.Mathlib.Decide.{dec_lt}
 use borrow.Author.Tests.{eqb-true, eq-eqb, ne_eqb}
 use Rattle.facts.specs.Limits.{shelf_size}
 use Rattle.facts.specs.Pick.{both}
-use Rattle.facts.specs.Pieces.{pieces}
-use Rattle.facts.proofs.PieceLaws.{length_pieces, get_or_pieces, length_piece, piece_fits, put_in, put_out, pieces_replicate}
+use Rattle.std.proofs.Common.{add-one}
+use Rattle.std.specs.Simd.{first_chunks}
+use Rattle.std.proofs.lemmas.List.{take_min}
+use Rattle.facts.specs.Pieces.{cut, pieces}
+use Rattle.facts.proofs.PieceLaws.{length_piece, piece_fits, put_in, put_out, pieces_replicate}
 use Rattle.wire.specs.Le.{le, to_le, field, padded}
-use Rattle.wire.proofs.Laws.{length_padded, get_or_padded, padded_part, length_to_le, stored_behind}
+use Rattle.wire.proofs.Laws.{length_padded, padded_part, length_to_le, stored_behind}
 use Rattle.facts.specs.Same.{same_bytes}
-use Rattle.facts.proofs.SameLaws.{same_bytes_refl, bytes_differ}
 use Rattle.arbitration.specs.Receive.{highest}
 use Rattle.arbitration.specs.Slots.{Slot, empty_slot, slot_for, slot_body, same_slot}
 use Rattle.shelf.specs.Shelf.{slot_size, good_shelf, slot_from, bytes_of, slot_at, put_slot}
 use Rattle.shelf.specs.Store.{shelf_store}
 use Rattle.shelf.proofs.StoreLaws.{length_bytes}
 
--- ---- the bytes of a slot, as the code cuts them out
-pub slot_in : (t : List ℕ) (i : ℕ) → i < length t / 74 → take (74 * i + 74 - 74 * i) (drop (74 * i) t) ≡ get_or (pieces slot_size t) i []
-slot_in t i h = rw (add-sub_cancel_left (74 * i) 74) (sym (get_or_pieces slot_size t i [] h))
+-- ---- the slots, as the code cuts them out
+chunks_cut : (w n : ℕ) (t : List ℕ) → first_chunks w n t ≡ cut w n t
+unfolding cut
+chunks_cut w zero t = refl
+chunks_cut w (suc n) t = ap (λ (l : List (List ℕ)). take w t ∷ l) (chunks_cut w n (drop w t))
 
-pub slot_past : (t : List ℕ) (i : ℕ) → length t / 74 ≤ i → [] ≡ get_or (pieces slot_size t) i []
-slot_past t i h = sym (get_or-eq_default (pieces slot_size t) [] (rw length_pieces h))
-
--- slots_64, or none
-slot_cases : (t : List ℕ) (i : ℕ) → (length (get_or (pieces slot_size t) i []) ≡ 74) ⊎ ([] ≡ get_or (pieces slot_size t) i [])
-slot_cases t i = go (dec_lt i (length t / slot_size))
-  where
-    go : Dec (i < length t / slot_size) → (length (get_or (pieces slot_size t) i []) ≡ 74) ⊎ ([] ≡ get_or (pieces slot_size t) i [])
-    go (yes h) = inl (ap length (get_or_pieces slot_size t i [] h) ∙ length_piece slot_size t i h)
-    go (no h) = inr (slot_past t i (omega arith))
+pub chunks_pieces : (t : List ℕ) → first_chunks slot_size (length t / slot_size) t ≡ pieces slot_size t
+unfolding pieces
+chunks_pieces t = chunks_cut slot_size (length t / slot_size) t
 
 -- ---- what is read of them
 module _ (t : List ℕ) (i : ℕ) (x : List ℕ) (is : x ≡ get_or (pieces slot_size t) i []) where
@@ -58,24 +56,16 @@ module _ (t : List ℕ) (i : ℕ) (x : List ℕ) (is : x ≡ get_or (pieces slot
   unfolding slot_from
   body_is n e = ap (λ (k : ℕ). take k (padded x 10 64)) e ∙ ap slot_body slot_is
 
-  -- the three ways in which the code cuts the body out
-  pub body_none : length x < 74 → [] ≡ slot_body (slot_at t i)
+  -- the body as the code cuts it out, of a slot that is there and of none
+  pub body_in : (n : ℕ) → n ≡ field x 8 2 → length x ≡ 74 → take (10 + min n 64 - 10) (drop 10 x) ≡ slot_body (slot_at t i)
+  body_in n e l =
+      let part : padded x 10 64 ≡ take 64 (drop 10 x) = padded_part x 10 64 (omega arith) in
+      let front : take (min n 64) (padded x 10 64) ≡ take n (padded x 10 64) = rw length_padded at (take_min n (padded x 10 64)) in
+      rw (add-sub_cancel_left 10 (min n 64)) (sym (ap (take (min n 64)) part ∙ take-take (min n 64) 64 (drop 10 x) (omega arith)) ∙ front ∙ body_is n e)
+
+  pub body_none : x ≡ [] → [] ≡ slot_body (slot_at t i)
   unfolding field le
-  body_none h = go (slot_cases t i)
-    where
-      go : (length (get_or (pieces slot_size t) i []) ≡ 74) ⊎ ([] ≡ get_or (pieces slot_size t) i []) → [] ≡ slot_body (slot_at t i)
-      go (inl l) = absurd (omega (arith, ap length is))
-      go (inr e) = let n : 0 ≡ field x 8 2 = ap (λ (y : List ℕ). field y 8 2) (e ∙ sym is) in body_is 0 n
-
-  module _ (n : ℕ) (e : n ≡ field x 8 2) (l : 74 ≤ length x) where
-    part : padded x 10 64 ≡ take 64 (drop 10 x)
-    part = padded_part x 10 64 (omega arith)
-
-    pub body_long : 64 < n → take 64 (drop 10 x) ≡ slot_body (slot_at t i)
-    body_long h = sym part ∙ sym (take_all n (padded x 10 64) (rw length_padded (omega arith))) ∙ body_is n e
-
-    pub body_in : n ≤ 64 → take (10 + n - 10) (drop 10 x) ≡ slot_body (slot_at t i)
-    body_in h = rw (add-sub_cancel_left 10 n) (sym (ap (take n) part ∙ take-take n 64 (drop 10 x) h) ∙ body_is n e)
+  body_none e = let n : 0 ≡ field x 8 2 = ap (λ (y : List ℕ). field y 8 2) (sym e) in body_is 0 n
 
   -- the three tests of `holds`
   module _ (n : ℕ) (b : List ℕ) where
@@ -91,26 +81,18 @@ module _ (t : List ℕ) (i : ℕ) (x : List ℕ) (is : x ≡ get_or (pieces slot
     unfolding same_slot both slot_from
     bytes_decide e d = rw (← slot_is, eq-eqb (field x 0 8) n e, eq-eqb (field x 8 2) (length b) d)
 
--- ---- comparing 64 bytes behind ten with a body and the zeros behind it
-module _ (x b : List ℕ) where
-  body_at : (k : ℕ) → k < 64 → get_or (padded b 0 64) k 0 ≡ get_or b k 0
-  body_at k h = get_or_padded b 0 64 k h ∙ ap (λ (j : ℕ). get_or b j 0) (zero-add k)
+-- ---- `==` of two arrays is same_bytes
+and_same : (b : Bool) {s t : Bool} → s ≡ t → (b && s) ≡ both b t
+unfolding both
+and_same true e = e
+and_same false e = refl
 
-  pub one_differs : (k : ℕ) → k < 64 → get_or x (10 + k) 0 ≢ get_or b k 0 → false ≡ same_bytes (padded x 10 64) (padded b 0 64)
-  one_differs k h n =
-      sym (bytes_differ (padded x 10 64) (padded b 0 64) k (rw length_padded h) (rw length_padded h)
-      (λ e. n (sym (get_or_padded x 10 64 k h) ∙ e ∙ body_at k h)))
-
-  pub all_same : ((k : ℕ) → k < 64 → get_or x (10 + k) 0 ≡ get_or b k 0) → true ≡ same_bytes (padded x 10 64) (padded b 0 64)
-  all_same h =
-      let e : padded x 10 64 ≡ padded b 0 64 =
-      ext_get_or 0 (padded x 10 64) (padded b 0 64) (length_padded x 10 64 ∙ sym (length_padded b 0 64))
-      (λ k l. go k (rw length_padded at l))
-      in
-      rw e (sym (same_bytes_refl (padded b 0 64)))
-    where
-      go : (k : ℕ) → k < 64 → get_or (padded x 10 64) k 0 ≡ get_or (padded b 0 64) k 0
-      go k l = get_or_padded x 10 64 k l ∙ h k l ∙ sym (body_at k l)
+pub pointwise_same : (xs ys : List ℕ) → pointwise eqb xs ys ≡ same_bytes xs ys
+unfolding same_bytes both
+pointwise_same [] [] = refl
+pointwise_same [] (y ∷ ys) = refl
+pointwise_same (x ∷ xs) [] = refl
+pointwise_same (x ∷ xs) (y ∷ ys) = and_same (eqb x y) (pointwise_same xs ys)
 
 -- ---- writing a slot: a part that comes back as other 74 bytes is that slot put
 pub part_put : (t : List ℕ) (i : ℕ) (s : Slot) (x : List ℕ) → i < length t / 74 → x ≡ bytes_of s → length s.bytes ≡ 64
@@ -167,24 +149,7 @@ zeros_empty n i = ap (λ (l : List (List ℕ)). slot_from (get_or l i [])) (piec
     go (suc m) zero = refl
     go (suc m) (suc j) = go m j
 
--- ---- the highest number: four slots more
-max_over : (a b c : ℕ) → max (max a b) c ≡ max a (max b c)
-max_over a b c = omega arith
-
-max_four : (o p q r t : ℕ) → max o (max (max p q) (max r t)) ≡ max (max (max (max o p) q) r) t
-max_four o p q r t = sym (max_over (max (max o p) q) r t ∙ ap (λ x. max x (max r t)) (max_over o p q) ∙ max_over o (max p q) (max r t))
-
-pub highest_more : (s : List ℕ) (i top four : ℕ) → top ≡ highest shelf_store i s → four ≡ max (max (slot_at s i).number (slot_at s (i + 1)).number) (max (slot_at s (i + 2)).number (slot_at s (i + 3)).number) → max top four ≡ highest shelf_store (i + 4) s
+-- ---- the highest number: one slot more
+pub highest_next : (s : List ℕ) (i : ℕ) → highest shelf_store (i + 1) s ≡ max (highest shelf_store i s) (slot_at s i).number
 unfolding highest
-highest_more s i top four h f =
-    let e : i + 4 ≡ suc (i + 3) = omega arith in
-    let d : i + 3 ≡ suc (i + 2) = omega arith in
-    let c : i + 2 ≡ suc (i + 1) = omega arith in
-    let b : i + 1 ≡ suc i = omega arith in
-    let one : highest shelf_store (i + 1) s ≡ max (highest shelf_store i s) (slot_at s i).number = ap (λ n. highest shelf_store n s) b in
-    let two : highest shelf_store (i + 2) s ≡ max (highest shelf_store (i + 1) s) (slot_at s (i + 1)).number = ap (λ n. highest shelf_store n s) c in
-    let three : highest shelf_store (i + 3) s ≡ max (highest shelf_store (i + 2) s) (slot_at s (i + 2)).number = ap (λ n. highest shelf_store n s) d in
-    let all : highest shelf_store (i + 4) s ≡ max (highest shelf_store (i + 3) s) (slot_at s (i + 3)).number = ap (λ n. highest shelf_store n s) e in
-    (λ j. max (h j) (f j))
-    ∙ max_four (highest shelf_store i s) (slot_at s i).number (slot_at s (i + 1)).number (slot_at s (i + 2)).number (slot_at s (i + 3)).number
-    ∙ sym (all ∙ ap (λ x. max x (slot_at s (i + 3)).number) (three ∙ ap (λ x. max x (slot_at s (i + 2)).number) (two ∙ ap (λ x. max x (slot_at s (i + 1)).number) one)))
+highest_next s i = ap (λ n. highest shelf_store n s) (add-one i)

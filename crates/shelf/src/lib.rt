@@ -2,74 +2,69 @@
 // Each function answers for a slice of any length, any slot and any body; a slot that is not there reads as an empty one and is not written.
 #![tactic(auto)]
 
-ghost use Rattle.std.specs.Prelude.{◌+◌, ◌≤◌, max, ◌≡◌, [], length, get_or};
+ghost use Rattle.std.specs.Prelude.{◌≡◌, [], length, get_or};
 ghost use Rattle.facts.specs.Pieces.{pieces};
-ghost use Rattle.wire.specs.Le.{padded};
-ghost use Rattle.facts.specs.Same.{same_bytes};
 ghost use Rattle.arbitration.specs.Slots.{empty_slot, slot_for, slot_body, same_slot};
 ghost use Rattle.arbitration.specs.Receive.{highest as highest_number};
 ghost use Rattle.shelf.specs.Shelf.{slot_size, good_shelf, bytes_of, slot_at, put_slot};
 ghost use Rattle.shelf.specs.Store.{shelf_store};
 
+use wire::Number;
+
 // The bytes of a slot.
 const SLOT: usize = 74;
 
+#[tactic(auto, unfolding(crate::specs::Shelf::good_shelf))]
 pub fn good_shelf(n: usize) -> bool
     ensures { result ≡ good_shelf n }
 {
     n == facts::SHELF_SIZE
 }
 
+// The slots of a shelf, as they lie in it.
+#[tactic(auto, using(crate::proofs::Laws::chunks_pieces))]
+fn slots(s: &[u8]) -> &[[u8; SLOT]]
+    ensures { result.now ≡ pieces slot_size s.now }
+{
+    let (slots, _) = s.as_chunks();
+    slots
+}
+
 // The bytes of slot i; none where there is no such slot.
 fn slot(s: &[u8], i: usize) -> &[u8]
     ensures { result.now ≡ get_or (pieces slot_size s.now) i [] }
 {
-    if s.len() / SLOT <= i {
-        return &s[0..0];
+    match slots(s).get(i) {
+        Some(x) => x,
+        None => &[],
     }
-    let at = SLOT * i;
-    &s[at..at + SLOT]
 }
 
+#[tactic(auto, using(crate::proofs::Laws::number_is))]
 pub fn slot_number(s: &[u8], i: usize) -> u64
     ensures { result ≡ (slot_at s.now i).number }
 {
-    wire::u64_at(slot(s, i), 0)
+    u64::at(slot(s, i), 0)
 }
 
+#[tactic(auto, using(crate::proofs::Laws::len_is))]
 pub fn slot_len(s: &[u8], i: usize) -> usize
     ensures { result ≡ (slot_at s.now i).len }
 {
-    wire::u16_at(slot(s, i), 8) as usize
+    u16::at(slot(s, i), 8) as usize
 }
 
 // The part with the slot's body: as many bytes as its length says, and never more than the 64.
 pub fn slot_body<'a>(s: &'a [u8], i: usize) -> &'a [u8]
     ensures { result.now ≡ slot_body (slot_at s.now i) }
 {
-    let x = slot(s, i);
-    if x.len() < SLOT {
-        return &x[0..0];
-    }
-    let n = wire::u16_at(x, 8) as usize;
-    if 64 < n {
-        return &x[10..74];
-    }
-    &x[10..10 + n]
-}
-
-// The 64 bytes behind number and length are the body, with zeros behind it.
-fn same_bytes(x: &[u8], body: &[u8]) -> bool
-    ensures { result ≡ same_bytes (padded x.now 10 64) (padded body.now 0 64) }
-{
-    let mut k: usize = 0;
-    while k < 64 {
-        if wire::u8_at(x, 10 + k) != wire::u8_at(body, k) {
-            return false;
+    match slots(s).get(i) {
+        Some(x) => {
+            let n = (u16::at(x, 8) as usize).min(64);
+            &x[10..10 + n]
         }
-        k += 1;
+        None => &[],
     }
-    true
 }
 
 // Slot i holds the message: its number, its length and the same 64 padded bytes.
@@ -77,17 +72,13 @@ pub fn holds(s: &[u8], i: usize, number: u64, body: &[u8]) -> bool
     ensures { result ≡ same_slot (slot_at s.now i) (slot_for number body.now) }
 {
     let x = slot(s, i);
-    if wire::u64_at(x, 0) != number {
-        return false;
-    }
-    if wire::u16_at(x, 8) as usize != body.len() {
-        return false;
-    }
-    same_bytes(x, body)
+    u64::at(x, 0) == number
+        && u16::at(x, 8) as usize == body.len()
+        && wire::bytes_at::<64>(x, 10) == wire::bytes_at::<64>(body, 0)
 }
 
 // Every byte of one slot: number, length, padded body.
-fn fill(x: &mut [u8], number: u64, body: &[u8])
+fn write(x: &mut [u8], number: u64, body: &[u8])
     requires { length x.old ≡ slot_size }
     ensures { x.new ≡ bytes_of (slot_for number body.now) }
 {
@@ -97,52 +88,34 @@ fn fill(x: &mut [u8], number: u64, body: &[u8])
 }
 
 // Stores the slot of a message. Of a body longer than 64 bytes (no good one is) the first 64 are stored, beside its length modulo 65,536.
+#[tactic(auto, using(crate::proofs::Laws::part_put, crate::proofs::Laws::put_past, wire::proofs::Laws::length_padded))]
 pub fn put(s: &mut [u8], i: usize, number: u64, body: &[u8])
     ensures { s.new ≡ put_slot s.old i (slot_for number body.now) }
 {
-    if s.len() / SLOT <= i {
-        return;
+    if i < s.len() / SLOT {
+        let at = SLOT * i;
+        write(&mut s[at..at + SLOT], number, body);
     }
-    let at = SLOT * i;
-    fill(&mut s[at..at + SLOT], number, body);
 }
 
 // Zeroes slot i.
 pub fn empty(s: &mut [u8], i: usize)
     ensures { s.new ≡ put_slot s.old i empty_slot }
 {
-    if s.len() / SLOT <= i {
-        return;
+    if i < s.len() / SLOT {
+        let at = SLOT * i;
+        wire::wipe(&mut s[at..at + SLOT]);
     }
-    let at = SLOT * i;
-    wire::wipe(&mut s[at..at + SLOT]);
-}
-
-fn larger(a: u64, b: u64) -> u64
-    ensures { result ≡ max a b }
-{
-    if a < b { b } else { a }
-}
-
-// The largest number in four slots: of two pairs at once.
-fn highest_of_four(s: &[u8], i: usize) -> u64
-    requires { i ≤ 60 }
-    ensures { result ≡ max (max (slot_at s.now i).number (slot_at s.now (i + 1)).number) (max (slot_at s.now (i + 2)).number (slot_at s.now (i + 3)).number) }
-{
-    let a = larger(slot_number(s, i), slot_number(s, i + 1));
-    let b = larger(slot_number(s, i + 2), slot_number(s, i + 3));
-    larger(a, b)
 }
 
 // The largest number in any of the 64 slots, 0 if none.
+#[tactic(auto, using(crate::proofs::Laws::highest_next), unfolding(arbitration::specs::Receive::highest))]
 pub fn highest(s: &[u8]) -> u64
     ensures { result ≡ highest_number shelf_store 64 s.now }
 {
     let mut top: u64 = 0;
-    let mut i: usize = 0;
-    while i <= 60 {
-        top = larger(top, highest_of_four(s, i));
-        i += 4;
+    for i in 0..64 {
+        top = top.max(slot_number(s, i));
     }
     top
 }

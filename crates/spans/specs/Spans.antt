@@ -1,19 +1,22 @@
 -- The words of a line (docs/TEXT.md, "Lines").
-use Rattle.std.specs.Prelude.{ℕ, suc, Bool, true, false, List, [], ◌∷◌, get_or, eqb}
-use Rattle.facts.specs.Pick.{pick, either}
+use Rattle.std.specs.Prelude.{ℕ, suc, Bool, true, false, not, ◌||◌, List, [], ◌∷◌, length, get_or, eqb, leb, ◌==◌, if◌then◌else◌, Option, Some, None}
+use Rattle.std.specs.List.{position_or_len}
+use Rattle.facts.specs.Pick.{pick}
+
+-- "A line has at most 4,096 bytes"
+abbrev pub line_most : ℕ
+line_most = 4096
 
 -- "Spaces (32), tabs (9) and carriage returns (13) are blanks"
 unfoldable pub blank : ℕ → Bool
-blank x = either (eqb x 32) (either (eqb x 9) (eqb x 13))
+blank x = (x == 32) || ((x == 9) || (x == 13))
 
 -- how many bytes in front are blanks, and how many are none
-unfoldable pub blanks : List ℕ → ℕ
-blanks [] = 0
-blanks (x ∷ s) = pick (blank x) (suc (blanks s)) 0
+abbrev pub blanks : List ℕ → ℕ
+blanks s = position_or_len (λ x. not (blank x)) s
 
-unfoldable pub filled : List ℕ → ℕ
-filled [] = 0
-filled (x ∷ s) = pick (blank x) 0 (suc (filled s))
+abbrev pub filled : List ℕ → ℕ
+filled s = position_or_len blank s
 
 -- a word, and the place of its first byte in the line
 pub record Word : Type 0 where
@@ -38,6 +41,10 @@ unfoldable pub words_at : ℕ → List ℕ → List Word
 words_at i [] = []
 words_at i (x ∷ s) = pick (blank x) (words_at (suc i) s) (pick (opens s) (grown i x (words_at (suc i) s)) (word i (x ∷ []) ∷ words_at (suc i) s))
 
+-- the words of a line, unless it is too long
+abbrev pub opened : List ℕ → Option (List Word)
+opened s = if leb (length s) line_most then Some (words_at 0 s) else None
+
 -- "A word that begins with `#` (35) begins a comment"
 unfoldable pub is_note : Word → Bool
 is_note w = eqb (get_or w.bytes 0 0) 35
@@ -48,6 +55,5 @@ uncommented [] = []
 uncommented (w ∷ ws) = pick (is_note w) [] (w ∷ uncommented ws)
 
 -- how many bytes stand before the first x, all of them where there is none
-unfoldable pub place_of : ℕ → List ℕ → ℕ
-place_of x [] = 0
-place_of x (y ∷ s) = pick (eqb y x) 0 (suc (place_of x s))
+abbrev pub place_of : ℕ → List ℕ → ℕ
+place_of x s = position_or_len (λ y. y == x) s

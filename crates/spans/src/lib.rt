@@ -1,54 +1,92 @@
-// The words of a line: where one starts, where it ends, and where a byte stands in it (docs/TEXT.md).
+// The words of a line, each with the place of its first byte (docs/TEXT.md).
 #![tactic(auto)]
 
-ghost use Rattle.std.specs.Prelude.{◌≡◌, ◌+◌, drop};
-ghost use Rattle.spans.specs.Spans.{blank, blanks, filled, place_of};
+ghost use Rattle.std.specs.Prelude.{◌≡◌, ◌+◌, ◌≤◌, ◌==◌, length, option_map, position};
+ghost use Rattle.spans.specs.Spans.{blank, line_most};
+
+// The longest line.
+pub const LINE_MOST: usize = 4096;
 
 // Spaces, tabs and carriage returns are blanks.
+#[tactic(auto, unfolding(crate::specs::Spans::blank))]
 pub fn is_blank(x: u8) -> bool
     ensures { result ≡ blank x }
 {
-    (x == 32) | (x == 9) | (x == 13)
+    matches!(x, b' ' | b'\t' | b'\r')
 }
 
-// The place of the first byte from `from` on that is no blank, or the line's end.
-pub fn word_start(line: &[u8], from: usize) -> usize
-    ensures { result ≡ from + blanks (drop from line.now) }
+// The place of the first x.
+pub fn place_of(s: &[u8], x: u8) -> Option<usize>
+    ensures { result ≡ position (λ y. y == x) s.now }
 {
-    let mut i = from;
-    while i < line.len() {
-        if !is_blank(line[i]) {
-            return i;
-        }
-        i += 1;
-    }
-    i
+    s.iter().position(|y| *y == x)
 }
 
-// The place of the first blank from `from` on, or the line's end.
-pub fn word_end(line: &[u8], from: usize) -> usize
-    ensures { result ≡ from + filled (drop from line.now) }
-{
-    let mut i = from;
-    while i < line.len() {
-        if is_blank(line[i]) {
-            return i;
-        }
-        i += 1;
-    }
-    i
+// A word, and the place of its first byte in the line.
+#[derive(Clone, Copy, PartialEq, Eq, Debug)]
+pub struct Word<'a> {
+    pub at: usize,
+    pub bytes: &'a [u8],
+    pub ghost inside: { at + length bytes.now ≤ line_most },
 }
 
-// The place of the first x, or the length.
-pub fn place_of(s: &[u8], x: u8) -> usize
-    ensures { result ≡ place_of x s.now }
-{
-    let mut i = 0;
-    while i < s.len() {
-        if s[i] == x {
-            return i;
-        }
-        i += 1;
+impl Word<'_> {
+    ghost use Rattle.spans.specs.Spans.{is_note};
+    ghost use Rattle.spans.specs.Left.{told};
+
+    // Whether a comment begins with it.
+    #[tactic(auto, unfolding(crate::specs::Spans::is_note))]
+    pub fn is_note(self) -> bool
+        ensures { result ≡ is_note (told self.entry) }
+    {
+        matches!(self.bytes, [b'#', ..])
     }
-    i
+}
+
+// The words of what is left of a line, from a place on.
+#[derive(Clone, Copy, Debug)]
+pub struct Words<'a> {
+    at: usize,
+    rest: &'a [u8],
+    ghost inside: { at + length rest.now ≤ line_most },
+}
+
+impl<'a> Words<'a> {
+    ghost use Rattle.spans.specs.Spans.{opened};
+    ghost use Rattle.spans.specs.Left.{words_left};
+
+    // All words of a line, unless it is too long.
+    pub fn new(line: &'a [u8]) -> Option<Self>
+        ensures { option_map words_left result ≡ opened line.now }
+    {
+        if line.len() <= LINE_MOST {
+            Some(Words { at: 0, rest: line })
+        } else {
+            None
+        }
+    }
+}
+
+impl<'a> Iterator for Words<'a> {
+    ghost use Rattle.std.specs.Iterator.{YieldsFirstBy, item_count};
+    ghost use Rattle.spans.specs.Left.{told, words_left};
+
+    type Item = Word<'a>;
+
+    ghost next_gives = { YieldsFirstBy told words_left };
+
+    ghost remaining = { item_count words_left };
+
+    fn next(&mut self) -> Option<Word<'a>> {
+        let start = self.rest.iter().position(|x| !is_blank(*x))?;
+        let front = &self.rest[start..];
+        let end = front
+            .iter()
+            .position(|x| is_blank(*x))
+            .unwrap_or(front.len());
+        let (bytes, rest) = front.split_at(end);
+        let at = self.at + start;
+        *self = Words { at: at + end, rest };
+        Some(Word { at, bytes })
+    }
 }

@@ -1,13 +1,16 @@
-// What the programs take in: blocks of a reader, and the words that they were started with.
+// What the programs take in: blocks and packets of a reader, and the words that they were started with; and in what words they tell of bytes and of failures.
 #![tactic(auto)]
 
-ghost use Rattle.std.specs.Prelude.{◌≡◌, ℕ, List, ◌+◌, ◌<◌, ◌≤◌, length, take, drop, IfOk, OnErr};
+ghost use Rattle.std.specs.Prelude.{◌≡◌, ℕ, List, ◌+◌, ◌<◌, ◌≤◌, length, take, drop, Some, IfOk, IfSome, IfNone, OnErr};
 ghost use Rattle.std.specs.Io.{ReadsAtMost};
 ghost use Rattle.std.specs.Io.KnownBytes.{Consumes, IsAtEnd, Keeps, ReadConsumes};
+ghost use Rattle.streams.specs.Streams.{framed, spaced, told_text};
 
 use std::env::{Env, FillError};
-use std::io;
+use std::error::Error;
 use std::io::{ErrorKind, Read};
+use std::marker::Model;
+use std::{fmt, io};
 
 // One read, tried again where a signal broke it off. It puts the bytes at the start of buf and returns how many they are; none only at the
 // end of the input or where buf has no room. A read that fails takes no byte.
@@ -59,6 +62,29 @@ fn read_behind<R: Read>(from: &mut R, buf: &mut [u8], done: usize) -> io::Result
     read_once(from, &mut buf[done..])
 }
 
+// The longest packet that a two-byte length can announce.
+pub const LONGEST: usize = 65535;
+
+// Reads a packet behind its two-byte length to the start of `held`, and returns how many bytes it has: none at the end of the input, also where
+// that lies inside a packet.
+pub fn read_packet<R: Read>(from: &mut R, held: &mut [u8; LONGEST]) -> io::Result<Option<usize>>
+    ensures fits { IfOk result (λ o. IfSome o (λ n. n ≤ LONGEST)) }
+    ensures bytes { IfOk result (λ o. IfSome o (λ n. Consumes (R.remaining from.old) (R.remaining from.new) (framed n held.new))) }
+    ensures end { IfOk result (λ o. IfNone o (IsAtEnd (R.remaining from.new))) }
+    ensures lost { OnErr result ((bs : List ℕ) × Consumes (R.remaining from.old) (R.remaining from.new) bs) }
+{
+    let mut length = [0; 2];
+    if read_full(from, &mut length)? < 2 {
+        return Ok(None);
+    }
+    let [low, high] = length;
+    let n = usize::from(u16::from_le_bytes([low, high]));
+    if read_full(from, &mut held[..n])? < n {
+        return Ok(None);
+    }
+    Ok(Some(n))
+}
+
 // How many words the program was started with, its own name among them; from `most` on none is counted.
 pub fn word_count(rt: &impl Env, most: usize) -> usize
     ensures { result ≤ most }
@@ -71,15 +97,75 @@ pub fn word_count(rt: &impl Env, most: usize) -> usize
     most
 }
 
-// Puts word i at the start of buf and returns its length: 0 where there is no such word, and where it is longer than buf.
-pub fn word(rt: &impl Env, i: usize, buf: &mut [u8]) -> usize
-    ensures { result ≤ length buf.new }
-{
-    match rt.arg(i, buf) {
-        Ok(n) => n,
-        Err(_) => 0,
+// A word that the program was started with, in memory for N bytes.
+#[derive(Drop)]
+pub struct Word<const N: usize> {
+    bytes: [u8; N],
+    len: usize,
+}
+
+impl<const N: usize> Model for Word<N> {
+    ghost Value = { List ℕ };
+
+    ghost view = { λ w. take w.len w.bytes };
+
+    ghost invariant = { λ w. w.len ≤ N };
+}
+
+impl<const N: usize> Word<N> {
+    // Word i: an empty one where there is no such word, and where it is longer than N bytes.
+    pub fn at(rt: &impl Env, i: usize) -> Self
+        ensures { length result ≤ N }
+    {
+        let mut bytes = [0; N];
+        let len = rt.arg(i, &mut bytes).unwrap_or(0);
+        Word { bytes, len }
+    }
+
+    // Its bytes.
+    pub fn as_slice(&self) -> &[u8]
+        ensures { result.now ≡ self.now }
+    {
+        &self.bytes[..self.len]
     }
 }
+
+// Bytes as the programs print them: each as a number behind a space.
+#[derive(Clone, Copy)]
+pub struct Spaced<'a>(pub &'a [u8]);
+
+impl fmt::Display for Spaced<'_> {
+    ghost output = { λ s. Some (spaced s.0.now) };
+
+    fn fmt<W: fmt::Write>(&self, f: &mut fmt::Formatter<W>) -> fmt::Result {
+        for x in self.0 {
+            write!(f, " {x}")?;
+        }
+        Ok(())
+    }
+}
+
+// Why a program ends before its work is done: the system refused a read or a write, or what it tells in words.
+#[derive(Debug, Drop)]
+pub enum Failure {
+    Input(io::Error),
+    Output(io::Error),
+    Told(&'static str),
+}
+
+impl fmt::Display for Failure {
+    ghost output = { told_text };
+
+    fn fmt<W: fmt::Write>(&self, f: &mut fmt::Formatter<W>) -> fmt::Result {
+        match self {
+            Failure::Input(e) => write!(f, "standard input: {e}"),
+            Failure::Output(e) => write!(f, "standard output: {e}"),
+            Failure::Told(words) => write!(f, "{words}"),
+        }
+    }
+}
+
+impl Error for Failure {}
 
 #[cfg(test)]
 mod tests {
@@ -174,13 +260,11 @@ mod tests {
 
     #[test]
     fn takes_words(rt: HostRuntime) {
-        let mut buf = [0u8; 5];
         assert_eq!(rt; word_count(&Three, usize::MAX), 3);
         assert_eq!(rt; word_count(&Three, 2), 2);
-        assert_eq!(rt; word(&Three, 0, &mut buf), 4);
-        assert_eq!(rt; word(&Three, 1, &mut buf), 0);
-        assert_eq!(rt; word(&Three, 3, &mut buf), 0);
-        let mut small = [0u8; 3];
-        assert_eq!(rt; word(&Three, 0, &mut small), 0);
+        assert_eq!(rt; Word::<5>::at(&Three, 0).as_slice().len(), 4);
+        assert_eq!(rt; Word::<5>::at(&Three, 1).as_slice().len(), 0);
+        assert_eq!(rt; Word::<5>::at(&Three, 3).as_slice().len(), 0);
+        assert_eq!(rt; Word::<3>::at(&Three, 0).as_slice().len(), 0);
     }
 }

@@ -2,8 +2,9 @@
 #![tactic(auto)]
 
 // The form of a field's value.
-#[derive(Clone, Copy)]
+#[derive(Clone, Copy, PartialEq, Eq, Debug, Default)]
 pub enum Style {
+    #[default]
     Number,
     Price,
     Clock,

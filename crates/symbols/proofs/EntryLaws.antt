@@ -1,18 +1,18 @@
 -- An entry is a piece of the table, so the laws of tables are those of pieces; its type byte alone says whether it is used.
 -- Assumes nothing.
-use mathlib.Core.Path.{◌≡◌, refl, sym, ◌∙◌}
+use mathlib.Core.Path.{◌≡◌, refl, ◌∙◌}
 use mathlib.Core.List.{List, [], ◌++◌}
 use mathlib.Core.Bool.{Bool, true, false}
-use Prim.Native.Nat.{ℕ, ◌+◌, ◌-◌, ◌*◌, ◌/◌, ◌≤◌, ◌<◌}
+use Prim.Native.Nat.{ℕ, zero, suc, ◌+◌, ◌-◌, ◌*◌, ◌/◌, ◌≤◌, ◌<◌}
 use native.Mathlib.Omega.{arith}
 use lib.ListN.{length, get_or, set, take, drop, replicate, length-replicate, get_or-replicate, get_or-eq_default}
 use lib.Dec.{ltb}
 use borrow.Author.Tests.{eq-eqb, ne_eqb, eqb-true, ltb-true, ltb-false}
 use Rattle.facts.specs.Limits.{entry_size, most_entries}
 use Rattle.facts.specs.Pick.{pick, either}
-use Rattle.facts.specs.Pieces.{join}
-use Rattle.facts.proofs.Picks.{refuted}
-use Rattle.facts.proofs.PieceLaws.{Wide, length_pieces, get_or_pieces, piece_fits, length_piece, length_put, put_out, pieces_put, wide_pieces, pieces_replicate, join_rest}
+use Rattle.std.specs.Simd.{first_chunks}
+use Rattle.facts.specs.Pieces.{cut, pieces, join}
+use Rattle.facts.proofs.PieceLaws.{Wide, length_pieces, piece_fits, length_piece, length_put, put_out, pieces_put, wide_pieces, pieces_replicate, join_rest}
 use Rattle.facts.proofs.TableLaws.{put_join_rest, part_put, Fits, good_fits, fits_good}
 use Rattle.wire.specs.Le.{padded}
 use Rattle.wire.proofs.Laws.{length_padded, get_or_padded, field_padded, padded_whole}
@@ -44,31 +44,28 @@ pub entries_good : (n : ℕ) → EntriesFit n → good_entries n ≡ true
 unfolding good_entries
 entries_good n h = fits_good entry_size most_entries n h
 
-pub entries_not_good : (n : ℕ) → (EntriesFit n → ⊥) → false ≡ good_entries n
-entries_not_good n h = refuted (good_entries n) (λ e. h (good_entries_lem n e))
-
 -- ---- tables and their entries
 pub length_entries : (t : List ℕ) → length (entries t) ≡ length t / entry_size
 unfolding entries
 length_entries t = length_pieces entry_size t
 
-pub entry_read : (t : List ℕ) (i : ℕ) → i < length (entries t) → get_or (entries t) i [] ≡ take entry_size (drop (entry_size * i) t)
-unfolding entries
-entry_read t i h = get_or_pieces entry_size t i [] (rw length_pieces at h)
+-- as std cuts a slice
+chunks_cut : (w n : ℕ) (t : List ℕ) → first_chunks w n t ≡ cut w n t
+unfolding cut
+chunks_cut w zero t = refl
+chunks_cut w (suc n) t = rw (chunks_cut w n (drop w t))
+
+pub entries_chunks : (t : List ℕ) → first_chunks entry_size (length t / entry_size) t ≡ entries t
+unfolding entries pieces
+entries_chunks t = chunks_cut entry_size (length t / entry_size) t
 
 -- the part from its start to its end, as code cuts it out
 part_width : (i : ℕ) → entry_size * i + entry_size - entry_size * i ≡ entry_size
 part_width i = omega arith
 
-pub entry_part : (t : List ℕ) (i : ℕ) → i < length (entries t) → take (entry_size * i + entry_size - entry_size * i) (drop (entry_size * i) t) ≡ get_or (entries t) i []
-entry_part t i h = rw (part_width i) (sym (entry_read t i h))
-
 pub entry_fits : (t : List ℕ) (i : ℕ) → i < length (entries t) → entry_size * i + entry_size ≤ length t
 unfolding entries
 entry_fits t i h = piece_fits entry_size t i (rw length_pieces at h)
-
-pub entry_past : (t : List ℕ) (i : ℕ) → length (entries t) ≤ i → get_or (entries t) i [] ≡ []
-entry_past t i h = get_or-eq_default (entries t) [] h
 
 pub wide_entries : (t : List ℕ) → Wide entry_size (entries t)
 unfolding entries

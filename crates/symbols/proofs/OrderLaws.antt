@@ -11,7 +11,7 @@ use lib.ListN.{length, get_or, set, replicate}
 use lib.Dec.{eqb}
 use Rattle.facts.specs.Pick.{pick, both}
 use Rattle.facts.specs.Search.{first, is_found}
-use Rattle.facts.specs.declared.Found.TheVariants.{At}
+use Rattle.std.specs.Prelude.{Some}
 use Rattle.symbols.specs.Entries.{entries, entry_of, used, id_of}
 use Rattle.symbols.specs.Find.{is_symbol, find_symbol, known_symbol, place_for, count_used}
 use Rattle.symbols.specs.Tidy.{Packed, ids_in, joined}
@@ -26,7 +26,7 @@ listed id [] k j = refl
 listed id (e ∷ es) k j = go (listed id es (suc k)) (used e) (eqb (id_of e) id) refl
   where
     go : ((j : ℕ) → is_found (first (is_symbol id) (suc k) es) ≡ is_found (first (λ x. eqb x id) j (ids_in es))) → (u t : Bool) → eqb (id_of e) id ≡ t
-        → is_found (pick (both u t) (At k) (first (is_symbol id) (suc k) es)) ≡ is_found (first (λ x. eqb x id) j (pick u (id_of e ∷ ids_in es) (ids_in es)))
+        → is_found (pick (both u t) (Some k) (first (is_symbol id) (suc k) es)) ≡ is_found (first (λ x. eqb x id) j (pick u (id_of e ∷ ids_in es) (ids_in es)))
     go rest true true q = rw q refl
     go rest true false q = rw q (rest (suc j))
     go rest false t q = rest j
@@ -62,14 +62,14 @@ ids_new (e ∷ es) (suc i) x h n v = ap (λ ys. pick (used e) (id_of e ∷ ys) y
     split false = refl
 
 -- ---- "in order of first use": an update of a new symbol puts it behind the others
-pub ids_kept : (b : List ℕ) (es : List (List ℕ)) (i : ℕ) → place_for (id_of b) es ≡ At i → used b ≡ true → Packed es → ids_in (set es i (entry_of b)) ≡ joined (id_of b) (ids_in es)
+pub ids_kept : (b : List ℕ) (es : List (List ℕ)) (i : ℕ) → place_for (id_of b) es ≡ Some i → used b ≡ true → Packed es → ids_in (set es i (entry_of b)) ≡ joined (id_of b) (ids_in es)
 unfolding joined pick
 ids_kept b es i e u p = go (known_symbol (id_of b) es) refl ∙ ap (λ t. pick t (ids_in es) (ids_in es ++ (id_of b ∷ []))) (known_listed (id_of b) es)
   where
     go : (t : Bool) → known_symbol (id_of b) es ≡ t → ids_in (set es i (entry_of b)) ≡ pick (known_symbol (id_of b) es) (ids_in es) (ids_in es ++ (id_of b ∷ []))
     go true k =
         let w = known_found (id_of b) es k in
-        let o : At w.place ≡ At i = sym (place_own (id_of b) es w.place w.found) ∙ e in
+        let o : Some w.place ≡ Some i = sym (place_own (id_of b) es w.place w.found) ∙ e in
         let y : w.place ≡ i = cc in
         let s : (used (get_or es i []) ≡ true) × (id_of (get_or es i []) ≡ id_of b) = rw (← y) (entry_is (id_of b) (get_or es w.place []) w.its) in
         rw k (ids_same es i (entry_of b) s.0 (used_entry_of b ∙ u) (s.1 ∙ sym (id_entry_of b)))

@@ -9,7 +9,7 @@ use native.Mathlib.Omega.{arith}
 use lib.ListN.{get_or, set, replicate}
 use lib.Dec.{eqb}
 use borrow.Author.Tests.{eqb-true, eqb-false}
-use Rattle.facts.specs.declared.Found.TheVariants.{At}
+use Rattle.std.specs.Prelude.{Some}
 use Rattle.facts.proofs.Searches.{first_lowest, none_first}
 use Rattle.facts.proofs.CountLaws.{count_none}
 use Rattle.symbols.specs.Entries.{entries, entry_of, used, free_entry, id_of}
@@ -32,43 +32,43 @@ wiped_count n = count_none used (entries (replicate n 0)) [] (λ i l. wiped_unus
 
 -- ---- used entries have distinct IDs
 -- exactly if a search for the ID of a used entry finds that entry
-pub distinct_found : (es : List (List ℕ)) → Distinct es → (i : ℕ) → used (get_or es i []) ≡ true → find_symbol (id_of (get_or es i [])) es ≡ At i
+pub distinct_found : (es : List (List ℕ)) → Distinct es → (i : ℕ) → used (get_or es i []) ≡ true → find_symbol (id_of (get_or es i [])) es ≡ Some i
 distinct_found es d i u = go (known_found id es (some_known id es i (is_symbol_lem id (get_or es i []) u refl)))
   where
     id : ℕ
     id = id_of (get_or es i [])
 
-    go : Known id es → find_symbol id es ≡ At i
+    go : Known id es → find_symbol id es ≡ Some i
     go k =
         let s = entry_is id (get_or es k.place []) k.its in
-        k.found ∙ ap At (d k.place i s.0 u s.1)
+        k.found ∙ ap Some (d k.place i s.0 u s.1)
 
-pub found_distinct : (es : List (List ℕ)) → ((i : ℕ) → used (get_or es i []) ≡ true → find_symbol (id_of (get_or es i [])) es ≡ At i) → Distinct es
+pub found_distinct : (es : List (List ℕ)) → ((i : ℕ) → used (get_or es i []) ≡ true → find_symbol (id_of (get_or es i [])) es ≡ Some i) → Distinct es
 found_distinct es f i j u v e =
-    let a : find_symbol (id_of (get_or es i [])) es ≡ At i = f i u in
-    let b : find_symbol (id_of (get_or es i [])) es ≡ At j = rw e (f j v) in
+    let a : find_symbol (id_of (get_or es i [])) es ≡ Some i = f i u in
+    let b : find_symbol (id_of (get_or es i [])) es ≡ Some j = rw e (f j v) in
     cc
 
 pub wiped_distinct : (n : ℕ) → Distinct (entries (replicate n 0))
 wiped_distinct n i j u v e = let w = wiped_unused n i in let z : ◌≡◌ {A = ℕ} 0 1 = cc in absurd (omega arith)
 
-pub distinct_kept : (b : List ℕ) (es : List (List ℕ)) (i : ℕ) → place_for (id_of b) es ≡ At i → used b ≡ true → Distinct es → Distinct (set es i (entry_of b))
+pub distinct_kept : (b : List ℕ) (es : List (List ℕ)) (i : ℕ) → place_for (id_of b) es ≡ Some i → used b ≡ true → Distinct es → Distinct (set es i (entry_of b))
 distinct_kept b es i e u d = found_distinct after (λ j v. at j v (eqb j i) refl)
   where
     after : List (List ℕ)
     after = set es i (entry_of b)
 
     -- every used entry is found by its ID: the new one, and each of the others
-    at : (j : ℕ) → used (get_or after j []) ≡ true → (s : Bool) → eqb j i ≡ s → find_symbol (id_of (get_or after j [])) after ≡ At j
+    at : (j : ℕ) → used (get_or after j []) ≡ true → (s : Bool) → eqb j i ≡ s → find_symbol (id_of (get_or after j [])) after ≡ Some j
     at j v true q =
         let ji : j ≡ i = eqb-true j i q in
         let x : get_or after j [] ≡ entry_of b = rw ji (own_is b es i e) in
-        rw (x, id_entry_of b) (find_own b es i e u ∙ ap At (sym ji))
+        rw (x, id_entry_of b) (find_own b es i e u ∙ ap Some (sym ji))
     at j v false q =
         let x : get_or after j [] ≡ get_or es j [] = others_kept b es i e j (eqb-false j i q) in
-        let f : find_symbol (id_of (get_or es j [])) es ≡ At j = distinct_found es d j (ap used (sym x) ∙ v) in
+        let f : find_symbol (id_of (get_or es j [])) es ≡ Some j = distinct_found es d j (ap used (sym x) ∙ v) in
         let n : id_of (get_or es j []) ≡ id_of b → ⊥ =
-        λ z. let g : At j ≡ At i = sym (place_own (id_of b) es j (rw z at f)) ∙ e in eqb-false j i q (cc) in
+        λ z. let g : Some j ≡ Some i = sym (place_own (id_of b) es j (rw z at f)) ∙ e in eqb-false j i q (cc) in
         rw x (find_others b es i e (id_of (get_or es j [])) n ∙ f)
 
 -- ---- "in order of first use": the used entries lie in front, and all others are free
@@ -79,7 +79,7 @@ never_both : (e : List ℕ) → used e ≡ true → free_entry e ≡ true → �
 never_both e u f = let n = used_not_free e u in let z : ◌≡◌ {A = ℕ} 0 1 = cc in omega arith
 
 -- the lowest free entry is the next one
-pub next_free : (es : List (List ℕ)) → Packed es → (i : ℕ) → find_free_entry es ≡ At i → i ≡ count_used es
+pub next_free : (es : List (List ℕ)) → Packed es → (i : ℕ) → find_free_entry es ≡ Some i → i ≡ count_used es
 unfolding find_free_entry
 next_free es p i e =
     let w = free_entry_below es i e in
@@ -91,14 +91,14 @@ next_free es p i e =
     omega arith
 
 -- a new symbol comes right behind those used before it
-pub new_behind : (b : List ℕ) (es : List (List ℕ)) → Packed es → known_symbol (id_of b) es ≡ false → (i : ℕ) → place_for (id_of b) es ≡ At i → i ≡ count_used es
+pub new_behind : (b : List ℕ) (es : List (List ℕ)) → Packed es → known_symbol (id_of b) es ≡ false → (i : ℕ) → place_for (id_of b) es ≡ Some i → i ≡ count_used es
 new_behind b es p k i e = go (place_is (id_of b) es i e)
   where
     go : Place (id_of b) es i → i ≡ count_used es
     go (own f) = let h = found_known (id_of b) es i f in let z : ◌≡◌ {A = ℕ} 0 1 = cc in absurd (omega arith)
     go (fresh m f) = next_free es p i f
 
-pub packed_kept : (b : List ℕ) (es : List (List ℕ)) (i : ℕ) → place_for (id_of b) es ≡ At i → used b ≡ true → Packed es → Packed (set es i (entry_of b))
+pub packed_kept : (b : List ℕ) (es : List (List ℕ)) (i : ℕ) → place_for (id_of b) es ≡ Some i → used b ≡ true → Packed es → Packed (set es i (entry_of b))
 packed_kept b es i e u p = go (known_symbol (id_of b) es) refl
   where
     after : List (List ℕ)
@@ -116,7 +116,7 @@ packed_kept b es i e u p = go (known_symbol (id_of b) es) refl
     go true k =
         let w = known_found (id_of b) es k in
         let c : count_used after ≡ count_used es = count_known b es i e u k in
-        let o : At w.place ≡ At i = sym (place_own (id_of b) es w.place w.found) ∙ e in
+        let o : Some w.place ≡ Some i = sym (place_own (id_of b) es w.place w.found) ∙ e in
         let y : w.place ≡ i = cc in
         let x : used (get_or es i []) ≡ true = rw (← y) (entry_is (id_of b) (get_or es w.place []) w.its).0 in
         record {

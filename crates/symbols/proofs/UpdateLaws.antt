@@ -9,20 +9,19 @@ use lib.ListN.{length, get_or, set}
 use lib.Seq.{get_or-set_same, get_or-set_other}
 use lib.Dec.{eqb}
 use borrow.Author.Tests.{eqb-true, eqb-false}
-use Rattle.facts.specs.declared.Found.TheVariants.{At}
+use Rattle.std.specs.Prelude.{Option, Some, None}
 use Rattle.facts.proofs.Searches.{first_set_same, first_set_new}
 use Rattle.facts.proofs.CountLaws.{count_set_same, count_set_new}
-use Rattle.symbols.specs.declared.EntryWork.{EntryWork}
 use Rattle.symbols.specs.Entries.{entry_of, used, id_of}
 use Rattle.symbols.specs.Find.{is_symbol, find_symbol, known_symbol, place_for, count_used}
 use Rattle.symbols.specs.Work.{entered}
 use Rattle.symbols.proofs.EntryLaws.{id_entry_of, used_entry_of, free_not_used, length_put_entry}
 use Rattle.symbols.proofs.FindLaws.{Place, own, fresh, entry_is, is_symbol_lem, other_entry, unused_symbol, entry_below, free_entry_below, known_found, found_known, unknown_nowhere, place_is, place_own, place_below}
 
-pub entered_length : (w : EntryWork) (b t : List ℕ) → length (entered w b t) ≡ length t
+pub entered_length : (w : Option ℕ) (b t : List ℕ) → length (entered w b t) ≡ length t
 unfolding entered
-entered_length EntryWork.Keep b t = refl
-entered_length (EntryWork.Put i) b t = length_put_entry t i b
+entered_length None b t = refl
+entered_length (Some i) b t = length_put_entry t i b
 
 -- ---- what stood at the place: that symbol's entry or a free one, so no other symbol's
 was_other : (b : List ℕ) (es : List (List ℕ)) (i : ℕ) → Place (id_of b) es i → (id : ℕ) → (id ≡ id_of b → ⊥) → is_symbol id (get_or es i []) ≡ false
@@ -37,7 +36,7 @@ now_own : (b : List ℕ) → used b ≡ true → is_symbol (id_of b) (entry_of b
 now_own b u = is_symbol_lem (id_of b) (entry_of b) (used_entry_of b ∙ u) (id_entry_of b)
 
 -- ---- the body of an update at the place found for it
-module _ (b : List ℕ) (es : List (List ℕ)) (i : ℕ) (e : place_for (id_of b) es ≡ At i) where
+module _ (b : List ℕ) (es : List (List ℕ)) (i : ℕ) (e : place_for (id_of b) es ≡ Some i) where
   abbrev after : List (List ℕ)
   after = set es i (entry_of b)
 
@@ -57,13 +56,13 @@ module _ (b : List ℕ) (es : List (List ℕ)) (i : ℕ) (e : place_for (id_of b
   known_others id n = rw (find_others id n)
 
   module _ (u : used b ≡ true) where
-    pub find_own : find_symbol (id_of b) after ≡ At i
+    pub find_own : find_symbol (id_of b) after ≡ Some i
     unfolding find_symbol
     find_own = at (place_is (id_of b) es i e)
       where
-        at : Place (id_of b) es i → find_symbol (id_of b) (set es i (entry_of b)) ≡ At i
+        at : Place (id_of b) es i → find_symbol (id_of b) (set es i (entry_of b)) ≡ Some i
         at (own f) = first_set_same (is_symbol (id_of b)) 0 es i (entry_of b) [] ((entry_below es i (id_of b) f).1 ∙ sym (now_own b u)) ∙ f
-        at (fresh m f) = first_set_new (is_symbol (id_of b)) 0 es i (entry_of b) (free_entry_below es i f).0 m (now_own b u) ∙ ap At (omega arith)
+        at (fresh m f) = first_set_new (is_symbol (id_of b)) 0 es i (entry_of b) (free_entry_below es i f).0 m (now_own b u) ∙ ap Some (omega arith)
 
     -- its symbol is known afterwards, and what was known stays known
     pub known_after : known_symbol (id_of b) after ≡ true
@@ -81,7 +80,7 @@ module _ (b : List ℕ) (es : List (List ℕ)) (i : ℕ) (e : place_for (id_of b
     unfolding count_used
     count_known k =
         let w = known_found (id_of b) es k in
-        let o : At w.place ≡ At i = sym (place_own (id_of b) es w.place w.found) ∙ e in
+        let o : Some w.place ≡ Some i = sym (place_own (id_of b) es w.place w.found) ∙ e in
         let j : w.place ≡ i = cc in
         let x : used (get_or es i []) ≡ true = rw (← j) (entry_is (id_of b) (get_or es w.place []) w.its).0 in
         count_set_same used es i (entry_of b) [] (x ∙ sym (used_entry_of b ∙ u))

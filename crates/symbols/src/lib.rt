@@ -1,5 +1,5 @@
 // The symbol table: entries of 42 bytes, each a Symbol Update body. Each function answers for any table, any place and any body;
-// only `entry_count`, `entry_in` and `put_entry` know where an entry lies.
+// only `whole_entries` and `put_entry` know where an entry lies.
 #![tactic(auto)]
 
 ghost use Rattle.std.specs.Prelude.{◌≡◌, ◌<◌, length, get_or, []};
@@ -8,8 +8,8 @@ ghost use Rattle.symbols.specs.Entries.{good_entries, entries, put_entry, used, 
 ghost use Rattle.symbols.specs.Find.{is_symbol, find_symbol, find_free_entry, known_symbol, place_for, count_used};
 ghost use Rattle.symbols.specs.Work.{entered};
 
-use facts::Found;
 use fields::Symbol;
+use wire::Number;
 
 // The type byte of an entry in use.
 const USED: u8 = 1;
@@ -17,54 +17,34 @@ const USED: u8 = 1;
 // The type byte of a free entry.
 const FREE: u8 = 0;
 
-// The work of a message on the symbol table: the entry that its body becomes.
-#[derive(Clone, Copy)]
-pub enum EntryWork {
-    Keep,
-    Put(usize),
-}
-
 // A table of n bytes holds whole entries, and as many as it may.
+#[tactic(auto, unfolding(crate::specs::Entries::good_entries, facts::specs::Pick::both))]
 pub fn good_entries(n: usize) -> bool
     ensures { result ≡ good_entries n }
 {
-    if n % facts::ENTRY_SIZE != 0 {
-        return false;
-    }
-    let k = n / facts::ENTRY_SIZE;
-    if k < 1 {
-        return false;
-    }
-    if k > facts::MOST_ENTRIES {
-        return false;
-    }
-    true
+    n % facts::ENTRY_SIZE == 0 && (1..=facts::MOST_ENTRIES).contains(&(n / facts::ENTRY_SIZE))
+}
+
+// The bytes of each entry; bytes behind the last whole entry are none.
+fn whole_entries(t: &[u8]) -> &[[u8; facts::ENTRY_SIZE]]
+    ensures { result.now ≡ entries t.now }
+{
+    t.as_chunks().0
 }
 
 pub fn entry_count(t: &[u8]) -> usize
     ensures { result ≡ length (entries t.now) }
 {
-    t.len() / facts::ENTRY_SIZE
-}
-
-// An entry that is there.
-fn entry_in(t: &[u8], i: usize) -> &[u8]
-    requires { i < length (entries t.now) }
-    ensures { result.now ≡ get_or (entries t.now) i [] }
-{
-    let b = facts::ENTRY_SIZE * i;
-    let e = b + facts::ENTRY_SIZE;
-    &t[b..e]
+    whole_entries(t).len()
 }
 
 // The bytes of entry i; none where there is no such entry.
 pub fn entry_bytes(t: &[u8], i: usize) -> &[u8]
     ensures { result.now ≡ get_or (entries t.now) i [] }
 {
-    if i < entry_count(t) {
-        entry_in(t, i)
-    } else {
-        &t[..0]
+    match whole_entries(t).get(i) {
+        Some(e) => e,
+        None => &[],
     }
 }
 
@@ -74,25 +54,25 @@ pub fn entry_at(t: &[u8], i: usize) -> Symbol
     fields::symbol_of(entry_bytes(t, i))
 }
 
+#[tactic(auto, unfolding(crate::specs::Entries::used))]
 fn is_used(e: &[u8]) -> bool
     ensures { result ≡ used e.now }
 {
-    wire::u8_at(e, 0) == USED
+    u8::at(e, 0) == USED
 }
 
+#[tactic(auto, unfolding(crate::specs::Entries::free_entry))]
 fn is_free(e: &[u8]) -> bool
     ensures { result ≡ free_entry e.now }
 {
-    wire::u8_at(e, 0) == FREE
+    u8::at(e, 0) == FREE
 }
 
+#[tactic(auto, unfolding(crate::specs::Find::is_symbol, facts::specs::Pick::both))]
 fn is_symbol(e: &[u8], id: u32) -> bool
     ensures { result ≡ is_symbol id e.now }
 {
-    if wire::u8_at(e, 0) != USED {
-        return false;
-    }
-    wire::u32_at(e, 5) == id
+    is_used(e) && u32::at(e, 5) == id
 }
 
 pub fn is_used_at(t: &[u8], i: usize) -> bool
@@ -107,86 +87,53 @@ pub fn is_symbol_at(t: &[u8], i: usize, id: u32) -> bool
     is_symbol(entry_bytes(t, i), id)
 }
 
-pub fn find_symbol(t: &[u8], id: u32) -> Found
+pub fn find_symbol(t: &[u8], id: u32) -> Option<usize>
     ensures { result ≡ find_symbol id (entries t.now) }
 {
-    let end = entry_count(t);
-    let mut i = 0;
-    while i < end {
-        if is_symbol(entry_in(t, i), id) {
-            return Found::At(i);
-        }
-        i += 1;
-    }
-    Found::Nothing
+    whole_entries(t).iter().position(|e| is_symbol(e, id))
 }
 
-fn find_free_entry(t: &[u8]) -> Found
+fn find_free_entry(t: &[u8]) -> Option<usize>
     ensures { result ≡ find_free_entry (entries t.now) }
 {
-    let end = entry_count(t);
-    let mut i = 0;
-    while i < end {
-        if is_free(entry_in(t, i)) {
-            return Found::At(i);
-        }
-        i += 1;
-    }
-    Found::Nothing
+    whole_entries(t).iter().position(|e| is_free(e))
 }
 
+#[tactic(auto, unfolding(crate::specs::Find::known_symbol))]
 pub fn known(t: &[u8], id: u32) -> bool
     ensures { result ≡ known_symbol id (entries t.now) }
 {
-    let f = find_symbol(t, id);
-    match f {
-        Found::At(_) => true,
-        Found::Nothing => false,
-    }
+    find_symbol(t, id).is_some()
 }
 
-pub fn find_place(t: &[u8], id: u32) -> Found
+#[tactic(auto, unfolding(crate::specs::Find::place_for))]
+pub fn find_place(t: &[u8], id: u32) -> Option<usize>
     ensures { result ≡ place_for id (entries t.now) }
 {
-    let own = find_symbol(t, id);
-    match own {
-        Found::At(i) => Found::At(i),
-        Found::Nothing => find_free_entry(t),
-    }
+    find_symbol(t, id).or_else(|| find_free_entry(t))
 }
 
 fn put_entry(t: &mut [u8], i: usize, body: &[u8])
     ensures { t.new ≡ put_entry t.old i body.now }
 {
-    if entry_count(t) <= i {
-        return;
+    if i < entry_count(t) {
+        let b = facts::ENTRY_SIZE * i;
+        wire::copy_at(body, 0, &mut t[b..b + facts::ENTRY_SIZE]);
     }
-    let b = facts::ENTRY_SIZE * i;
-    let e = b + facts::ENTRY_SIZE;
-    wire::copy_at(body, 0, &mut t[b..e]);
 }
 
 // The one function that changes the symbol table.
-pub fn commit(t: &mut [u8], w: EntryWork, body: &[u8])
+#[tactic(auto, unfolding(crate::specs::Work::entered))]
+pub fn commit(t: &mut [u8], w: Option<usize>, body: &[u8])
     ensures { t.new ≡ entered w body.now t.old }
 {
-    match w {
-        EntryWork::Keep => {}
-        EntryWork::Put(i) => put_entry(t, i, body),
+    if let Some(i) = w {
+        put_entry(t, i, body);
     }
 }
 
 pub fn count_used(t: &[u8]) -> usize
     ensures { result ≡ count_used (entries t.now) }
 {
-    let end = entry_count(t);
-    let mut count: usize = 0;
-    let mut i = 0;
-    while i < end {
-        if is_used(entry_in(t, i)) {
-            count += 1;
-        }
-        i += 1;
-    }
-    count
+    whole_entries(t).iter().filter(|e| is_used(*e)).count()
 }

@@ -121,13 +121,11 @@ drop_set [] i v h = absurd (not-suc-le-zero h)
 drop_set (x ∷ d) zero v h = refl
 drop_set (x ∷ d) (suc i) v h = drop_set d i v (le_of_suc-le-suc h)
 
-pub spell_more : (d : List ℕ) (i n rest v : ℕ) → i < length d → 0 < i → 10 ≤ rest → v ≡ 48 + rest % 10 → decimal_of rest ++ drop (i + 1) d ≡ decimal_of n → decimal_of (rest / 10) ++ drop (i - 1 + 1) (set d i v) ≡ decimal_of n
-spell_more d i n rest v l z h e p =
-    let k : i - 1 + 1 ≡ i = omega arith in
-    rw (k, drop_set d i v l, ← append_snoc (decimal_of (rest / 10)) v (drop (suc i) d), e, ← decimal_more rest h, ← add-one i) p
+pub spell_more : (d : List ℕ) (i j n rest v : ℕ) → i ≡ j + 1 → j < length d → 10 ≤ rest → v ≡ 48 + rest % 10 → decimal_of rest ++ drop i d ≡ decimal_of n → decimal_of (rest / 10) ++ drop j (set d j v) ≡ decimal_of n
+spell_more d i j n rest v e l h w p = rw (drop_set d j v l, ← append_snoc (decimal_of (rest / 10)) v (drop (suc j) d), w, ← decimal_more rest h, ← add-one j, ← e) p
 
-pub spell_last : (d : List ℕ) (i k n rest v : ℕ) → i < length d → length d ≤ i + k → rest < 10 → v ≡ 48 + rest % 10 → decimal_of rest ++ drop (i + 1) d ≡ decimal_of n → take k (drop i (set d i v)) ≡ decimal_of n
-spell_last d i k n rest v l u h e p =
-    let w : v ≡ 48 + rest = omega arith in
-    let a : length (drop i (set d i v)) ≤ k = simp (length-drop, length-set) (omega arith) in
-    rw (take_all k (drop i (set d i v)) a, drop_set d i v l, w, ← add-one i) (rw (decimal_small rest h) at p)
+pub spell_last : (d : List ℕ) (i j k n rest v : ℕ) → i ≡ j + 1 → j < length d → length d ≤ j + k → rest < 10 → v ≡ 48 + rest % 10 → decimal_of rest ++ drop i d ≡ decimal_of n → take k (drop j (set d j v)) ≡ decimal_of n
+spell_last d i j k n rest v e l u h w p =
+    let a : length (drop j (set d j v)) ≤ k = simp (length-drop, length-set) (omega arith) in
+    let b : v ≡ 48 + rest = omega arith in
+    rw (take_all k (drop j (set d j v)) a, drop_set d j v l, b, ← add-one j, ← e) (rw (decimal_small rest h) at p)

@@ -1,14 +1,16 @@
 -- One text behind another is one text, since a store past the end of a buffer changes nothing: an append needs no room, and what it leaves and where the whole would end is decided all the same.
 -- Assumes nothing.
-use Prim.Native.Nat.{ℕ, ◌+◌, ◌-◌, ◌≤◌, ◌<◌, min}
+use Prim.Native.Nat.{ℕ, ◌+◌, ◌-◌, ◌≤◌, min}
 use mathlib.Core.Path.{◌≡◌, refl, sym, ap, ◌∙◌}
-use mathlib.Core.List.{List, [], ◌∷◌, ◌++◌, map, append-nil}
+use mathlib.Core.List.{List, [], ◌∷◌, ◌++◌, append-nil, append_assoc}
 use native.Mathlib.Decide.{dec_le}
 use native.Mathlib.Nat.{zero-add}
 use native.Mathlib.Omega.{arith}
 use native.Mathlib.Numerals.{add-one}
-use lib.ListN.{length, get_or, take, drop, length-append, length-take, take-append-drop, drop_of_length-le}
-use lib.Seq.{sets, length-sets, sets-eq, take-suc, take_all}
+use lib.ListN.{length, take, drop, length-append, length-take, take-append-drop, drop_of_length-le}
+use lib.Seq.{sets, length-sets, sets-eq, take_all}
+use Rattle.std.proofs.lemmas.List.{drop-drop}
+use borrow.Rule.Slice.PartMut.{put_mid}
 use Rattle.facts.proofs.Picks.{no_second}
 use Rattle.facts.proofs.Stores.{sets_past, sets_append}
 use Rattle.text.specs.Text.{last_place, Wrote, first_texts}
@@ -21,6 +23,28 @@ sets_clip b u i n l = go (dec_le (i + n) last_place)
     go : Dec (i + n ≤ last_place) → sets b (i + min n (last_place - i)) u ≡ sets b (i + n) u
     go (yes h) = ap (λ (k : ℕ). sets b k u) (omega arith)
     go (no h) = sets_past u b (i + min n (last_place - i)) (omega arith) ∙ sym (sets_past u b (i + n) (omega arith))
+
+-- as much of s as the buffer reaches, put over its part from i on
+pub sets_reach : (b s : List ℕ) (i n : ℕ) → i ≤ length b → n ≡ min (length s) (length b - i) → put_mid i n b (take n s) ≡ sets b i s
+sets_reach b s i n h e =
+    let t : length (take n s) ≡ n = length-take n s ∙ omega arith in
+    let r : i + n ≤ length b = omega arith in
+    let k : drop n (drop i b) ≡ drop (i + n) b = drop-drop n i b in
+    rw (k, ← append_assoc) (
+    ap (λ (m : ℕ). take i b ++ take n s ++ drop (i + m) b) (sym t)
+    ∙ sym (sets-eq (take n s) b i (omega arith))
+    ∙ rest (dec_le (length s) (length b - i))
+    )
+  where
+    rest : Dec (length s ≤ length b - i) → sets b i (take n s) ≡ sets b i s
+    rest (yes l) = ap (sets b i) (take_all n s (omega arith))
+    rest (no l) =
+        let t : length (take n s) ≡ n = length-take n s ∙ omega arith in
+        sym (
+        ap (sets b i) (sym (take-append-drop n s))
+        ∙ sets_append (take n s) (drop n s) b i
+        ∙ sets_past (drop n s) (sets b i (take n s)) (i + length (take n s)) (omega (arith, length-sets b i (take n s)))
+        )
 
 -- ---- one append, and one behind another
 pub wrote_none : {b : List ℕ} {at : ℕ} → length b ≤ last_place → Wrote b at [] b at
@@ -49,23 +73,7 @@ wrote_last {b} {b'} {t} p = rw (append-nil t) p
 pub wrote_byte : {x y : ℕ} {b b' : List ℕ} {at r : ℕ} → x ≡ y → Wrote b at (x ∷ []) b' r → Wrote b at (y ∷ []) b' r
 wrote_byte e p = rw e at p
 
--- ---- loops: one element more of s, as it is or as f shows it, and one text more of each
-pub wrote_more : (s : List ℕ) (i : ℕ) {b b' b'' : List ℕ} {at r r' : ℕ} → i < length s → Wrote b at (take i s) b' r → Wrote b' r (get_or s i 0 ∷ []) b'' r' → Wrote b at (take (i + 1) s) b'' r'
-wrote_more s i h p q = rw (add-one, take-suc s i 0) (wrote_then p q)
-
-pub wrote_all : (s : List ℕ) (i : ℕ) {b b' : List ℕ} {at r : ℕ} → length s ≤ i → Wrote b at (take i s) b' r → Wrote b at s b' r
-wrote_all s i h p = wrote_as (take_all i s h) p
-
-map_snoc : (f : ℕ → ℕ) (s : List ℕ) (x : ℕ) → map f (s ++ (x ∷ [])) ≡ map f s ++ (f x ∷ [])
-map_snoc f [] x = refl
-map_snoc f (y ∷ s) x = ap (λ (l : List ℕ). f y ∷ l) (map_snoc f s x)
-
-pub map_more : (f : ℕ → ℕ) (s : List ℕ) (i : ℕ) {b b' b'' : List ℕ} {at r r' : ℕ} → i < length s → Wrote b at (map f (take i s)) b' r → Wrote b' r (f (get_or s i 0) ∷ []) b'' r' → Wrote b at (map f (take (i + 1) s)) b'' r'
-map_more f s i h p q = rw (add-one, take-suc s i 0, map_snoc) (wrote_then p q)
-
-pub map_all : (f : ℕ → ℕ) (s : List ℕ) (i : ℕ) {b b' : List ℕ} {at r : ℕ} → length s ≤ i → Wrote b at (map f (take i s)) b' r → Wrote b at (map f s) b' r
-map_all f s i h p = wrote_as (ap (map f) (take_all i s h)) p
-
+-- ---- loops: one text more
 pub texts_none : (f : ℕ → List ℕ) {b : List ℕ} {at : ℕ} → length b ≤ last_place → Wrote b at (first_texts f 0) b at
 unfolding first_texts
 texts_none f l = wrote_none l

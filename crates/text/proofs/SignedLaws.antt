@@ -1,18 +1,16 @@
--- A negative number of 64 bits is turned round by way of -(n + 1), which fits at the least one too.
+-- How a number of 64 bits is shown, in how many bytes, and that no two are shown alike.
 -- Assumes nothing.
-use Prim.Native.Nat.{ℕ, zero, suc, ◌+◌, ◌^◌, ◌≤◌, ◌<◌}
-use mathlib.Core.Path.{◌≡◌, refl, sym, ap, ◌∙◌, subst}
+use Prim.Native.Nat.{ℕ, suc, ◌^◌, ◌≤◌, ◌<◌}
+use mathlib.Core.Path.{◌≡◌, sym, ap, ◌∙◌, subst}
 use mathlib.Core.Bool.{Bool, true, false, cond}
 use mathlib.Core.List.{List, [], ◌∷◌, ◌++◌}
 use native.Mathlib.Omega.{arith}
-use native.Mathlib.Numerals.{add-one}
-use lib.Dec.{T}
 use lib.ListN.{length, get_or, length-append}
-use lib.IntN.{ℤ, pos, negsuc, ◌+ℤ◌, ◌-ℤ◌, suc_ℤ, nat_abs, +ℤ_one, +ℤ_idl}
-use lib.Signed.{lt_z, non_neg}
+use lib.IntN.{ℤ, pos, negsuc, nat_abs}
+use lib.Signed.{lt_z}
 use borrow.Author.Tests.{ltb-true}
 use mir.Syntax.{w64}
-use mir.Val.{Fits, SFits, to_z, of_z}
+use mir.Val.{SFits, to_z, of_z}
 use mir.ValLaws.{to_z-of_z}
 use Rattle.facts.specs.Limits.{most_price}
 use Rattle.text.specs.Text.{decimal_of, signed_of}
@@ -22,50 +20,11 @@ use Rattle.text.proofs.DecimalLaws.{decimal_length, decimal_digits, decimal_some
 abbrev pub back : ℤ → ℤ
 back z = to_z w64 (of_z w64 z)
 
-abbrev pub turned : ℤ → ℤ
-turned z = pos 0 -ℤ back (back z +ℤ pos 1)
-
 not_below : (n : ℕ) → SFits w64 (pos n) → lt_z (back (pos n)) (pos 0) ≡ true → ⊥
 not_below n s t = omega (arith, ltb-true n 0 (subst (λ (z : ℤ). lt_z z (pos 0) ≡ true) (to_z-of_z w64 (pos n) s) t))
 
 below : (k : ℕ) → SFits w64 (negsuc k) → lt_z (back (negsuc k)) (pos 0) ≡ false → ⊥
 below k s t = omega (arith, ap {B = ℕ} (λ (b : Bool). cond b 1 0) (sym (ap (λ (z : ℤ). lt_z z (pos 0)) (to_z-of_z w64 (negsuc k) s)) ∙ t))
-
-up_neg : (k : ℕ) → SFits w64 (negsuc k) → back (negsuc k) +ℤ pos 1 ≡ suc_ℤ (negsuc k)
-up_neg k s = ap (λ (z : ℤ). z +ℤ pos 1) (to_z-of_z w64 (negsuc k) s) ∙ +ℤ_one (negsuc k)
-
-fit_up : (k : ℕ) → SFits w64 (negsuc k) → SFits w64 (suc_ℤ (negsuc k))
-fit_up zero s = record { sfits = omega arith }
-fit_up (suc k) s = record { sfits = omega (arith, s.sfits) }
-
-down : (k : ℕ) → pos 0 -ℤ suc_ℤ (negsuc k) ≡ pos k
-down zero = refl
-down (suc k) = +ℤ_idl (pos (suc k))
-
-turned_is : (k : ℕ) → SFits w64 (negsuc k) → turned (negsuc k) ≡ pos k
-turned_is k s = ap (λ (z : ℤ). pos 0 -ℤ back z) (up_neg k s) ∙ ap (λ (z : ℤ). pos 0 -ℤ z) (to_z-of_z w64 (suc_ℤ (negsuc k)) (fit_up k s)) ∙ down k
-
--- ---- under the test n < 0, what each step of the code asks
-pub ok_up : (z : ℤ) → SFits w64 z → lt_z (back z) (pos 0) ≡ true → SFits w64 (back z +ℤ pos 1)
-ok_up (pos n) s t = absurd (not_below n s t)
-ok_up (negsuc k) s t = subst (SFits w64) (sym (up_neg k s)) (fit_up k s)
-
-pub ok_turned : (z : ℤ) → SFits w64 z → lt_z (back z) (pos 0) ≡ true → SFits w64 (turned z)
-ok_turned (pos n) s t = absurd (not_below n s t)
-ok_turned (negsuc k) s t = subst (SFits w64) (sym (turned_is k s)) (record { sfits = s.sfits })
-
-pub is_turned : (z : ℤ) → SFits w64 z → lt_z (back z) (pos 0) ≡ true → (T (non_neg (back (turned z))) × Fits w64 (nat_abs (back (turned z)))) × (nat_abs (back (turned z)) + 1 ≡ nat_abs z) × Fits w64 (nat_abs (back (turned z)) + 1)
-is_turned (pos n) s t = absurd (not_below n s t)
-is_turned (negsuc k) s t =
-    let fit : SFits w64 (pos k) = record { sfits = s.sfits } in
-    let e : back (turned (negsuc k)) ≡ pos k = ap back (turned_is k s) ∙ to_z-of_z w64 (pos k) fit in
-    subst (λ (z : ℤ). (T (non_neg z) × Fits w64 (nat_abs z)) × (nat_abs z + 1 ≡ suc k) × Fits w64 (nat_abs z + 1)) (sym e)
-    ((tt, record { fits = omega (arith, s.sfits) }), add-one k, record { fits = omega (arith, s.sfits) })
-
--- ---- and under its opposite
-pub ok_same : (z : ℤ) → SFits w64 z → lt_z (back z) (pos 0) ≡ false → T (non_neg (back z)) × Fits w64 (nat_abs (back z))
-ok_same (pos n) s t = subst (λ (z : ℤ). T (non_neg z) × Fits w64 (nat_abs z)) (sym (to_z-of_z w64 (pos n) s)) (tt, record { fits = omega (arith, s.sfits) })
-ok_same (negsuc k) s t = absurd (below k s t)
 
 -- ---- how a sheet shows it, m being what a call answered for the magnitude
 pub shows_neg : (z : ℤ) (m : ℕ) → SFits w64 z → m ≡ nat_abs (back z) → lt_z (back z) (pos 0) ≡ true → (45 ∷ []) ++ decimal_of m ≡ signed_of z

@@ -1,12 +1,12 @@
 -- Trimming looks at the last byte: a space goes, any other stays with all before it.
 -- Assumes nothing.
-use Prim.Native.Nat.{ℕ, zero, suc, ◌-◌, ◌≤◌, ◌<◌}
-use mathlib.Core.Path.{◌≡◌, refl, sym, ap, ◌∙◌, subst}
+use Prim.Native.Nat.{ℕ, zero, suc, ◌+◌, ◌≤◌, ◌<◌}
+use mathlib.Core.Path.{◌≡◌, refl, sym, ap, ◌∙◌}
 use mathlib.Core.List.{List, [], ◌∷◌, ◌++◌, map}
 use native.Mathlib.Nat.{not-suc-le-zero, le_of_suc-le-suc}
 use native.Mathlib.Omega.{arith}
+use native.Mathlib.Numerals.{add-one}
 use lib.ListN.{length, get_or, take, length-map}
-use lib.Seq.{take-suc, take_all}
 use lib.Dec.{eqb, leb}
 use borrow.Author.Tests.{ne_eqb, le-leb, lt-leb, leb-true}
 use Rattle.facts.specs.Pick.{pick, both}
@@ -29,28 +29,21 @@ unfolding trim_of trim_cons pick
 trim_other [] x h = rw (ne_eqb x 32 h)
 trim_other (y ∷ s) x h = ap (trim_cons y) (trim_other s x h) ∙ cons_end y x s
 
--- ---- a walk from the end: n bytes are left
-split : (s : List ℕ) (n : ℕ) → 0 < n → n ≤ length s → take n s ≡ take (n - 1) s ++ (get_or s (n - 1) 0 ∷ [])
-split s n h l =
-    let e : n ≡ suc (n - 1) = omega arith in
-    subst (λ (k : ℕ). take k s ≡ take (n - 1) s ++ (get_or s (n - 1) 0 ∷ [])) (sym e) (take-suc s (n - 1) 0 (omega arith))
+-- ---- a search from the end
+-- spaces alone
+pub trim_blank : (s : List ℕ) → ((k : ℕ) → k < length s → get_or s k 0 ≡ 32) → trim_of s ≡ []
+unfolding trim_of trim_cons pick
+trim_blank [] h = refl
+trim_blank (x ∷ s) h = ap (trim_cons x) (trim_blank s (λ k l. h (suc k) (omega arith))) ∙ rw (h 0 (omega arith)) refl
 
-pub trim_start : (s : List ℕ) → trim_of s ≡ trim_of (take (length s) s)
-trim_start s = ap trim_of (sym (take_all (length s) s (omega arith)))
-
-pub trim_down : (s : List ℕ) (n : ℕ) → 0 < n → n ≤ length s → get_or s (n - 1) 0 ≡ 32 → trim_of s ≡ trim_of (take n s) → trim_of s ≡ trim_of (take (n - 1) s)
-trim_down s n h l e p = p ∙ ap trim_of (split s n h l ∙ ap (λ (x : ℕ). take (n - 1) s ++ (x ∷ [])) e) ∙ trim_space (take (n - 1) s)
-
-pub trim_stop : (s : List ℕ) (n : ℕ) → 0 < n → n ≤ length s → (get_or s (n - 1) 0 ≡ 32 → ⊥) → trim_of s ≡ trim_of (take n s) → take n s ≡ trim_of s
-trim_stop s n h l e p =
-    let k = split s n h l in
-    k ∙ sym (trim_other (take (n - 1) s) (get_or s (n - 1) 0) e) ∙ ap trim_of (sym k) ∙ sym p
-
-pub trim_none : (s : List ℕ) (n : ℕ) → n ≤ 0 → trim_of s ≡ trim_of (take n s) → take n s ≡ trim_of s
-unfolding trim_of
-trim_none s n h p =
-    let e : n ≡ 0 = omega arith in
-    subst (λ (k : ℕ). take k s ≡ trim_of (take k s)) (sym e) refl ∙ sym p
+-- the last byte that is no space is at i
+pub trim_last : (s : List ℕ) (i : ℕ) → i < length s → (get_or s i 0 ≡ 32 → ⊥) → ((k : ℕ) → i < k → k < length s → get_or s k 0 ≡ 32) → take (i + 1) s ≡ trim_of s
+unfolding trim_of trim_cons pick
+trim_last [] i h e b = absurd (not-suc-le-zero h)
+trim_last (x ∷ s) zero h e b = sym (ap (trim_cons x) (trim_blank s (λ k l. b (suc k) (omega arith) (omega arith))) ∙ rw (ne_eqb x 32 e) refl)
+trim_last (x ∷ []) (suc i) h e b = absurd (not-suc-le-zero (le_of_suc-le-suc h))
+trim_last (x ∷ y ∷ s) (suc i) h e b =
+    rw add-one (ap (trim_cons x) (rw add-one at (trim_last (y ∷ s) i (le_of_suc-le-suc h) e (λ k l u. b (suc k) (omega arith) (omega arith)))))
 
 -- ---- bytes outside 32 to 126
 pub shown_same : (x : ℕ) → 32 ≤ x → x ≤ 126 → x ≡ shown_of x

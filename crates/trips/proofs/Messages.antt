@@ -20,7 +20,7 @@ use Rattle.kinds.proofs.Laws.{Lengths, lengths}
 use Rattle.layout.specs.Layout.{shapes, Fields, FieldsFit, body_for}
 use Rattle.layout.specs.Message.{Message, written, read_as, Fit}
 use Rattle.layout.proofs.Laws.{sized, length_body, fields_back, read_back, written_back}
-use Rattle.fields.specs.Fields.{bad_at, decoded, update_of, state_of}
+use Rattle.fields.specs.Fields.{bad_at, decoded}
 use Rattle.fields.specs.Messages.{system_time, symbol_update, system_state, trading_status, symbol_clear, add_order, modify_order, delete_order, order_execution, trade, trade_cancel}
 use Rattle.fields.specs.declared.TradingStatus.{TradingStatus}
 use Rattle.fields.specs.declared.SymbolClear.{SymbolClear}
@@ -35,7 +35,7 @@ use Rattle.fields.specs.declared.SystemState.{SystemState}
 use Rattle.fields.specs.declared.Body.{Body}
 use Rattle.body.specs.Faults.{tests, fault_from, fault_of}
 use Rattle.body.specs.Read.{ranged, judge_body, judged_number, read_body}
-use Rattle.body.specs.declared.Judged.{Judged}
+use Rattle.std.specs.Prelude.{Ok, Err}
 use Rattle.body.specs.Ranges.{security_ok}
 use Rattle.body.proofs.Laws.{Framed, Sound, no_fault, judge_framed, read_framed, read_sound}
 use Rattle.trips.specs.Messages.{fault_in, Rewritten}
@@ -71,7 +71,7 @@ unfolding ranged
 judged_written ed k t vs f =
     let b : List ℕ = body_for k vs in
     ap judged_number (judge_framed ed k b (framed_written k t vs f))
-    ∙ (pick_map judged_number (eqb (fault_of ed k b) 0) (Judged.Good k) (Judged.Bad (bad_at 4 (fault_of ed k b)))
+    ∙ (pick_map judged_number (eqb (fault_of ed k b) 0) (Ok k) (Err (bad_at 4 (fault_of ed k b)))
     ∙ ap (λ (n : ℕ). pick (eqb n 0) 0 4) (fault_written ed k vs f))
 
 -- ---- every struct
@@ -138,20 +138,19 @@ module _ (ed : Edition) where
   unfolding decoded
   clear_read m f g = read_as_lem ed symbol_clear (omega arith) m f Body.SymbolClear (λ b. refl) g
 
-  -- of the two that hold arrays the fields are read beside the answer
-  pub update_read : (m : SymbolUpdate) → Fit symbol_update m → fault_in ed symbol_update m ≡ 0 → (read_body ed (written symbol_update m) ≡ Body.SymbolUpdate) × (update_of (written symbol_update m) ≡ m)
+  pub update_read : (m : SymbolUpdate) → Fit symbol_update m → fault_in ed symbol_update m ≡ 0 → read_body ed (written symbol_update m) ≡ Body.SymbolUpdate m
   unfolding decoded
-  update_read m f g = (read_as_lem ed symbol_update (omega arith) m f (λ m. Body.SymbolUpdate) (λ b. refl) g, read_back symbol_update m f)
+  update_read m f g = read_as_lem ed symbol_update (omega arith) m f Body.SymbolUpdate (λ b. refl) g
 
-  pub state_read : (m : SystemState) → Fit system_state m → fault_in ed system_state m ≡ 0 → (read_body ed (written system_state m) ≡ Body.SystemState) × (state_of (written system_state m) ≡ m)
+  pub state_read : (m : SystemState) → Fit system_state m → fault_in ed system_state m ≡ 0 → read_body ed (written system_state m) ≡ Body.SystemState m
   unfolding decoded
-  state_read m f g = (read_as_lem ed system_state (omega arith) m f (λ m. Body.SystemState) (λ b. refl) g, read_back system_state m f)
+  state_read m f g = read_as_lem ed system_state (omega arith) m f Body.SystemState (λ b. refl) g
 
   -- ---- "writing what was read from a good body gives the same bytes"
   rewritten : (m : Body) (b : List ℕ) → Bytes b → Sound ed m b → Rewritten m b
   rewritten (Body.SystemTime n) b h s = ap (written system_time) s.1 ∙ again system_time b h s.0
-  rewritten Body.SymbolUpdate b h s = again symbol_update b h s.0
-  rewritten Body.SystemState b h s = again system_state b h s.0
+  rewritten (Body.SymbolUpdate m) b h s = ap (written symbol_update) s.1 ∙ again symbol_update b h s.0
+  rewritten (Body.SystemState m) b h s = ap (written system_state) s.1 ∙ again system_state b h s.0
   rewritten (Body.TradingStatus m) b h s = ap (written trading_status) s.1 ∙ again trading_status b h s.0
   rewritten (Body.SymbolClear m) b h s = ap (written symbol_clear) s.1 ∙ again symbol_clear b h s.0
   rewritten (Body.Add m) b h s = ap (written add_order) s.1 ∙ again add_order b h s.0

@@ -23,7 +23,7 @@ use Rattle.body.specs.Read.{judge_body}
 use Rattle.body.proofs.Laws.{Judgement, good, bad as bad_judged, judgement, good_fits}
 use Rattle.packet.specs.Record.{head_of, body_of, rec_of, body_judged, read_record}
 use Rattle.packet.specs.Packet.{Framing, before, behind, frames_from, framing}
-use Rattle.packet.specs.declared.Record.{Record}
+use Rattle.std.specs.Prelude.{Ok}
 use Rattle.packet.proofs.Laws.{GoodRec, number_in, whole_record, body_length, enough, frames_step, frames_end}
 use Rattle.packet.proofs.Good.{AllGood, Step, step, step_end, framing_size}
 use Rattle.trips.specs.Records.{record_bytes, packet_bytes}
@@ -55,11 +55,11 @@ module _ (p q : List ℕ) (w : 10 ≤ length p) where
 
 module _ (ed : Edition) where
   -- a good record that is whole is read
-  good_read : (t : List ℕ) → 10 + field t 8 2 ≤ length t → GoodRec ed (rec_of t) → read_record ed t ≡ Record.Good (head_of t)
+  good_read : (t : List ℕ) → 10 + field t 8 2 ≤ length t → GoodRec ed (rec_of t) → read_record ed t ≡ Ok (head_of t)
   unfolding body_judged
   good_read t h g = whole_record ed t h (number_in (field t 0 8) g.number_from g.number_to) ∙ go (judgement ed (body_of t))
     where
-      go : Judgement ed (body_of t) → body_judged (judge_body ed (body_of t)) (head_of t) ≡ Record.Good (head_of t)
+      go : Judgement ed (body_of t) → body_judged (judge_body ed (body_of t)) (head_of t) ≡ Ok (head_of t)
       go (good k e a z) = rw e refl
       go (bad_judged f e a z) = let x : true ≡ false = sym g.body_good ∙ a in let z : ◌≡◌ {A = ℕ} 0 1 = cc in absurd (omega arith)
 

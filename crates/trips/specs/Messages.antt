@@ -4,7 +4,6 @@ use Rattle.std.specs.Prelude.{ℕ, ◌≡◌, List}
 use Rattle.editions.specs.declared.Edition.{Edition}
 use Rattle.layout.specs.Layout.{shapes}
 use Rattle.layout.specs.Message.{Message, written}
-use Rattle.fields.specs.Fields.{update_of, state_of}
 use Rattle.fields.specs.Messages.{system_time, symbol_update, system_state, trading_status, symbol_clear, add_order, modify_order, delete_order, order_execution, trade, trade_cancel}
 use Rattle.fields.specs.declared.Body.{Body}
 use Rattle.body.specs.Faults.{tests, fault_from}
@@ -16,8 +15,8 @@ fault_in ed s m = fault_from (shapes s.kind) (tests ed s.kind) (s.to m) 1
 -- "writing what was read from a good body gives the same bytes": by the case of what was read of b
 abbrev pub Rewritten : Body → List ℕ → Type 0
 Rewritten (Body.SystemTime n) b = written system_time n ≡ b
-Rewritten Body.SymbolUpdate b = written symbol_update (update_of b) ≡ b
-Rewritten Body.SystemState b = written system_state (state_of b) ≡ b
+Rewritten (Body.SymbolUpdate m) b = written symbol_update m ≡ b
+Rewritten (Body.SystemState m) b = written system_state m ≡ b
 Rewritten (Body.TradingStatus m) b = written trading_status m ≡ b
 Rewritten (Body.SymbolClear m) b = written symbol_clear m ≡ b
 Rewritten (Body.Add m) b = written add_order m ≡ b

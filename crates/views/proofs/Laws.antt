@@ -1,15 +1,19 @@
 -- A place is as far as its price, so one ascending list of places serves bids and offers; a scan of the rows finds the nearest place, and the ladder goes on from there.
 -- Assumes nothing.
-use mathlib.Core.Path.{◌≡◌, refl, ap}
+use mathlib.Core.Path.{◌≡◌, refl, sym, ap, ◌∙◌}
 use mathlib.Core.List.{List, [], ◌∷◌, map}
 use mathlib.Core.Bool.{Bool, true, false}
-use Prim.Native.Nat.{ℕ, suc, ◌+◌, ◌*◌, ◌-◌, ◌≤◌, ◌<◌, min}
+use Rattle.std.specs.Prelude.{Option, Some, None}
+use Rattle.std.specs.List.{fold, reduce, filter_map, cons_option}
+use Rattle.std.specs.Option.{option_map_or}
+use Rattle.std.proofs.lemmas.Option.{none-some}
+use Prim.Native.Nat.{ℕ, ◌+◌, ◌*◌, ◌-◌, ◌≤◌, ◌<◌, min}
 use native.Mathlib.Numerals.{add-one}
 use native.Mathlib.Omega.{arith}
 use lib.ListN.{length, get_or, drop, drop_of_length-le, length-map}
 use lib.Seq.{drop-cons}
-use lib.Dec.{leb, eqb}
-use borrow.Author.Tests.{eq-eqb, ne_eqb, le-leb, lt-leb}
+use lib.Dec.{leb, ltb, eqb}
+use borrow.Author.Tests.{eq-eqb, ne_eqb, lt-ltb, ltb-true, ltb-false}
 use Rattle.facts.specs.Limits.{most_price, most_rows}
 use Rattle.facts.specs.Pick.{pick}
 use Rattle.facts.specs.Sums.{sum_by, count_by}
@@ -23,12 +27,12 @@ use Rattle.rows.proofs.Tables.{length_rows}
 use Rattle.rows.proofs.Judged.{live_ranges, key_is, good_rows_lem}
 use Rattle.rows.proofs.Walks.{shares_bound}
 use Rattle.ascend.specs.Ascend.{ins, least_from, from_on, places}
-use Rattle.ascend.proofs.Laws.{Rising, ins_least, least_top, from_all, from_none, from_some}
+use Rattle.ascend.proofs.Laws.{Rising, ins_least, from_all, from_none, from_some}
 use Rattle.ascend.proofs.Places.{all_of, places_rising, places_length}
 use Rattle.views.specs.declared.Level.{Level}
 use Rattle.views.specs.declared.Side.{Side}
 use Rattle.views.specs.Ladder.{key_of, far, at_price, places_of, prices, size_at, level_of, ladder}
-use Rattle.views.specs.Nearest.{beyond, near}
+use Rattle.views.specs.Nearest.{beyond, place_from, within, nearest}
 
 -- ---- keys and places
 pub bid_far : (s p : ℕ) → far (key_of Side.Buy s) p ≡ most_price - p
@@ -78,55 +82,125 @@ module _ (k : ℕ) (rs : List Row) where
   unfolding ladder prices
   ladder_length = simp length-map
 
--- ---- one row of the scan
-module _ (k low best : ℕ) (r : Row) where
-  pub near_other : of_key k r ≡ false → best ≡ near k low best r
-  unfolding near pick
-  near_other e = rw e
-
-  pub near_below : of_key k r ≡ true → far k r.price < low → best ≡ near k low best r
-  unfolding near pick
-  near_below e h = rw (e, lt-leb low (far k r.price) h)
-
-  pub near_min : of_key k r ≡ true → low ≤ far k r.price → min best (far k r.price) ≡ near k low best r
-  unfolding near pick
-  near_min e h = rw (e, le-leb low (far k r.price) h)
-
-  pub near_top : near k low best r ≤ best
-  unfolding near
-  near_top =
-      pick_ind (λ n. n ≤ best) (of_key k r) _ _
-      (λ e. pick_ind (λ n. n ≤ best) (leb low (far k r.price)) _ _ (λ f. omega arith) (λ f. omega arith))
-      (λ e. omega arith)
-
-  near_step : (rs : List Row) → min best (least_from beyond low (places_of k (r ∷ rs))) ≡ min (near k low best r) (least_from beyond low (places_of k rs))
-  unfolding places_of places near pick
-  near_step rs = go (of_key k r) refl
-    where
-      swap : (b : Bool) (d l : ℕ) → min best (pick b (min d l) l) ≡ min (pick b (min best d) best) l
-      swap true d l = omega arith
-      swap false d l = refl
-
-      go : (b : Bool) → of_key k r ≡ b
-          → min best (least_from beyond low (pick b (ins (far k r.price) (places_of k rs)) (places_of k rs))) ≡ min (pick b (pick (leb low (far k r.price)) (min best (far k r.price)) best) best) (least_from beyond low (places_of k rs))
-      go true e = rw (ins_least beyond low (far k r.price) 0 (places_of k rs) (row_place k r e) (rising k rs)) (swap (leb low (far k r.price)) (far k r.price) (least_from beyond low (places_of k rs)))
-      go false e = refl
-
 -- ---- the scan
-pub scan_start : (k low : ℕ) (rs : List Row) → least_from beyond low (places_of k rs) ≡ min beyond (least_from beyond low (places_of k rs))
-scan_start k low rs = omega (arith, least_top beyond low 0 (places_of k rs) (rising k rs))
+-- where a row lies that has a place, and what the nearest place is with it in front
+module _ (k low : ℕ) where
+  place_in : (r : Row) (d : ℕ) → place_from k low r ≡ Some d → d ≤ most_price
+  unfolding place_from pick
+  place_in r d = go (of_key k r) refl (leb low (far k r.price))
+    where
+      go : (b : Bool) → of_key k r ≡ b → (l : Bool) → pick b (pick l (Some (far k r.price)) None) None ≡ Some d → d ≤ most_price
+      go true e true h = let q : far k r.price ≡ d = cc in rw (← q) (far_top k r.price (key_price k r e))
+      go true e false h = absurd (none-some d h)
+      go false e l h = absurd (none-some d h)
 
-pub scan_row : (k low best : ℕ) (t : List ℕ) (i : ℕ) → i < row_count t
-    → min best (least_from beyond low (places_of k (drop i (rows t)))) ≡ min (near k low best (get_or (rows t) i zero_row)) (least_from beyond low (places_of k (drop (i + 1) (rows t))))
-scan_row k low best t i h =
-    let l : i < length (rows t) = rw length_rows h in
-    rw (drop-cons (rows t) i zero_row l, add-one i) (near_step k low best (get_or (rows t) i zero_row) (drop (suc i) (rows t)))
+  abbrev least : List Row → ℕ
+  least rs = least_from beyond low (places_of k rs)
 
-pub scan_end : (k low best : ℕ) (t : List ℕ) (i : ℕ) → best ≤ beyond → row_count t ≤ i → min best (least_from beyond low (places_of k (drop i (rows t)))) ≡ best
-unfolding places_of places least_from
-scan_end k low best t i b h =
-    let l : length (rows t) ≤ i = rw length_rows h in
-    rw (drop_of_length-le (rows t) l) (omega arith)
+  least_some : (r : Row) (rs : List Row) (d : ℕ) → place_from k low r ≡ Some d → least (r ∷ rs) ≡ min d (least rs)
+  unfolding place_from places_of places pick
+  least_some r rs d = go (of_key k r) refl
+    where
+      go : (b : Bool) → of_key k r ≡ b → pick b (pick (leb low (far k r.price)) (Some (far k r.price)) None) None ≡ Some d
+          → least_from beyond low (pick b (ins (far k r.price) (places_of k rs)) (places_of k rs)) ≡ min d (least rs)
+      go true e h = rw (ins_least beyond low (far k r.price) 0 (places_of k rs) (row_place k r e) (rising k rs)) (there (leb low (far k r.price)) h)
+        where
+          there : (l : Bool) → pick l (Some (far k r.price)) None ≡ Some d → pick l (min (far k r.price) (least rs)) (least rs) ≡ min d (least rs)
+          there true h = let q : far k r.price ≡ d = cc in rw q
+          there false h = absurd (none-some d h)
+      go false e h = absurd (none-some d h)
+
+  least_none : (r : Row) (rs : List Row) → place_from k low r ≡ None → least (r ∷ rs) ≡ least rs
+  unfolding place_from places_of places pick
+  least_none r rs = go (of_key k r) refl
+    where
+      go : (b : Bool) → of_key k r ≡ b → pick b (pick (leb low (far k r.price)) (Some (far k r.price)) None) None ≡ None
+          → least_from beyond low (pick b (ins (far k r.price) (places_of k rs)) (places_of k rs)) ≡ least rs
+      go true e h = rw (ins_least beyond low (far k r.price) 0 (places_of k rs) (row_place k r e) (rising k rs)) (there (leb low (far k r.price)) h)
+        where
+          there : (l : Bool) → pick l (Some (far k r.price)) None ≡ None → pick l (min (far k r.price) (least rs)) (least rs) ≡ least rs
+          there true h = absurd (none-some (far k r.price) (sym h))
+          there false h = refl
+      go false e h = refl
+
+  -- the least of the rows' places, from b on
+  folded : (b : ℕ) → b ≤ beyond → (rs : List Row) → fold min b (filter_map (place_from k low) rs) ≡ min b (least rs)
+  unfolding places_of places least_from
+  folded b t [] = omega arith
+  folded b t (r ∷ rs) = go (λ x l. folded x l rs) (place_from k low r) refl
+    where
+      go : ((x : ℕ) → x ≤ beyond → fold min x (filter_map (place_from k low) rs) ≡ min x (least rs)) → (o : Option ℕ) → place_from k low r ≡ o
+          → fold min b (cons_option o (filter_map (place_from k low) rs)) ≡ min b (least (r ∷ rs))
+      go rec (Some d) e = omega (arith, rec (min b d) (omega arith), least_some r rs d e)
+      go rec None e = omega (arith, rec b t, least_none r rs e)
+
+  lowest : (rs : List Row) → reduce min (filter_map (place_from k low) rs) ≡ nearest k low rs
+  unfolding places_of places least_from nearest within pick
+  lowest [] = refl
+  lowest (r ∷ rs) = go (lowest rs) (place_from k low r) refl
+    where
+      go : reduce min (filter_map (place_from k low) rs) ≡ nearest k low rs → (o : Option ℕ) → place_from k low r ≡ o → reduce min (cons_option o (filter_map (place_from k low) rs)) ≡ nearest k low (r ∷ rs)
+      go rec (Some d) e =
+          let t : d ≤ most_price = place_in r d e in
+          let q : fold min d (filter_map (place_from k low) rs) ≡ least (r ∷ rs) = folded d (omega arith) rs ∙ sym (least_some r rs d e) in
+          let l : least (r ∷ rs) < beyond = omega (arith, least_some r rs d e) in
+          ap Some q ∙ sym (rw (lt-ltb (least (r ∷ rs)) beyond l) refl)
+      go rec None e = rec ∙ ap within (sym (least_none r rs e))
+
+  -- the nearest of what was found so far and of what these rows have
+  unfoldable pub nearest_of : Option ℕ → List Row → Option ℕ
+  nearest_of None rs = reduce min (filter_map (place_from k low) rs)
+  nearest_of (Some b) rs = Some (fold min b (filter_map (place_from k low) rs))
+
+  pub scan_start : (rs : List Row) → nearest_of None rs ≡ nearest k low rs
+  unfolding nearest_of
+  scan_start rs = lowest rs
+
+  found : (o : Option ℕ) (r : Row) (rs : List Row) (d : ℕ) → place_from k low r ≡ Some d → nearest_of o (r ∷ rs) ≡ nearest_of (Some (option_map_or (λ b. min b d) o d)) rs
+  unfolding nearest_of
+  found None r rs d e = rw e
+  found (Some b) r rs d e = rw e
+
+  passed : (o : Option ℕ) (r : Row) (rs : List Row) → place_from k low r ≡ None → nearest_of o (r ∷ rs) ≡ nearest_of o rs
+  unfolding nearest_of
+  passed None r rs e = rw e
+  passed (Some b) r rs e = rw e
+
+  module _ (o : Option ℕ) (t : List ℕ) (i : ℕ) where
+    from_row : i < row_count t → drop i (rows t) ≡ get_or (rows t) i zero_row ∷ drop (i + 1) (rows t)
+    from_row h = let l : i < length (rows t) = rw length_rows h in drop-cons (rows t) i zero_row l ∙ ap (λ j. get_or (rows t) i zero_row ∷ drop j (rows t)) (sym (add-one i))
+
+    pub scan_found : (d : ℕ) → i < row_count t → place_from k low (get_or (rows t) i zero_row) ≡ Some d → nearest_of o (drop i (rows t)) ≡ nearest_of (Some (option_map_or (λ b. min b d) o d)) (drop (i + 1) (rows t))
+    scan_found d h e = ap (nearest_of o) (from_row h) ∙ found o (get_or (rows t) i zero_row) (drop (i + 1) (rows t)) d e
+
+    pub scan_passed : i < row_count t → place_from k low (get_or (rows t) i zero_row) ≡ None → nearest_of o (drop i (rows t)) ≡ nearest_of o (drop (i + 1) (rows t))
+    scan_passed h e = ap (nearest_of o) (from_row h) ∙ passed o (get_or (rows t) i zero_row) (drop (i + 1) (rows t)) e
+
+  pub scan_end : (o : Option ℕ) (t : List ℕ) (i : ℕ) → row_count t ≤ i → nearest_of o (drop i (rows t)) ≡ o
+  unfolding nearest_of
+  scan_end o t i h = let l : length (rows t) ≤ i = rw length_rows h in rw (drop_of_length-le (rows t) l) (go o)
+    where
+      go : (o : Option ℕ) → nearest_of o [] ≡ o
+      go None = refl
+      go (Some b) = refl
+
+  module _ (rs : List Row) where
+    -- what is found is the least place, and where nothing is found every place is below
+    pub place_found : (d : ℕ) → Some d ≡ nearest k low rs → (d ≡ least rs) × (d ≤ most_price)
+    unfolding nearest within pick
+    place_found d e = go (ltb (least rs) beyond) refl e
+      where
+        go : (b : Bool) → ltb (least rs) beyond ≡ b → Some d ≡ pick b (Some (least rs)) None → (d ≡ least rs) × (d ≤ most_price)
+        go true l e = let q : d ≡ least rs = cc in (q, omega (arith, ltb-true (least rs) beyond l))
+        go false l e = absurd (none-some d (sym e))
+
+    pub no_place : None ≡ nearest k low rs → most_price < least rs
+    unfolding nearest within pick
+    no_place e = go (ltb (least rs) beyond) refl e
+      where
+        go : (b : Bool) → ltb (least rs) beyond ≡ b → None ≡ pick b (Some (least rs)) None → most_price < least rs
+        go true l e = absurd (none-some (least rs) e)
+        go false l e = omega (arith, ltb-false (least rs) beyond l)
 
 -- ---- the ladder from a place on
 unfoldable pub prices_from : ℕ → List Row → ℕ → List ℕ
@@ -144,24 +218,27 @@ module _ (k : ℕ) (rs : List Row) where
   unfolding ladder_from ladder
   ladder_start = ap (map (level_of k rs)) prices_start
 
-  module _ (low d : ℕ) (e : d ≡ least_from beyond low (places_of k rs)) where
-    pub prices_next : d ≤ most_price → prices_from k rs low ≡ far k d ∷ prices_from k rs (d + 1)
-    unfolding prices_from
-    prices_next h =
-        let f : from_on low (places_of k rs) ≡ d ∷ from_on (d + 1) (places_of k rs) = rw e (from_some beyond low 0 (places_of k rs) (rising k rs) (omega arith)) in
-        ap (map (far k)) f
+  module _ (low : ℕ) where
+    module _ (d : ℕ) (e : Some d ≡ nearest k low rs) where
+      pub prices_next : prices_from k rs low ≡ far k d ∷ prices_from k rs (d + 1)
+      unfolding prices_from
+      prices_next =
+          let p = place_found k low rs d e in
+          let f : from_on low (places_of k rs) ≡ d ∷ from_on (d + 1) (places_of k rs) = rw p.0 (from_some beyond low 0 (places_of k rs) (rising k rs) (omega (arith, p.0, p.1))) in
+          ap (map (far k)) f
 
-    pub prices_end : most_price < d → prices_from k rs low ≡ []
-    unfolding prices_from
-    prices_end h = ap (map (far k)) (from_none beyond low 0 (places_of k rs) (rising k rs) (omega arith))
+      pub ladder_next : ladder_from k rs low ≡ level_of k rs (far k d) ∷ ladder_from k rs (d + 1)
+      unfolding ladder_from
+      ladder_next = ap (map (level_of k rs)) prices_next
 
-    pub ladder_next : d ≤ most_price → ladder_from k rs low ≡ level_of k rs (far k d) ∷ ladder_from k rs (d + 1)
-    unfolding ladder_from
-    ladder_next h = ap (map (level_of k rs)) (prices_next h)
+    module _ (e : None ≡ nearest k low rs) where
+      pub prices_end : prices_from k rs low ≡ []
+      unfolding prices_from
+      prices_end = ap (map (far k)) (from_none beyond low 0 (places_of k rs) (rising k rs) (omega (arith, no_place k low rs e)))
 
-    pub ladder_end : most_price < d → ladder_from k rs low ≡ []
-    unfolding ladder_from
-    ladder_end h = ap (map (level_of k rs)) (prices_end h)
+      pub ladder_end : ladder_from k rs low ≡ []
+      unfolding ladder_from
+      ladder_end = ap (map (level_of k rs)) prices_end
 
 -- ---- sums of a table of good size
 module _ (k p : ℕ) (t : List ℕ) (g : good_rows (length t) ≡ true) where

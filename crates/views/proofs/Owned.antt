@@ -19,7 +19,9 @@ use Rattle.ascend.proofs.Each.{any_sum, none_sum}
 use Rattle.ascend.proofs.Places.{All}
 use Rattle.views.specs.declared.Level.{Level}
 use Rattle.views.specs.declared.Side.{Side}
-use Rattle.views.specs.declared.SpreadAnswer.{SpreadAnswer}
+use Rattle.std.specs.Prelude.{Option, Some, None, Result, Ok}
+use Rattle.fields.specs.declared.Refusal.{Refusal}
+use Rattle.std.specs.Prelude.{ℤ}
 use Rattle.views.specs.Ladder.{key_of, at_price, prices, ladder}
 use Rattle.views.specs.Spread.{between, spread_of}
 use Rattle.views.specs.Views.{view_fault, spread_view}
@@ -72,10 +74,10 @@ unfolding count_by
 side_empty k rs a = no_orders k rs (none_sum (of_key k) (λ r. 1) rs a)
 
 -- best offer less best bid, where each is the price of a live order and no live order of its side is better
-pub record Quoted (s : ℕ) (rs : List Row) (a : SpreadAnswer) : Type 0 where
+pub record Quoted (s : ℕ) (rs : List Row) (a : Result (Option ℤ) Refusal) : Type 0 where
   pub bid : ℕ
   pub offer : ℕ
-  pub answer : a ≡ SpreadAnswer.Of (pos offer -ℤ pos bid)
+  pub answer : a ≡ Ok (Some (pos offer -ℤ pos bid))
   pub bid_live : any_by (at_price (key_of Side.Buy s) bid) rs ≡ true
   pub bid_best : All (λ r. of_key (key_of Side.Buy s) r ≡ true → r.price ≤ bid) rs
   pub offer_live : any_by (at_price (key_of Side.Sell s) offer) rs ≡ true
@@ -83,7 +85,7 @@ pub record Quoted (s : ℕ) (rs : List Row) (a : SpreadAnswer) : Type 0 where
 
 module _ (s : ℕ) (rs : List Row) where
   -- with a live order on each side
-  pub both_quoted : any_by (of_key (key_of Side.Buy s)) rs ≡ true → any_by (of_key (key_of Side.Sell s)) rs ≡ true → Quoted s rs (spread_of s rs)
+  pub both_quoted : any_by (of_key (key_of Side.Buy s)) rs ≡ true → any_by (of_key (key_of Side.Sell s)) rs ≡ true → Quoted s rs (Ok (spread_of s rs))
   unfolding spread_of between
   both_quoted buys sells =
       let b = some_price (key_of Side.Buy s) rs buys in
@@ -101,10 +103,10 @@ module _ (s : ℕ) (rs : List Row) where
       }
 
   -- "with a side empty the answer is none"
-  pub no_buys_none : any_by (of_key (key_of Side.Buy s)) rs ≡ false → spread_of s rs ≡ SpreadAnswer.Empty
+  pub no_buys_none : any_by (of_key (key_of Side.Buy s)) rs ≡ false → spread_of s rs ≡ None
   no_buys_none e = no_bids_empty s rs (side_empty (key_of Side.Buy s) rs e)
 
-  pub no_sells_none : any_by (of_key (key_of Side.Sell s)) rs ≡ false → spread_of s rs ≡ SpreadAnswer.Empty
+  pub no_sells_none : any_by (of_key (key_of Side.Sell s)) rs ≡ false → spread_of s rs ≡ None
   no_sells_none e = no_offers_empty s rs (side_empty (key_of Side.Sell s) rs e)
 
 -- a view that is not refused, of a symbol with a live buy and a live sell row, answers best offer less best bid

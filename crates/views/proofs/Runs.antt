@@ -6,7 +6,7 @@ use mathlib.Core.Bool.{Bool, true, false}
 use Prim.Native.Nat.{ℕ, suc, ◌+◌, ◌*◌, ◌/◌, ◌≤◌, ◌<◌, min}
 use native.Mathlib.Numerals.{add-one}
 use native.Mathlib.Omega.{arith}
-use lib.ListN.{length, set, take, drop, length-append, length-take, length-drop, take-append-drop, get_or, length-map, get_or-map}
+use lib.ListN.{length, take, drop, length-append, length-take, length-drop, take-append-drop, get_or, length-map, get_or-map}
 use lib.Seq.{take-nil, take_at, drop_at, drop-drop, sets-eq, get_or-take}
 use lib.Dec.{ltb}
 use borrow.Author.Tests.{ltb-true, ltb-false}
@@ -18,14 +18,6 @@ use Rattle.views.specs.declared.Level.{Level}
 use Rattle.views.specs.Ladder.{ladder, three_of, fitting, written, put_level, laid_out, ladder_run}
 
 -- ---- one level
-pub level_written : (o : List ℕ) (j : ℕ) (l : Level) → j < length o / 3
-    → set (set (set o (3 * j) l.price) (3 * j + 1) l.shares) (3 * j + 2) l.orders ≡ put_level o j l
-unfolding put_level three_of
-level_written o j l h =
-    let e1 : 3 * j + 1 ≡ suc (3 * j) = omega arith in
-    let e2 : 3 * j + 2 ≡ suc (suc (3 * j)) = omega arith in
-    rw (put_in 3 o j (three_of l) h, e1, e2)
-
 pub level_past : (o : List ℕ) (j : ℕ) (l : Level) → length o / 3 ≤ j → put_level o j l ≡ o
 unfolding put_level
 level_past o j l h = put_out 3 o j (three_of l) h

@@ -54,5 +54,5 @@ minus_zero a zero e = let z : a + 0 ≡ 0 = cc in omega arith
 minus_zero a (suc b) e = go (ltb a (suc b)) refl e
   where
     go : (t : Bool) → ltb a (suc b) ≡ t → cond t (negsuc (suc b - suc a)) (pos (a - suc b)) ≡ pos 0 → a ≡ suc b
-    go true l e = let z : ◌≡◌ {A = ℕ} 0 1 = cc in absurd (omega arith)
+    go true l e = cc
     go false l e = let z : a - suc b ≡ 0 = cc in omega (arith, ltb-false a (suc b) l)

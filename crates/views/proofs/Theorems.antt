@@ -28,8 +28,7 @@ use Rattle.symbols.specs.Entries.{entries}
 use Rattle.symbols.specs.Find.{count_used}
 use Rattle.views.specs.declared.Level.{Level}
 use Rattle.views.specs.declared.Side.{Side}
-use Rattle.views.specs.declared.SpreadAnswer.{SpreadAnswer}
-use Rattle.views.specs.declared.CountsAnswer.{CountsAnswer}
+use Rattle.std.specs.Prelude.{Some, None, Ok, Err}
 use Rattle.views.specs.Ladder.{key_of, far, at_price, places_of, prices, level_of, ladder, three_of, fitting, written}
 use Rattle.views.specs.Nearest.{beyond}
 use Rattle.views.specs.Views.{good_tables, view_fault, LadderOut, ladder_view, spread_view, counts_view, ladder_number, spread_number, counts_number}
@@ -157,21 +156,21 @@ module _ (ls : List Level) (o : List ℕ) where
 -- ---- the spread
 module _ (s : ℕ) (rs : List Row) where
   -- best offer less best bid, negative exactly if the bid is above the offer, zero exactly if they are equal
-  pub spread_sides : (z : ℤ) → spread_of s rs ≡ SpreadAnswer.Of z → Sides s rs z
+  pub spread_sides : (z : ℤ) → spread_of s rs ≡ Some z → Sides s rs z
   unfolding spread_of
   spread_sides z e =
       sides s rs z (prices (key_of Side.Buy s) rs) refl (prices_low (key_of Side.Buy s) rs) (prices (key_of Side.Sell s) rs) refl (prices_low (key_of Side.Sell s) rs) e
 
-  pub no_bids_empty : prices (key_of Side.Buy s) rs ≡ [] → spread_of s rs ≡ SpreadAnswer.Empty
+  pub no_bids_empty : prices (key_of Side.Buy s) rs ≡ [] → spread_of s rs ≡ None
   unfolding spread_of between
   no_bids_empty p = rw p
 
-  pub no_offers_empty : prices (key_of Side.Sell s) rs ≡ [] → spread_of s rs ≡ SpreadAnswer.Empty
+  pub no_offers_empty : prices (key_of Side.Sell s) rs ≡ [] → spread_of s rs ≡ None
   unfolding spread_of
   no_offers_empty q = rw q (between_none (prices (key_of Side.Buy s) rs))
 
 -- ---- numbers of the answers
-pub spread_of_number : (s : ℕ) (rs : List Row) → spread_number (spread_of s rs) ≡ 0
+pub spread_of_number : (s : ℕ) (rs : List Row) → spread_number (Ok (spread_of s rs)) ≡ 0
 unfolding spread_of
 spread_of_number s rs = spread_told (prices (key_of Side.Buy s) rs) (prices (key_of Side.Sell s) rs)
 
@@ -199,6 +198,6 @@ module _ (s : ℕ) (orders symbols : List ℕ) where
   unfolding counts_view counts_number pick
   counts_number_lem = go (good_tables orders symbols)
     where
-      go : (b : Bool) → counts_number (pick b (CountsAnswer.Are (record { orders = count_live (rows orders); symbols = count_used (entries symbols) })) (CountsAnswer.Refused (refusal 6))) ≡ pick b 0 6
+      go : (b : Bool) → counts_number (pick b (Ok (record { orders = count_live (rows orders); symbols = count_used (entries symbols) })) (Err (refusal 6))) ≡ pick b 0 6
       go true = refl
       go false = refl

@@ -2,17 +2,21 @@
 -- the bytes are there: a byte past the end counts as 0, on both sides, and none is stored there.
 -- Assumes nothing.
 use mathlib.Core.Path.{◌≡◌, refl, sym, ap, ◌∙◌}
-use mathlib.Core.List.{List, [], ◌∷◌, ◌++◌}
-use Prim.Native.Nat.{ℕ, zero, suc, ◌+◌, ◌-◌, ◌*◌, ◌/◌, ◌%◌, ◌^◌, ◌≤◌, ◌<◌}
+use mathlib.Core.List.{List, [], ◌∷◌, ◌++◌, append_assoc, append-nil}
+use Prim.Native.Nat.{ℕ, zero, suc, ◌+◌, ◌-◌, ◌*◌, ◌/◌, ◌%◌, ◌^◌, ◌≤◌, ◌<◌, min}
 use mathlib.Core.Bool.{Bool, true, false}
+use mathlib.Core.Logic.{◌⊎◌, inl, inr}
 use lib.Dec.{leb}
 use borrow.Author.Tests.{leb-true, leb-false, le-leb, lt-leb}
-use native.Mathlib.Nat.{pow-suc, pow-succ', pow-zero, zero-add, add-zero, suc-add, add-suc, mul_assoc}
+use native.Mathlib.Nat.{pow-suc, pow-succ', pow-zero, zero-add, add-zero, suc-add, add-suc, mul_assoc, mul_comm, div-one, div-div-eq-div-mul, add-sub_cancel_left}
 use native.Mathlib.Omega.{arith}
-use lib.ListN.{length, take, drop, get_or, set, replicate, length-append, length-drop, length-replicate, drop_of_length-le}
-use lib.Seq.{sets, sets-eq, take_at, drop_at, drop-drop, take-nil, take_all, drop-nil, length-take-le, take-append-le, get_or-take, get_or-drop, drop-cons, ext_get_or}
+use lib.ListN.{length, take, drop, get_or, set, length-set, replicate, length-append, length-drop, length-replicate, drop_of_length-le, take-append-drop}
+use lib.Seq.{sets, sets-eq, length-sets, take_at, drop_at, drop-drop, take-nil, take_all, drop-nil, length-take-le, take-append-le, get_or-take, get_or-drop, ext_get_or}
+use Rattle.std.proofs.Common.{add-one}
+use Rattle.std.specs.Int.{sum_through, byte_worth, bytes_low_first}
+use Rattle.std.proofs.lemmas.Bool.{cases_lt}
 use Rattle.facts.proofs.PieceLaws.{same_left}
-use Rattle.facts.proofs.Stores.{sets_past}
+use Rattle.facts.proofs.Stores.{sets_past, sets_append}
 use Rattle.wire.specs.Le.{le, to_le, field, padded, Bytes}
 
 -- what the test for bytes that are there says, where n of them can be
@@ -80,6 +84,10 @@ padded_part b at n h =
     let l : n ≤ length (drop at b) = rw length-drop (omega arith) in
     rw take-append-le refl
 
+-- and so is what a range of b is
+pub part_there : (b : List ℕ) (at n : ℕ) → at + n ≤ length b → take (at + n - at) (drop at b) ≡ padded b at n
+part_there b at n h = rw (add-sub_cancel_left at n) (sym (padded_part b at n h))
+
 -- a list that holds the right byte at each place is the padded part
 pub is_padded : (b : List ℕ) (at : ℕ) (l : List ℕ) → ((k : ℕ) → k < length l → get_or l k 0 ≡ get_or b (at + k) 0) → l ≡ padded b at (length l)
 is_padded b at l h =
@@ -100,6 +108,17 @@ field_same a b at w h = field_alike a b at at w (λ k u. h (at + k) (omega arith
 -- a number of at most n bytes stands in a copy of n bytes from there
 pub field_copied : (b : List ℕ) (at n w : ℕ) → w ≤ n → field (padded b at n) 0 w ≡ field b at w
 field_copied b at n w h = field_alike (padded b at n) b 0 at w (λ k u. rw (zero-add k) (get_or_padded b at n k (omega arith)))
+
+-- what the library reads of bytes, the low one first, is the field that they are
+sum_field : (b : List ℕ) (n : ℕ) → sum_through (λ i. byte_worth i (get_or b i 0)) n ≡ field b 0 (suc n)
+sum_field b zero = sym (field_one b 0)
+sum_field b (suc n) =
+    let split : field b 0 (suc (suc n)) ≡ field b 0 (suc n) + 256 ^ suc n * field b (suc n) 1 = rw (zero-add (suc n), add-one (suc n)) at (field_split b 0 (suc n) 1) in
+    rw (sum_field b n, split, field_one b (suc n), mul_comm (256 ^ suc n) (get_or b (suc n) 0)) refl
+
+-- and so of a padded copy it reads what stands there
+pub number_copied : (b c : List ℕ) (at n : ℕ) → c ≡ padded b at (suc n) → sum_through (λ i. byte_worth i (get_or c i 0)) n ≡ field b at (suc n)
+number_copied b c at n e = rw e (sum_field (padded b at (suc n)) n ∙ field_copied b at (suc n) (suc n) (omega arith))
 
 -- and so it stands in a padded copy that reaches so far
 pub field_padded : (b : List ℕ) (n at w : ℕ) → at + w ≤ n → field (padded b 0 n) at w ≡ field b at w
@@ -154,34 +173,50 @@ to_le_le (x ∷ l) h =
     let high : (x + 256 * le l) / 256 ≡ le l = omega arith in
     rw (low, high, to_le_le l (λ i. h (suc i)))
 
--- a number of w bytes stored from i on: its first byte and what is left behind it, or none
-pub le_more : (x : List ℕ) (i w v : ℕ) → 0 < w → sets (set x i (v % 256)) (i + 1) (to_le (w - 1) (v / 256)) ≡ sets x i (to_le w v)
+-- a number stored to the end of t: its first byte and what is left behind it, until it is there
+pub le_more : (t : List ℕ) (i v : ℕ) → i < length t → sets (set t i (v % 256)) (i + 1) (to_le (length (set t i (v % 256)) - (i + 1)) (v / 256)) ≡ sets t i (to_le (length t - i) v)
 unfolding to_le
-le_more x i zero v h = absurd (omega arith)
-le_more x i (suc w) v h =
-    let z : suc w - 1 ≡ w = omega arith in
+le_more t i v h =
+    let z : length t - i ≡ suc (length t - (i + 1)) = omega arith in
     let j : i + 1 ≡ suc i = omega arith in
-    rw (z, j)
+    rw (length-set t i (v % 256), z, j)
 
-pub le_none : (x : List ℕ) (i w v : ℕ) → w ≤ 0 → x ≡ sets x i (to_le w v)
+pub le_done : (t x : List ℕ) (i n v : ℕ) → length x ≤ i → sets x i (to_le (length x - i) v) ≡ sets t 0 (to_le (length t) n) → x ≡ to_le (length t) n
 unfolding to_le
-le_none x i w v h = let z : w ≡ 0 = omega arith in rw z
+le_done t x i n v h e =
+    let z : length x - i ≡ 0 = omega arith in
+    rw z at e
+    ∙ rw (sets-eq (to_le (length t) n) t 0 (rw length_to_le (omega arith)), length_to_le (length t) n, drop_of_length-le t {i = 0 + length t} (omega arith), append-nil) refl
 
-pub le_past : (x : List ℕ) (i w v : ℕ) → length x ≤ i → x ≡ sets x i (to_le w v)
-le_past x i w v h = sym (sets_past (to_le w v) x i h)
+-- the low bytes of a number that are fewer
+pub take_to_le : (m w n : ℕ) → m ≤ w → take m (to_le w n) ≡ to_le m n
+unfolding to_le
+take_to_le zero w n h = refl
+take_to_le (suc m) zero n h = absurd (omega arith)
+take_to_le (suc m) (suc w) n h = ap (λ (l : List ℕ). n % 256 ∷ l) (take_to_le m w (n / 256) (omega arith))
 
--- bytes stored from i on, those from k on: the next one and what is left behind it, or none
-pub text_more : (s x : List ℕ) (i k : ℕ) → k < length s → sets (set x i (get_or s k 0)) (i + 1) (drop (k + 1) s) ≡ sets x i (drop k s)
-text_more s x i k h =
-    let j : i + 1 ≡ suc i = omega arith in
-    let m : k + 1 ≡ suc k = omega arith in
-    rw (j, m, drop-cons s k 0 h)
+-- what the library writes of a number, the low byte first, is the number in so many bytes
+low_first : (i k n : ℕ) → bytes_low_first i k n ≡ to_le k (n / 256 ^ i)
+unfolding to_le
+low_first i zero n = refl
+low_first zero (suc k) n = rw (low_first 1 k n, pow-zero, div-one) refl
+low_first (suc i) (suc k) n = rw (low_first (suc (suc i)) k n, pow-suc 256 (suc i), ← div-div-eq-div-mul n (256 ^ suc i) 256) refl
 
-pub text_none : (s x : List ℕ) (i k : ℕ) → length s ≤ k → x ≡ sets x i (drop k s)
-text_none s x i k h = rw (drop_of_length-le s {i = k} h)
+pub low_bytes : (k n : ℕ) → bytes_low_first 0 k n ≡ to_le k n
+low_bytes k n = rw (low_first 0 k n, pow-zero, div-one) refl
 
-pub text_past : (s x : List ℕ) (i k : ℕ) → length x ≤ i → x ≡ sets x i (drop k s)
-text_past s x i k h = sym (sets_past (drop k s) x i h)
+-- as many bytes of s as are reached, stored from a place on, are s stored there
+pub put_reached : (x s y : List ℕ) (at n : ℕ) → at ≤ length x → n ≡ min (length s) (length x - at) → y ≡ take n s → take at x ++ (y ++ drop n (drop at x)) ≡ sets x at s
+put_reached x s y at n h reached y_is =
+    let short : length (take n s) ≡ n = length-take-le n s (omega arith) in
+    let front : sets x at (take n s) ≡ (take at x ++ take n s) ++ drop (at + n) x = rw short at (sets-eq (take n s) x at (omega arith)) in
+    let whole : sets x at s ≡ sets (sets x at (take n s)) (at + length (take n s)) (drop n s) = rw (take-append-drop n s) at (sets_append (take n s) (drop n s) x at) in
+    rw (y_is, drop-drop n at x, ← append_assoc (take at x) (take n s) (drop (at + n) x), ← front)
+    (sym (rw short at whole ∙ rest (cases_lt (at + n) (length x))))
+  where
+    rest : ((at + n) < length x) ⊎ (length x ≤ at + n) → sets (sets x at (take n s)) (at + n) (drop n s) ≡ sets x at (take n s)
+    rest (inl below) = rw (drop_of_length-le s {i = n} (omega arith)) refl
+    rest (inr past) = sets_past (drop n s) (sets x at (take n s)) (at + n) (rw length-sets past)
 
 -- bytes stored right behind p
 pub stored_behind : (p q s : List ℕ) (n : ℕ) → length p ≡ n → length s ≤ length q → sets (p ++ q) n s ≡ (p ++ s) ++ drop (length s) q

@@ -2,101 +2,81 @@
 // A byte past the end counts as 0 and is not stored, so that every function here answers for any slice and any place.
 #![tactic(auto)]
 
-ghost use Rattle.std.specs.Prelude.{◌≡◌, ◌+◌, ◌≤◌, ◌<◌, length, get_or, set, replicate, leb};
+ghost use Rattle.std.specs.Prelude.{ℕ, List, [], ◌∷◌, ◌≡◌, length, get_or, replicate};
 ghost use Rattle.std.proofs.lemmas.List.Edits.{sets};
 ghost use Rattle.wire.specs.Le.{to_le, field, padded};
 
-pub fn u8_at(b: &[u8], at: usize) -> u8
-    ensures { result ≡ get_or b.now at 0 }
-{
-    if at < b.len() { b[at] } else { 0 }
+// A number of the feed, by its width: read from a place of a run of bytes, whether all of it is there or not, and stored from a place
+// on, as far as the slice reaches; the low byte first.
+pub trait Number: Sized {
+    ghost read: { List ℕ → ℕ → Self };
+
+    ghost laid_out: { Self → List ℕ };
+
+    fn at(b: &[u8], at: usize) -> Self
+        ensures { result ≡ read b.now at };
+
+    fn put(self, out: &mut [u8], at: usize)
+        ensures { out.new ≡ sets out.old at (laid_out self) };
 }
 
-// A byte that is there.
-fn byte_in(b: &[u8], at: usize) -> u8
-    requires { at < length b.now }
-    ensures { result ≡ get_or b.now at 0 }
-{
-    b[at]
-}
+impl Number for u8 {
+    ghost read = { λ b at. get_or b at 0 };
 
-// Two, four and eight bytes that are there.
-fn two_in(b: &[u8], at: usize) -> u16
-    requires { at + 2 ≤ length b.now }
-    ensures { result ≡ field b.now at 2 }
-{
-    (byte_in(b, at) as u16) + 256 * (byte_in(b, at + 1) as u16)
-}
+    ghost laid_out = { λ n. n ∷ [] };
 
-fn four_in(b: &[u8], at: usize) -> u32
-    requires { at + 4 ≤ length b.now }
-    ensures { result ≡ field b.now at 4 }
-{
-    (two_in(b, at) as u32) + 65536 * (two_in(b, at + 2) as u32)
-}
-
-fn eight_in(b: &[u8], at: usize) -> u64
-    requires { at + 8 ≤ length b.now }
-    ensures { result ≡ field b.now at 8 }
-{
-    (four_in(b, at) as u64) + 4294967296 * (four_in(b, at + 4) as u64)
-}
-
-// Whether n bytes from at on are there; the sum of the two need not fit.
-fn has(b: &[u8], at: usize, n: usize) -> bool
-    ensures { result ≡ leb (at + n) (length b.now) }
-{
-    if b.len() < n {
-        return false;
+    fn at(b: &[u8], at: usize) -> u8 {
+        if at < b.len() { b[at] } else { 0 }
     }
-    at <= b.len() - n
-}
 
-// Where a number is not there whole, it is read in a copy with zeros behind.
-pub fn u16_at(b: &[u8], at: usize) -> u16
-    ensures { result ≡ field b.now at 2 }
-{
-    if has(b, at, 2) {
-        return two_in(b, at);
-    }
-    let p = eight_at(b, at);
-    two_in(&p, 0)
-}
-
-pub fn u32_at(b: &[u8], at: usize) -> u32
-    ensures { result ≡ field b.now at 4 }
-{
-    if has(b, at, 4) {
-        return four_in(b, at);
-    }
-    let p = eight_at(b, at);
-    four_in(&p, 0)
-}
-
-pub fn u64_at(b: &[u8], at: usize) -> u64
-    ensures { result ≡ field b.now at 8 }
-{
-    if has(b, at, 8) {
-        return eight_in(b, at);
-    }
-    let p = eight_at(b, at);
-    eight_in(&p, 0)
-}
-
-// All bytes of one run into another of the same length.
-fn copy(s: &[u8], out: &mut [u8])
-    requires { length s.now ≡ length out.old }
-    ensures { out.new ≡ s.now }
-{
-    let n = out.len();
-    let mut i = 0;
-    while i < n {
-        out[i] = s[i];
-        i = i + 1;
+    fn put(self, out: &mut [u8], at: usize) {
+        put_at(out, at, &[self]);
     }
 }
 
-// The bytes from at on, into the whole of out, with zeros for those past the end.
+impl Number for u16 {
+    ghost read = { λ b at. field b at 2 };
+
+    ghost laid_out = { λ n. to_le 2 n };
+
+    fn at(b: &[u8], at: usize) -> u16 {
+        u16::from_le_bytes(bytes_at(b, at))
+    }
+
+    fn put(self, out: &mut [u8], at: usize) {
+        put_at(out, at, &self.to_le_bytes());
+    }
+}
+
+impl Number for u32 {
+    ghost read = { λ b at. field b at 4 };
+
+    ghost laid_out = { λ n. to_le 4 n };
+
+    fn at(b: &[u8], at: usize) -> u32 {
+        u32::from_le_bytes(bytes_at(b, at))
+    }
+
+    fn put(self, out: &mut [u8], at: usize) {
+        put_at(out, at, &self.to_le_bytes());
+    }
+}
+
+impl Number for u64 {
+    ghost read = { λ b at. field b at 8 };
+
+    ghost laid_out = { λ n. to_le 8 n };
+
+    fn at(b: &[u8], at: usize) -> u64 {
+        u64::from_le_bytes(bytes_at(b, at))
+    }
+
+    fn put(self, out: &mut [u8], at: usize) {
+        put_at(out, at, &self.to_le_bytes());
+    }
+}
+
+// The bytes from at on, into the whole of out, with zeros for those past the end. Where all are there, as nearly always, they are one copy.
 pub fn copy_at(b: &[u8], at: usize, out: &mut [u8])
     ensures { out.new ≡ padded b.now at (length out.old) }
 {
@@ -107,25 +87,18 @@ pub fn copy_at(b: &[u8], at: usize, out: &mut [u8])
     }
     let k = b.len() - at;
     if n <= k {
-        copy(&b[at..at + n], out);
+        out.copy_from_slice(&b[at..at + n]);
         return;
     }
     wipe(out);
-    copy(&b[at..], &mut out[..k]);
+    out[..k].copy_from_slice(&b[at..]);
 }
 
-pub fn eight_at(b: &[u8], at: usize) -> [u8; 8]
-    ensures { result ≡ padded b.now at 8 }
+// The N bytes from at on, with zeros for those past the end.
+pub fn bytes_at<const N: usize>(b: &[u8], at: usize) -> [u8; N]
+    ensures { result ≡ padded b.now at N }
 {
-    let mut out = [0u8; 8];
-    copy_at(b, at, &mut out);
-    out
-}
-
-pub fn eleven_at(b: &[u8], at: usize) -> [u8; 11]
-    ensures { result ≡ padded b.now at 11 }
-{
-    let mut out = [0u8; 11];
+    let mut out = [0u8; N];
     copy_at(b, at, &mut out);
     out
 }
@@ -134,38 +107,21 @@ pub fn eleven_at(b: &[u8], at: usize) -> [u8; 11]
 pub fn wipe(t: &mut [u8])
     ensures { t.new ≡ replicate (length t.old) 0 }
 {
-    let n = t.len();
-    let mut i = 0;
-    while i < n {
-        t[i] = 0;
-        i += 1;
-    }
+    t.fill(0);
 }
 
 // The low w bytes of a number, the low byte first, stored from at on as far as the slice reaches.
 pub fn put_le(out: &mut [u8], at: usize, w: usize, n: u64)
     ensures { out.new ≡ sets out.old at (to_le w n) }
 {
-    let mut v = n;
-    let mut i = at;
-    let mut left = w;
-    while 0 < left {
-        if out.len() <= i {
-            return;
-        }
-        out[i] = (v % 256) as u8;
-        v = v / 256;
-        i += 1;
-        left -= 1;
+    if out.len() <= at {
+        return;
     }
-}
-
-// One byte, stored at a place, if it is there.
-pub fn put_byte(out: &mut [u8], at: usize, x: u8)
-    ensures { out.new ≡ set out.old at x }
-{
-    if at < out.len() {
-        out[at] = x;
+    let reached = w.min(out.len() - at);
+    let mut v = n;
+    for x in out[at..at + reached].iter_mut() {
+        *x = (v % 256) as u8;
+        v /= 256;
     }
 }
 
@@ -173,15 +129,9 @@ pub fn put_byte(out: &mut [u8], at: usize, x: u8)
 pub fn put_at(out: &mut [u8], at: usize, s: &[u8])
     ensures { out.new ≡ sets out.old at s.now }
 {
-    let n = s.len();
-    let mut i = at;
-    let mut k: usize = 0;
-    while k < n {
-        if out.len() <= i {
-            return;
-        }
-        out[i] = s[k];
-        i += 1;
-        k += 1;
+    if out.len() <= at {
+        return;
     }
+    let n = s.len().min(out.len() - at);
+    out[at..at + n].copy_from_slice(&s[..n]);
 }

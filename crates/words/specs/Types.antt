@@ -1,5 +1,5 @@
 -- What the word behind `--type` asks for (docs/CONVERT.md, "The command").
-use Rattle.std.specs.Prelude.{ℕ, ◌+◌, ◌-◌, ◌*◌, Bool, true, List, [], ◌∷◌, ◌++◌, length, take, get_or, replicate, eqb, leb}
+use Rattle.std.specs.Prelude.{ℕ, ◌+◌, ◌-◌, ◌*◌, Bool, true, List, [], ◌∷◌, ◌++◌, length, take, get_or, replicate, eqb, leb, Option, Some, None}
 use Rattle.facts.specs.Pick.{pick, both}
 use Rattle.wire.specs.Le.{to_le}
 use Rattle.words.specs.declared.TypeWord.{TypeWord}
@@ -26,28 +26,20 @@ by_id n t = 0 ∷ (to_le 4 n ++ (replicate 7 0 ++ (t ∷ [])))
 unfoldable pub by_ticker : List ℕ → ℕ → List ℕ
 by_ticker name t = 1 ∷ (name ++ (replicate (11 - length name) 32 ++ (t ∷ [])))
 
--- what is asked for, and the 13 bytes beside it
-pub record TypeAsked : Type 0 where
-  pub answer : TypeWord
-  pub bytes : List ℕ
-
-abbrev pub asking : TypeWord → List ℕ → TypeAsked
-asking a b = record { answer = a; bytes = b }
-
--- "a symbol ID, from 0 to 4294967295": a larger number is a wrong word, of however many digits; `out` is what the bytes were before
-unfoldable pub id_asked : ℕ → ℕ → List ℕ → TypeAsked
-id_asked n t out = pick (leb n most_id) (asking TypeWord.Exception (by_id n t)) (asking TypeWord.Wrong out)
+-- "a symbol ID, from 0 to 4294967295": a larger number is a wrong word, of however many digits
+unfoldable pub id_asked : ℕ → ℕ → Option TypeWord
+id_asked n t = pick (leb n most_id) (Some (TypeWord.Exception (by_id n t))) None
 
 -- "A name has 1 to 11 bytes from 33 to 126. A name of digits alone is a symbol ID ..; any other is a ticker"; a name has a byte or more, by `type_asked`
-unfoldable pub exception_asked : List ℕ → ℕ → List ℕ → TypeAsked
-exception_asked name t out =
-    pick (all_from 48 57 name) (id_asked (decimal_from 0 name) t out)
-    (pick (both (leb (length name) 11) (all_from 33 126 name)) (asking TypeWord.Exception (by_ticker name t)) (asking TypeWord.Wrong out))
+unfoldable pub exception_asked : List ℕ → ℕ → Option TypeWord
+exception_asked name t =
+    pick (all_from 48 57 name) (id_asked (decimal_from 0 name) t)
+    (pick (both (leb (length name) 11) (all_from 33 126 name)) (Some (TypeWord.Exception (by_ticker name t))) None)
 
 -- "`--type` with a letter is the type of all symbols ..; `--type` with a name, `=` and a letter is an exception", and "A name has 1 to 11 bytes" (61 is `=`); whether the letter is one of the edition's, others judge
-unfoldable pub type_asked : List ℕ → List ℕ → TypeAsked
-type_asked w out =
-    pick (eqb (length w) 1) (asking (TypeWord.All (get_or w 0 0)) out)
+unfoldable pub type_asked : List ℕ → Option TypeWord
+type_asked w =
+    pick (eqb (length w) 1) (Some (TypeWord.All (get_or w 0 0)))
     (pick (both (both (leb 3 (length w)) (leb (length w) 13)) (eqb (get_or w (length w - 2) 0) 61))
-    (exception_asked (take (length w - 2) w) (get_or w (length w - 1) 0) out)
-    (asking TypeWord.Wrong out))
+    (exception_asked (take (length w - 2) w) (get_or w (length w - 1) 0))
+    None)

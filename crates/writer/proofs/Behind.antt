@@ -27,7 +27,8 @@ use Rattle.fields.specs.declared.Fault.{Fault}
 use Rattle.body.specs.Read.{judge_body, judged_number, good_body}
 use Rattle.packet.specs.Record.{number_ok}
 use Rattle.packet.specs.Packet.{frames_from, framing, told, read_packet}
-use Rattle.packet.specs.declared.Packet.{Packet}
+use Rattle.std.specs.Prelude.{Result, Ok, Err}
+use Rattle.packet.specs.declared.Why.{Why}
 use Rattle.packet.proofs.Laws.{GoodRec, number_in, number_range, frames_end, packet_is}
 use Rattle.packet.proofs.Places.{packet_small}
 use Rattle.packet.proofs.Good.{AllGood, Fine, framing_size, good_framing, framing_fine}
@@ -40,43 +41,40 @@ use Rattle.trips.proofs.Messages.{written_judged}
 use Rattle.trips.proofs.Records.{length_record, frames_of, frames_join, frames_record, packet_written}
 use Rattle.writer.specs.Append.{Writing, writing, refused_by, put, where_read, behind, room_number, so_far, own_number, appended_as, appended, numbers_appended, packet_appended}
 use Rattle.writer.specs.Behind.{Grown, next_to, appended_all}
-use Rattle.writer.specs.declared.Wrote.{Wrote}
 use Rattle.writer.proofs.Numbers.{numbers_as_body}
 use Rattle.writer.proofs.Laws.{Allowed, allowed, put_stored, good_here, so_far_empty, so_far_some, none_refuses}
 
 -- two answers of different kinds are not one
-abbrev OtherAnswer : (w : Wrote) (l : ℕ) → Type 0
-OtherAnswer (Wrote.Length n) l = n ≡ l
-OtherAnswer (Wrote.Refused r) l = ⊥
-OtherAnswer (Wrote.Bad f) l = ⊥
+abbrev OtherAnswer : (w : Result ℕ Why) (l : ℕ) → Type 0
+OtherAnswer (Ok n) l = n ≡ l
+OtherAnswer (Err r) l = ⊥
 
-same_answer : (w : Wrote) (l : ℕ) → w ≡ Wrote.Length l → OtherAnswer w l
-same_answer w l e = subst (λ (x : Wrote). OtherAnswer x l) (sym e) refl
+same_answer : (w : Result ℕ Why) (l : ℕ) → w ≡ Ok l → OtherAnswer w l
+same_answer w l e = subst (λ (x : Result ℕ Why). OtherAnswer x l) (sym e) refl
 
 -- what was written: the packet so far was good, nothing refused the record, and its bytes are stored
-pub record Stored (r : Packet) (k : ℕ) (m : List ℕ) (at : ℕ) (s : List ℕ) (l : ℕ) (w : List ℕ) : Type 0 where
+pub record Stored (r : Result ℕ Why) (k : ℕ) (m : List ℕ) (at : ℕ) (s : List ℕ) (l : ℕ) (w : List ℕ) : Type 0 where
   pub records_so_far : ℕ
-  pub read_good : r ≡ Packet.Good records_so_far
+  pub read_good : r ≡ Ok records_so_far
   pub none : k ≡ 0
   pub within : at ≤ length m
   pub length_is : l ≡ at + length s
   pub memory_is : w ≡ sets m at s
 
-pub stored_is : (r : Packet) (k : ℕ) (m : List ℕ) (at : ℕ) (s : List ℕ) (l : ℕ) (w : List ℕ) → behind r k m at s ≡ writing (Wrote.Length l) w → Stored r k m at s l w
+pub stored_is : (r : Result ℕ Why) (k : ℕ) (m : List ℕ) (at : ℕ) (s : List ℕ) (l : ℕ) (w : List ℕ) → behind r k m at s ≡ writing (Ok l) w → Stored r k m at s l w
 unfolding behind where_read put
-stored_is r k m at s l w e = elim (pick_cases e) [ inl h ↦ by_read r refl (leb-true at (length m) h.0) h.1 | inr h ↦ absurd (same_answer (Wrote.Refused (refusal 32)) l (ap (λ (x : Writing). x.answer) h.1)) ]
+stored_is r k m at s l w e = elim (pick_cases e) [ inl h ↦ by_read r refl (leb-true at (length m) h.0) h.1 | inr h ↦ absurd (same_answer (Err (Why.Alone (refusal 32))) l (ap (λ (x : Writing). x.answer) h.1)) ]
   where
-    by_read : (q : Packet) → r ≡ q → at ≤ length m → where_read q m (put k m at s) ≡ writing (Wrote.Length l) w → Stored r k m at s l w
-    by_read (Packet.Refused x) q i f = absurd (same_answer (Wrote.Refused x) l (ap (λ (x : Writing). x.answer) f))
-    by_read (Packet.Bad x) q i f = absurd (same_answer (Wrote.Bad x) l (ap (λ (x : Writing). x.answer) f))
-    by_read (Packet.Good n) q i f =
+    by_read : (q : Result ℕ Why) → r ≡ q → at ≤ length m → where_read q m (put k m at s) ≡ writing (Ok l) w → Stored r k m at s l w
+    by_read (Err x) q i f = absurd (same_answer (Err x) l (ap (λ (y : Writing). y.answer) f))
+    by_read (Ok n) q i f =
         elim (pick_cases f) [
-          | inl h ↦ record { records_so_far = n; read_good = q; none = eqb-true k 0 h.0; within = i; length_is = sym (same_answer (Wrote.Length (at + length s)) l (ap (λ (x : Writing). x.answer) h.1)); memory_is = sym (ap (λ (x : Writing). x.memory) h.1) }
-          | inr h ↦ absurd (same_answer (Wrote.Refused (refusal k)) l (ap (λ (x : Writing). x.answer) h.1))
+          | inl h ↦ record { records_so_far = n; read_good = q; none = eqb-true k 0 h.0; within = i; length_is = sym (same_answer (Ok (at + length s)) l (ap (λ (x : Writing). x.answer) h.1)); memory_is = sym (ap (λ (x : Writing). x.memory) h.1) }
+          | inr h ↦ absurd (same_answer (Err (Why.Alone (refusal k))) l (ap (λ (x : Writing). x.answer) h.1))
         ]
 
 -- the records of a packet so far
-so_far_records : (ed : Edition) (p : List ℕ) (n : ℕ) → so_far ed p ≡ Packet.Good n → (cs : List Rec) × (frames_of ed p ≡ records cs)
+so_far_records : (ed : Edition) (p : List ℕ) (n : ℕ) → so_far ed p ≡ Ok n → (cs : List Rec) × (frames_of ed p ≡ records cs)
 unfolding so_far
 so_far_records ed p n e =
     elim (pick_cases e) [
@@ -89,7 +87,7 @@ unfolding good_body
 good_rec ed n b o z = let r = number_range n o in record { number_from = r.0; number_to = r.1; body_good = eq-eqb (judged_number (judge_body ed b)) 0 z }
 
 -- ---- "the whole packet is good, its records those before and the new one"
-pub append_reads : (ed : Edition) (m : List ℕ) (at n : ℕ) (b : List ℕ) (l : ℕ) (w : List ℕ) → appended ed m at n b ≡ writing (Wrote.Length l) w → Grown ed m at n b l w
+pub append_reads : (ed : Edition) (m : List ℕ) (at n : ℕ) (b : List ℕ) (l : ℕ) (w : List ℕ) → appended ed m at n b ≡ writing (Ok l) w → Grown ed m at n b l w
 unfolding appended appended_as framing pick both
 append_reads ed m at n b l w e =
     let s : List ℕ = record_bytes n b in
@@ -122,16 +120,16 @@ from_fields ed s t v f m at n = ap (λ (k : ℕ). appended_as ed k m at n (writt
 
 -- ---- record by record
 -- a packet so far whose records are read is good
-so_far_good : (ed : Edition) (q : List ℕ) (ds : List Rec) → frames_of ed q ≡ records ds → length q ≤ packet_most → (n : ℕ) × (so_far ed q ≡ Packet.Good n)
+so_far_good : (ed : Edition) (q : List ℕ) (ds : List Rec) → frames_of ed q ≡ records ds → length q ≤ packet_most → (n : ℕ) × (so_far ed q ≡ Ok n)
 unfolding told
 so_far_good ed q ds e l = go (dec_lt 0 (length q))
   where
-    go : Dec (0 < length q) → (n : ℕ) × (so_far ed q ≡ Packet.Good n)
+    go : Dec (0 < length q) → (n : ℕ) × (so_far ed q ≡ Ok n)
     go (yes a) = (length ds, sym (so_far_some ed q (λ z. omega arith)) ∙ (packet_is ed q (omega arith) l ∙ ap told e))
     go (no a) = (0, sym (so_far_empty ed q (omega arith)))
 
 -- a good record that fits is written behind it
-appended_good : (ed : Edition) (m : List ℕ) (at n : ℕ) (b : List ℕ) (ds : List Rec) → frames_of ed (take at m) ≡ records ds → GoodRec ed (rec n b) → at + length (record_bytes n b) ≤ packet_most → at + length (record_bytes n b) ≤ length m → appended ed m at n b ≡ writing (Wrote.Length (at + length (record_bytes n b))) (sets m at (record_bytes n b))
+appended_good : (ed : Edition) (m : List ℕ) (at n : ℕ) (b : List ℕ) (ds : List Rec) → frames_of ed (take at m) ≡ records ds → GoodRec ed (rec n b) → at + length (record_bytes n b) ≤ packet_most → at + length (record_bytes n b) ≤ length m → appended ed m at n b ≡ writing (Ok (at + length (record_bytes n b))) (sets m at (record_bytes n b))
 unfolding appended appended_as good_body
 appended_good ed m at n b ds e g most room =
     let s : List ℕ = record_bytes n b in
@@ -145,7 +143,7 @@ appended_good ed m at n b ds e g most room =
     let x = so_far_good ed (take at m) ds e (rw a (omega arith)) in
     sym (good_here (so_far ed (take at m)) (own_number why n (length m) new) m at s x.0 in_m x.1) ∙ sym (put_stored (own_number why n (length m) new) m at s (sym own))
 
-all_written : (ed : Edition) (cs : List Rec) (m : List ℕ) (at : ℕ) (ds : List Rec) → frames_of ed (take at m) ≡ records ds → AllGood ed cs → at + length (packet_bytes cs) ≤ packet_most → at + length (packet_bytes cs) ≤ length m → appended_all ed cs m at ≡ writing (Wrote.Length (at + length (packet_bytes cs))) (sets m at (packet_bytes cs))
+all_written : (ed : Edition) (cs : List Rec) (m : List ℕ) (at : ℕ) (ds : List Rec) → frames_of ed (take at m) ≡ records ds → AllGood ed cs → at + length (packet_bytes cs) ≤ packet_most → at + length (packet_bytes cs) ≤ length m → appended_all ed cs m at ≡ writing (Ok (at + length (packet_bytes cs))) (sets m at (packet_bytes cs))
 unfolding appended_all next_to packet_bytes
 all_written ed [] m at ds e g most room = rw (add-zero at) refl
 all_written ed (c ∷ cs) m at ds e g most room =
@@ -164,7 +162,7 @@ all_written ed (c ∷ cs) m at ds e g most room =
     ∙ (rest ∙ rw (← sets_append s q m at, add_assoc at (length s) (length q), both_long) refl)
 
 -- "a packet written record by record is the packet read record by record": and so a packet that any reader accepts can be written
-pub record_by_record : (ed : Edition) (p : List ℕ) (cs : List Rec) (m : List ℕ) → Bytes p → framing ed p ≡ records cs → length p ≤ length m → appended_all ed cs m 0 ≡ writing (Wrote.Length (length p)) (p ++ drop (length p) m)
+pub record_by_record : (ed : Edition) (p : List ℕ) (cs : List Rec) (m : List ℕ) → Bytes p → framing ed p ≡ records cs → length p ≤ length m → appended_all ed cs m 0 ≡ writing (Ok (length p)) (p ++ drop (length p) m)
 record_by_record ed p cs m h e l =
     let s = framing_size ed p cs e in
     let is : packet_bytes cs ≡ p = packet_written ed p cs h e in
@@ -173,59 +171,57 @@ record_by_record ed p cs m h e l =
     let most : 0 + length (packet_bytes cs) ≤ packet_most = rw is (omega (arith, s.1)) in
     let room : 0 + length (packet_bytes cs) ≤ length m = rw is (omega arith) in
     let all = all_written ed cs m 0 [] none g most room in
-    all ∙ rw (is, zero-add (length p)) (ap (writing (Wrote.Length (length p))) (sets-eq p m 0 (omega arith) ∙ rw (zero-add (length p)) refl))
+    all ∙ rw (is, zero-add (length p)) (ap (writing (Ok (length p))) (sets-eq p m 0 (omega arith) ∙ rw (zero-add (length p)) refl))
 
 -- ---- "and writes nothing": whatever goes behind what is there, a record or a packet, an answer that is no length leaves every byte
-pub refusal_keeps : (r : Packet) (k : ℕ) (m : List ℕ) (at : ℕ) (s : List ℕ) → ((l : ℕ) → (behind r k m at s).answer ≡ Wrote.Length l → ⊥) → (behind r k m at s).memory ≡ m
+pub refusal_keeps : (r : Result ℕ Why) (k : ℕ) (m : List ℕ) (at : ℕ) (s : List ℕ) → ((l : ℕ) → (behind r k m at s).answer ≡ Ok l → ⊥) → (behind r k m at s).memory ≡ m
 unfolding behind where_read put
 refusal_keeps r k m at s = pick_ind Kept (leb at (length m)) (where_read r m (put k m at s)) (refused_by 32 m) (λ _. by_read r) (λ _ h. refl)
   where
     Kept : Writing → Type 0
-    Kept w = ((l : ℕ) → w.answer ≡ Wrote.Length l → ⊥) → w.memory ≡ m
+    Kept w = ((l : ℕ) → w.answer ≡ Ok l → ⊥) → w.memory ≡ m
 
     by_put : Kept (put k m at s)
-    by_put = pick_ind Kept (eqb k 0) (writing (Wrote.Length (at + length s)) (sets m at s)) (refused_by k m) (λ _ h. absurd (h (at + length s) refl)) (λ _ h. refl)
+    by_put = pick_ind Kept (eqb k 0) (writing (Ok (at + length s)) (sets m at s)) (refused_by k m) (λ _ h. absurd (h (at + length s) refl)) (λ _ h. refl)
 
-    by_read : (q : Packet) → Kept (where_read q m (put k m at s))
-    by_read (Packet.Good n) h = by_put h
-    by_read (Packet.Refused x) h = refl
-    by_read (Packet.Bad f) h = refl
+    by_read : (q : Result ℕ Why) → Kept (where_read q m (put k m at s))
+    by_read (Ok n) h = by_put h
+    by_read (Err x) h = refl
 
 -- ---- where an offset is told, it is the reader's, of the packet so far or of the packet
-bad_read : (r : Packet) (k : ℕ) (m : List ℕ) (at : ℕ) (s : List ℕ) (f : Fault) → (behind r k m at s).answer ≡ Wrote.Bad f → r ≡ Packet.Bad f
+bad_read : (r : Result ℕ Why) (k : ℕ) (m : List ℕ) (at : ℕ) (s : List ℕ) (f : Fault) → (behind r k m at s).answer ≡ Err (Why.Placed f) → r ≡ Err (Why.Placed f)
 unfolding behind where_read put
 bad_read r k m at s f e = pick_ind Told (leb at (length m)) (where_read r m (put k m at s)) (refused_by 32 m) (λ _. by_read r) (λ _ h. absurd (not_bad h)) e
   where
     Told : Writing → Type 0
-    Told w = w.answer ≡ Wrote.Bad f → r ≡ Packet.Bad f
+    Told w = w.answer ≡ Err (Why.Placed f) → r ≡ Err (Why.Placed f)
 
-    not_bad : {x : Refusal} → Wrote.Refused x ≡ Wrote.Bad f → ⊥
+    not_bad : {x : Refusal} → ◌≡◌ {A = Result ℕ Why} (Err (Why.Alone x)) (Err (Why.Placed f)) → ⊥
     not_bad h = let z : ◌≡◌ {A = ℕ} 0 1 = cc in omega arith
 
-    no_length : {n : ℕ} → Wrote.Length n ≡ Wrote.Bad f → ⊥
+    no_length : {n : ℕ} → ◌≡◌ {A = Result ℕ Why} (Ok n) (Err (Why.Placed f)) → ⊥
     no_length h = let z : ◌≡◌ {A = ℕ} 0 1 = cc in omega arith
 
-    by_put : (put k m at s).answer ≡ Wrote.Bad f → ⊥
-    by_put = pick_ind (λ (w : Writing). w.answer ≡ Wrote.Bad f → ⊥) (eqb k 0) (writing (Wrote.Length (at + length s)) (sets m at s)) (refused_by k m) (λ _ h. no_length h) (λ _ h. not_bad h)
+    by_put : (put k m at s).answer ≡ Err (Why.Placed f) → ⊥
+    by_put = pick_ind (λ (w : Writing). w.answer ≡ Err (Why.Placed f) → ⊥) (eqb k 0) (writing (Ok (at + length s)) (sets m at s)) (refused_by k m) (λ _ h. no_length h) (λ _ h. not_bad h)
 
-    by_read : (q : Packet) → (where_read q m (put k m at s)).answer ≡ Wrote.Bad f → q ≡ Packet.Bad f
-    by_read (Packet.Good n) h = absurd (by_put h)
-    by_read (Packet.Refused x) h = absurd (not_bad h)
-    by_read (Packet.Bad g) h = let same : g ≡ f = cc in ap Packet.Bad same
+    by_read : (q : Result ℕ Why) → (where_read q m (put k m at s)).answer ≡ Err (Why.Placed f) → q ≡ Err (Why.Placed f)
+    by_read (Ok n) h = absurd (by_put h)
+    by_read (Err x) h = h
 
-pub append_small : (ed : Edition) (why : ℕ) (m : List ℕ) (at n : ℕ) (b : List ℕ) (f : Fault) → (appended_as ed why m at n b).answer ≡ Wrote.Bad f → f.at ≤ packet_most
+pub append_small : (ed : Edition) (why : ℕ) (m : List ℕ) (at n : ℕ) (b : List ℕ) (f : Fault) → (appended_as ed why m at n b).answer ≡ Err (Why.Placed f) → f.at ≤ packet_most
 unfolding appended_as so_far
 append_small ed why m at n b f e =
     let q = bad_read (so_far ed (take at m)) (own_number why n (length m) (at + length (record_bytes n b))) m at (record_bytes n b) f e in
     elim (pick_cases q) [ inl h ↦ let z = h.1 in let y : ◌≡◌ {A = ℕ} 0 1 = cc in absurd (omega arith) | inr h ↦ packet_small ed (take at m) f h.1 ]
 
-pub packet_append_small : (ed : Edition) (m : List ℕ) (at : ℕ) (p : List ℕ) (f : Fault) → (packet_appended ed m at p).answer ≡ Wrote.Bad f → f.at ≤ packet_most
+pub packet_append_small : (ed : Edition) (m : List ℕ) (at : ℕ) (p : List ℕ) (f : Fault) → (packet_appended ed m at p).answer ≡ Err (Why.Placed f) → f.at ≤ packet_most
 unfolding packet_appended
 packet_append_small ed m at p f e = packet_small ed p f (bad_read (read_packet ed p) (room_number (length m) (at + length (length_first p))) m at (length_first p) f e)
 
 -- ---- from numbers and text, as C has them
 -- a call that answers a length wrote the body that they stand for, and what is read of it stands for the same fields
-pub numbers_reads : (ed : Edition) (m : List ℕ) (at n : ℕ) (l x : List ℕ) (k : ℕ) (w : List ℕ) → numbers_appended ed m at n l x ≡ writing (Wrote.Length k) w → Grown ed m at n (draft_body ed l x) k w × ReadBack ed l x
+pub numbers_reads : (ed : Edition) (m : List ℕ) (at n : ℕ) (l x : List ℕ) (k : ℕ) (w : List ℕ) → numbers_appended ed m at n l x ≡ writing (Ok k) w → Grown ed m at n (draft_body ed l x) k w × ReadBack ed l x
 unfolding numbers_appended appended_as
 numbers_reads ed m at n l x k w e =
     let b : List ℕ = draft_body ed l x in

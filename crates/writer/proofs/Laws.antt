@@ -4,28 +4,28 @@ use mathlib.Core.Path.{◌≡◌, refl, sym, ap, ◌∙◌}
 use mathlib.Core.List.{List, ◌++◌}
 use mathlib.Core.Bool.{Bool, true, false}
 use mathlib.Core.Logic.{inl, inr}
-use Prim.Native.Nat.{ℕ, ◌+◌, ◌-◌, ◌≤◌, ◌<◌}
+use Prim.Native.Nat.{ℕ, ◌+◌, ◌≤◌, ◌<◌}
 use native.Mathlib.Omega.{arith}
 use lib.ListN.{length, length-append}
 use lib.Seq.{sets}
 use lib.Dec.{eqb, leb}
-use borrow.Author.Tests.{eq-eqb, ne_eqb, eqb-true, le-leb, lt-leb, leb-true}
+use borrow.Author.Tests.{eq-eqb, ne_eqb, eqb-true, eqb-false, le-leb, lt-leb, leb-true}
 use Rattle.facts.specs.Limits.{packet_most}
 use Rattle.facts.specs.Pick.{pick}
-use Rattle.facts.proofs.Picks.{pick_cases}
+use Rattle.facts.proofs.Picks.{pick_ind, pick_cases}
 use Rattle.facts.proofs.Stores.{sets_append}
 use Rattle.editions.specs.declared.Edition.{Edition}
 use Rattle.wire.specs.Le.{to_le}
-use Rattle.wire.proofs.Laws.{length_to_le, fits_test}
+use Rattle.wire.proofs.Laws.{length_to_le}
 use Rattle.fields.specs.declared.Refusal.{Refusal}
-use Rattle.fields.specs.declared.Fault.{Fault}
+use Rattle.fields.specs.Fields.{refusal}
 use Rattle.packet.specs.Record.{number_ok}
 use Rattle.packet.specs.Packet.{read_packet}
-use Rattle.packet.specs.declared.Packet.{Packet}
+use Rattle.std.specs.Prelude.{Result, Ok, Err}
+use Rattle.packet.specs.declared.Why.{Why}
 use Rattle.trips.specs.Records.{record_bytes, length_first}
 use Rattle.trips.proofs.Records.{length_record}
-use Rattle.writer.specs.Append.{writing, refused_by, put, where_read, behind, room_number, so_far, own_number}
-use Rattle.writer.specs.declared.Wrote.{Wrote}
+use Rattle.writer.specs.Append.{writing, refused_by, put, where_read, behind, room_number, so_far, own_number, unless}
 
 -- ---- runs stored one behind the other
 stored_two : (t a b : List ℕ) (at n : ℕ) → length a ≡ n → sets (sets t at a) (at + n) b ≡ sets t at (a ++ b)
@@ -71,6 +71,27 @@ module _ (why n room new : ℕ) where
     unfolding own_number room_number pick
     none_refuses l r = rw (o, eq-eqb why 0 w, l, r) refl
 
+-- ---- refused by a number, and by none
+pub unless_ok : (k : ℕ) (u : Unit {0}) → unless k ≡ Ok u → k ≡ 0
+unless_ok k u = pick_ind (λ (x : Result (Unit {0}) Refusal). x ≡ Ok u → k ≡ 0) (eqb k 0) (Ok tt) (Err (refusal k)) (λ e _. eqb-true k 0 e) (λ _ q. let z : ◌≡◌ {A = ℕ} 0 1 = cc in absurd (omega arith))
+
+pub unless_err : (k : ℕ) (r : Refusal) → unless k ≡ Err r → (k ≡ 0 → ⊥) × (r ≡ refusal k)
+unless_err k r =
+    pick_ind (λ (x : Result (Unit {0}) Refusal). x ≡ Err r → (k ≡ 0 → ⊥) × (r ≡ refusal k))
+    (eqb k 0)
+    (Ok tt)
+    (Err (refusal k))
+    (λ _ q. let z : ◌≡◌ {A = ℕ} 0 1 = cc in absurd (omega arith))
+    (λ e q. let s : r ≡ refusal k = cc in (eqb-false k 0 e, s))
+
+pub is_refused : (k own : ℕ) → k ≡ own → (k ≡ 0 → ⊥) → Err (refusal k) ≡ unless own
+unfolding pick
+is_refused k own e d = rw (← e, ne_eqb k 0 d) refl
+
+pub is_allowed : (own : ℕ) → 0 ≡ own → Ok tt ≡ unless own
+unfolding pick
+is_allowed own e = rw (← e) refl
+
 -- what is known of a record that nothing refuses
 pub record Allowed (why n room new : ℕ) : Type 0 where
   pub good_number : number_ok n ≡ true
@@ -103,37 +124,30 @@ pub put_refused : (k : ℕ) (m : List ℕ) (at : ℕ) (s : List ℕ) → (k ≡ 
 unfolding put pick
 put_refused k m at s d = rw (ne_eqb k 0 d) refl
 
-pub put_stored : (k : ℕ) (m : List ℕ) (at : ℕ) (s : List ℕ) → k ≡ 0 → writing (Wrote.Length (at + length s)) (sets m at s) ≡ put k m at s
+pub put_stored : (k : ℕ) (m : List ℕ) (at : ℕ) (s : List ℕ) → k ≡ 0 → writing (Ok (at + length s)) (sets m at s) ≡ put k m at s
 unfolding put pick
 put_stored k m at s z = rw (eq-eqb k 0 z) refl
 
 -- ---- beyond the memory, or as reading says
-pub beyond : (r : Packet) (k : ℕ) (m : List ℕ) (at : ℕ) (s : List ℕ) → length m < at → refused_by 32 m ≡ behind r k m at s
+pub beyond : (r : Result ℕ Why) (k : ℕ) (m : List ℕ) (at : ℕ) (s : List ℕ) → length m < at → refused_by 32 m ≡ behind r k m at s
 unfolding behind pick
 beyond r k m at s l = rw (lt-leb at (length m) l) refl
 
-pub within : (r : Packet) (k : ℕ) (m : List ℕ) (at : ℕ) (s : List ℕ) → at ≤ length m → where_read r m (put k m at s) ≡ behind r k m at s
+pub within : (r : Result ℕ Why) (k : ℕ) (m : List ℕ) (at : ℕ) (s : List ℕ) → at ≤ length m → where_read r m (put k m at s) ≡ behind r k m at s
 unfolding behind pick
 within r k m at s l = rw (le-leb at (length m) l) refl
 
 -- by what the reader said
-module _ (r : Packet) (k : ℕ) (m : List ℕ) (at : ℕ) (s : List ℕ) where
-  pub refused_here : (x : Refusal) → at ≤ length m → r ≡ Packet.Refused x → writing (Wrote.Refused x) m ≡ behind r k m at s
+module _ (r : Result ℕ Why) (k : ℕ) (m : List ℕ) (at : ℕ) (s : List ℕ) where
+  pub refused_here : (x : Why) → at ≤ length m → r ≡ Err x → writing (Err x) m ≡ behind r k m at s
   unfolding where_read
-  refused_here x l e = ap (λ (y : Packet). where_read y m (put k m at s)) (sym e) ∙ within r k m at s l
+  refused_here x l e = ap (λ (y : Result ℕ Why). where_read y m (put k m at s)) (sym e) ∙ within r k m at s l
 
-  pub bad_here : (x : Fault) → at ≤ length m → r ≡ Packet.Bad x → writing (Wrote.Bad x) m ≡ behind r k m at s
+  pub good_here : (n : ℕ) → at ≤ length m → r ≡ Ok n → put k m at s ≡ behind r k m at s
   unfolding where_read
-  bad_here x l e = ap (λ (y : Packet). where_read y m (put k m at s)) (sym e) ∙ within r k m at s l
-
-  pub good_here : (n : ℕ) → at ≤ length m → r ≡ Packet.Good n → put k m at s ≡ behind r k m at s
-  unfolding where_read
-  good_here n l e = ap (λ (y : Packet). where_read y m (put k m at s)) (sym e) ∙ within r k m at s l
+  good_here n l e = ap (λ (y : Result ℕ Why). where_read y m (put k m at s)) (sym e) ∙ within r k m at s l
 
 -- ---- a record, as the code goes
-pub room_test : (used head n room : ℕ) → head + n ≤ room → leb used (room - head - n) ≡ leb (used + (head + n)) room
-room_test used head n room h = let e : room - head - n ≡ room - (head + n) = omega arith in rw e (fits_test used (head + n) room h)
-
 module _ (why n : ℕ) (m : List ℕ) (at : ℕ) (b : List ℕ) (k : ℕ) where
   own_is : k ≡ own_number why n (length m) (at + (10 + length b)) → k ≡ own_number why n (length m) (at + length (record_bytes n b))
   own_is e = rw (length_record n b) e
@@ -141,9 +155,9 @@ module _ (why n : ℕ) (m : List ℕ) (at : ℕ) (b : List ℕ) (k : ℕ) where
   pub put_own_refused : k ≡ own_number why n (length m) (at + (10 + length b)) → (k ≡ 0 → ⊥) → refused_by k m ≡ put (own_number why n (length m) (at + length (record_bytes n b))) m at (record_bytes n b)
   put_own_refused e z = put_refused k m at (record_bytes n b) z ∙ ap (λ (j : ℕ). put j m at (record_bytes n b)) (own_is e)
 
-  pub put_own_stored : (m1 : List ℕ) → k ≡ own_number why n (length m) (at + (10 + length b)) → k ≡ 0 → m1 ≡ sets m at (record_bytes n b) → writing (Wrote.Length (at + (10 + length b))) m1 ≡ put (own_number why n (length m) (at + length (record_bytes n b))) m at (record_bytes n b)
+  pub put_own_stored : (m1 : List ℕ) → k ≡ own_number why n (length m) (at + (10 + length b)) → k ≡ 0 → m1 ≡ sets m at (record_bytes n b) → writing (Ok (at + (10 + length b))) m1 ≡ put (own_number why n (length m) (at + length (record_bytes n b))) m at (record_bytes n b)
   put_own_stored m1 e z w =
-      (λ i. writing (Wrote.Length (at + sym (length_record n b) i)) (w i))
+      (λ i. writing (Ok (at + sym (length_record n b) i)) (w i))
       ∙ (put_stored k m at (record_bytes n b) z ∙ ap (λ (j : ℕ). put j m at (record_bytes n b)) (own_is e))
 
 -- ---- a packet, as the code goes
@@ -156,15 +170,15 @@ module _ (m : List ℕ) (at : ℕ) (p : List ℕ) where
   unfolding pick
   put_packet_refused e = put_refused 32 m at (length_first p) (λ z. omega arith) ∙ ap (λ (j : ℕ). put j m at (length_first p)) (sym (room_is false e))
 
-  pub put_packet_stored : (m1 m2 : List ℕ) → leb (at + (2 + length p)) (length m) ≡ true → m1 ≡ sets m at (to_le 2 (length p)) → m2 ≡ sets m1 (at + 2) p → writing (Wrote.Length (at + (2 + length p))) m2 ≡ put (room_number (length m) (at + length (length_first p))) m at (length_first p)
+  pub put_packet_stored : (m1 m2 : List ℕ) → leb (at + (2 + length p)) (length m) ≡ true → m1 ≡ sets m at (to_le 2 (length p)) → m2 ≡ sets m1 (at + 2) p → writing (Ok (at + (2 + length p))) m2 ≡ put (room_number (length m) (at + length (length_first p))) m at (length_first p)
   unfolding pick
   put_packet_stored m1 m2 e f g =
       let w : m2 ≡ sets m at (length_first p) = g ∙ (ap (λ (x : List ℕ). sets x (at + 2) p) f ∙ packet_put m p at) in
-      (λ i. writing (Wrote.Length (at + sym (length_first_lem p) i)) (w i))
+      (λ i. writing (Ok (at + sym (length_first_lem p) i)) (w i))
       ∙ (put_stored 0 m at (length_first p) refl ∙ ap (λ (j : ℕ). put j m at (length_first p)) (sym (room_is true e)))
 
 -- ---- the packet so far
-pub so_far_empty : (ed : Edition) (p : List ℕ) → length p ≡ 0 → Packet.Good 0 ≡ so_far ed p
+pub so_far_empty : (ed : Edition) (p : List ℕ) → length p ≡ 0 → Ok 0 ≡ so_far ed p
 unfolding so_far pick
 so_far_empty ed p e = rw (eq-eqb (length p) 0 e) refl
 

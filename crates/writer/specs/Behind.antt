@@ -1,10 +1,10 @@
 -- What request 4 says of packets that are written: "Reading what was written gives the fields back", of the whole packet, and record by record.
-use Rattle.std.specs.Prelude.{ℕ, ◌+◌, ◌≡◌, List, [], ◌∷◌, ◌++◌, length, take, drop}
+use Rattle.std.specs.Prelude.{ℕ, ◌+◌, ◌≡◌, List, [], ◌∷◌, ◌++◌, length, take, drop, Result, Ok, Err}
 use Rattle.editions.specs.declared.Edition.{Edition}
 use Rattle.wire.specs.Records.{Rec, rec, records}
 use Rattle.packet.specs.Packet.{frames_from, framing}
 use Rattle.writer.specs.Append.{Writing, writing, appended}
-use Rattle.writer.specs.declared.Wrote.{Wrote}
+use Rattle.packet.specs.declared.Why.{Why}
 
 -- a record that was written behind the first `at` bytes of m, l being the answer and w the memory afterwards
 pub record Grown (ed : Edition) (m : List ℕ) (at n : ℕ) (b : List ℕ) (l : ℕ) (w : List ℕ) : Type 0 where
@@ -23,11 +23,10 @@ pub record Grown (ed : Edition) (m : List ℕ) (at n : ℕ) (b : List ℕ) (l : 
 unfoldable pub next_to : (List ℕ → ℕ → Writing) → Writing → Writing
 next_to more w = go w.answer
   where
-    go : Wrote → Writing
-    go (Wrote.Length l) = more w.memory l
-    go (Wrote.Refused r) = w
-    go (Wrote.Bad f) = w
+    go : Result ℕ Why → Writing
+    go (Ok l) = more w.memory l
+    go (Err r) = w
 
 unfoldable pub appended_all : Edition → List Rec → List ℕ → ℕ → Writing
-appended_all ed [] m at = writing (Wrote.Length at) m
+appended_all ed [] m at = writing (Ok at) m
 appended_all ed (c ∷ cs) m at = next_to (appended_all ed cs) (appended ed m at c.number c.body)

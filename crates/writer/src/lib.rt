@@ -2,109 +2,104 @@
 // leaves every byte as it was.
 #![tactic(auto)]
 
-ghost use Rattle.std.specs.Prelude.{◌≡◌, ◌+◌, ◌≤◌, length, take, leb};
+ghost use Rattle.std.specs.Prelude.{◌≡◌, ◌<◌, ◌+◌, ◌≤◌, length, take, leb};
 ghost use Rattle.std.proofs.lemmas.List.Edits.{sets};
 ghost use Rattle.trips.specs.Records.{record_bytes, length_first};
-ghost use Rattle.writer.specs.Append.{writing, put, so_far, room_number, own_number, appended_as, appended, numbers_appended, packet_appended};
+ghost use Rattle.writer.specs.Append.{writing, put, so_far, room_number, message_number, Numbered, own_number, unless, appended_as, appended, numbers_appended, packet_appended};
 
 use editions::Edition;
-use fields::{Fault, Refusal};
-use packet::Packet;
-
-// The new length of the packet or recording; else a refusal by its number alone, or why and at which byte what was read is bad.
-#[derive(Clone, Copy)]
-pub enum Wrote {
-    Length(usize),
-    Refused(Refusal),
-    Bad(Fault),
-}
+use fields::Refusal;
+use packet::Why;
+use wire::Number;
 
 // Whether a head and n bytes fit behind those that are used. No sum of them need fit.
 fn room_for(room: usize, head: usize, used: usize, n: usize) -> bool
     ensures { result ≡ leb (used + (head + n)) room }
 {
-    if room < head {
-        return false;
-    }
-    let left = room - head;
-    if left < n {
-        return false;
-    }
-    used <= left - n
+    room.checked_sub(head)
+        .and_then(|left| left.checked_sub(n))
+        .is_some_and(|left| used <= left)
 }
 
-// What refuses a record with a body of n bytes: its number, its message (why), the packet's size, the memory's.
-fn own_number(why: u8, number: u64, room: usize, used: usize, n: usize) -> u8
-    ensures { result ≡ own_number why number room (used + (10 + n)) }
+// Whether nothing refuses a record with a body of n bytes: its number, its message, the packet's size, the memory's.
+fn allowed(
+    number: u64,
+    message: Result<(), Refusal>,
+    room: usize,
+    used: usize,
+    n: usize,
+) -> Result<(), Refusal>
+    requires { Numbered message }
+    ensures { result ≡ unless (own_number (message_number message) number room (used + (10 + n))) }
 {
     if !packet::number_ok(number) {
-        return 5;
+        return Err(Refusal { number: 5 });
     }
-    if why != 0 {
-        return why;
-    }
+    message?;
     if !room_for(facts::PACKET_MOST, 10, used, n) {
-        return 1;
+        return Err(Refusal { number: 1 });
     }
     if !room_for(room, 10, used, n) {
-        return 32;
+        return Err(Refusal { number: 32 });
     }
-    0
+    Ok(())
 }
 
 // The packet so far, as reading judges it; an empty one is good.
-fn so_far(e: Edition, memory: &[u8], used: usize) -> Packet
+fn so_far(e: Edition, memory: &[u8], used: usize) -> Result<usize, Why>
     requires { used ≤ length memory.now }
     ensures { result ≡ so_far e (take used memory.now) }
 {
     if used == 0 {
-        return Packet::Good(0);
+        return Ok(0);
     }
     packet::read_packet(e, &memory[..used])
 }
 
 // The record's bytes, from a place on.
 fn put_record(memory: &mut [u8], at: usize, number: u64, body: &[u8])
-    requires { at + (10 + length body.now) ≤ length memory.old }
+    requires room { at + (10 + length body.now) ≤ length memory.old }
+    requires small { length body.now < 65536 }
     ensures { memory.new ≡ sets memory.old at (record_bytes number body.now) }
 {
-    wire::put_le(memory, at, 8, number);
-    wire::put_le(memory, at + 8, 2, body.len() as u64);
+    number.put(memory, at);
+    (body.len() as u16).put(memory, at + 8);
     wire::put_at(memory, at + 10, body);
 }
 
-// The record behind a good packet so far, where nothing refuses it.
-fn put_own(memory: &mut [u8], used: usize, number: u64, why: u8, body: &[u8]) -> Wrote
-    ensures { writing result memory.new ≡ put (own_number why number (length memory.old) (used + length (record_bytes number body.now))) memory.old used (record_bytes number body.now) }
-{
-    let k = own_number(why, number, memory.len(), used, body.len());
-    if k != 0 {
-        return Wrote::Refused(Refusal { number: k });
-    }
-    put_record(memory, used, number, body);
-    Wrote::Length(used + (10 + body.len()))
-}
-
-// A record, whose message is refused by why or is the body, behind a packet so far.
-fn append_as(e: Edition, memory: &mut [u8], used: usize, number: u64, why: u8, body: &[u8]) -> Wrote
-    ensures { writing result memory.new ≡ appended_as e why memory.old used number body.now }
+// A record, whose message is refused or is the body, behind a packet so far.
+fn append_as(
+    e: Edition,
+    memory: &mut [u8],
+    used: usize,
+    number: u64,
+    message: Result<(), Refusal>,
+    body: &[u8],
+) -> Result<usize, Why>
+    requires { Numbered message }
+    ensures { writing result memory.new ≡ appended_as e (message_number message) memory.old used number body.now }
 {
     if memory.len() < used {
-        return Wrote::Refused(Refusal { number: 32 });
+        return Err(Why::Alone(Refusal { number: 32 }));
     }
-    match so_far(e, memory, used) {
-        Packet::Refused(r) => Wrote::Refused(r),
-        Packet::Bad(f) => Wrote::Bad(f),
-        Packet::Good(_) => put_own(memory, used, number, why, body),
-    }
+    so_far(e, memory, used)?;
+    allowed(number, message, memory.len(), used, body.len())?;
+    put_record(memory, used, number, body);
+    Ok(used + (10 + body.len()))
 }
 
 // A record behind a packet so far: refused by 32, then as reading refuses the packet so far, then by 5, 3 or 4, 1 and 32.
-pub fn append(e: Edition, memory: &mut [u8], used: usize, number: u64, body: &[u8]) -> Wrote
+pub fn append(
+    e: Edition,
+    memory: &mut [u8],
+    used: usize,
+    number: u64,
+    body: &[u8],
+) -> Result<usize, Why>
     ensures { writing result memory.new ≡ appended e memory.old used number body.now }
 {
-    let c = body::judge(e, body);
-    append_as(e, memory, used, number, (c % 256) as u8, body)
+    let message = body::judge(e, body).map_err(|f| Refusal { number: f.number });
+    append_as(e, memory, used, number, message, body)
 }
 
 // The same from eight numbers and 28 bytes of text: refused by 3 where the first is no message's type, and by 4 also for a number that its
@@ -116,38 +111,35 @@ pub fn append_numbers(
     number: u64,
     n: &[u64; 8],
     t: &[u8; 28],
-) -> Wrote
+) -> Result<usize, Why>
     ensures { writing result memory.new ≡ numbers_appended e memory.old used number n.now t.now }
 {
-    let d = numbers::draft_of(e, n, t);
-    let len = d.len;
-    let bytes = d.bytes;
-    append_as(e, memory, used, number, d.why, &bytes[..len])
+    match numbers::draft_of(e, n, t) {
+        Ok(d) => append_as(e, memory, used, number, Ok(()), d.body()),
+        Err(r) => append_as(e, memory, used, number, Err(r), &[]),
+    }
 }
 
 // The packet behind its length, where it fits.
-fn put_packet(memory: &mut [u8], used: usize, p: &[u8]) -> Wrote
+fn put_packet(memory: &mut [u8], used: usize, p: &[u8]) -> Result<usize, Why>
+    requires { length p.now < 65536 }
     ensures { writing result memory.new ≡ put (room_number (length memory.old) (used + length (length_first p.now))) memory.old used (length_first p.now) }
 {
-    let n = p.len();
-    if !room_for(memory.len(), 2, used, n) {
-        return Wrote::Refused(Refusal { number: 32 });
+    if !room_for(memory.len(), 2, used, p.len()) {
+        return Err(Why::Alone(Refusal { number: 32 }));
     }
-    wire::put_le(memory, used, 2, n as u64);
+    (p.len() as u16).put(memory, used);
     wire::put_at(memory, used + 2, p);
-    Wrote::Length(used + (2 + n))
+    Ok(used + (2 + p.len()))
 }
 
 // A packet behind a recording so far: refused by 32, then as reading refuses the packet, then by 32.
-pub fn append_packet(e: Edition, memory: &mut [u8], used: usize, p: &[u8]) -> Wrote
+pub fn append_packet(e: Edition, memory: &mut [u8], used: usize, p: &[u8]) -> Result<usize, Why>
     ensures { writing result memory.new ≡ packet_appended e memory.old used p.now }
 {
     if memory.len() < used {
-        return Wrote::Refused(Refusal { number: 32 });
+        return Err(Why::Alone(Refusal { number: 32 }));
     }
-    match packet::read_packet(e, p) {
-        Packet::Refused(r) => Wrote::Refused(r),
-        Packet::Bad(f) => Wrote::Bad(f),
-        Packet::Good(_) => put_packet(memory, used, p),
-    }
+    packet::read_packet(e, p)?;
+    put_packet(memory, used, p)
 }

@@ -1,17 +1,10 @@
+-- The number and the Symbol Updates of a conversion; an offset is one of reading, and small.
+-- Assumes nothing.
 use mathlib.Core.Path.{sym, ap, ◌∙◌}
-use native.Mathlib.Omega.{arith}
 use Rattle.conversion.specs.Packet.{Conversion}
-use Rattle.api.proofs.Converting.{convert_small, convert_told, convert_bad}
+use Rattle.api.proofs.Converting.{convert_small}
+use Rattle.api.proofs.Telling.{small_err}
 use Rattle.api.proofs.rimeheath_convert.Goals as goal
 
-pub with_offset-requires : goal.with_offset-requires
-with_offset-requires c = omega (arith, convert_small _ _ _ _ (sym (ap (λ (x : Conversion). x.answer) c.convert.ensures) ∙ c.in-Bad.is))
-
-pub returns-in-Refused : goal.returns-in-Refused
-returns-in-Refused c = convert_told _ _ _ _ c.in-Refused.is (rw (c.edition_of-f.ensures, c.edition_of-t.ensures) at c.convert.ensures) _
-
-pub returns-in-Bad : goal.returns-in-Bad
-returns-in-Bad c = convert_bad _ _ _ _ c.in-Bad.is (rw (c.edition_of-f.ensures, c.edition_of-t.ensures) at c.convert.ensures) _ _ c.with_offset.ensures
-
-pub returns-in-Updates : goal.returns-in-Updates
-returns-in-Updates c = convert_told _ _ _ _ c.in-Updates.is (rw (c.edition_of-f.ensures, c.edition_of-t.ensures) at c.convert.ensures) c.args.updates.now
+pub code-requires : goal.code-requires
+code-requires c = rw c.store.ensures.done (small_err _ (λ f e. convert_small _ _ _ f (sym (ap (λ (x : Conversion). x.answer) c.convert-converted.ensures) ∙ e)))

@@ -1,22 +1,9 @@
--- Each answer to a packet is handed on; an offset in one is small.
+-- The number and the records of what was read; an offset in a packet is small.
 -- Assumes nothing.
 use mathlib.Core.Path.{sym, ◌∙◌}
-use native.Mathlib.Omega.{arith}
 use Rattle.packet.proofs.Places.{packet_small}
-use Rattle.api.specs.Calls.{packet_answer}
-use Rattle.api.proofs.Handing.{packet_handed, packet_bad}
+use Rattle.api.proofs.Telling.{small_err}
 use Rattle.api.proofs.rimeheath_packet.Goals as goal
 
-pub with_offset-requires : goal.with_offset-requires
-with_offset-requires c = omega (arith, packet_small _ c.args.p.now _ (sym c.read_packet.ensures ∙ c.in-Bad.is))
-
-pub returns-in-Refused : goal.returns-in-Refused
-unfolding packet_answer
-returns-in-Refused c = packet_handed _ _ _ c.in-Refused.is (rw c.edition_of.ensures at c.read_packet.ensures) c.args.records.now
-
-pub returns-in-Bad : goal.returns-in-Bad
-returns-in-Bad c = packet_bad _ _ _ c.in-Bad.is (rw c.edition_of.ensures at c.read_packet.ensures) _ _ c.with_offset.ensures
-
-pub returns-in-Good : goal.returns-in-Good
-unfolding packet_answer
-returns-in-Good c = packet_handed _ _ _ c.in-Good.is (rw c.edition_of.ensures at c.read_packet.ensures) c.args.records.now
+pub code-requires : goal.code-requires
+code-requires c = rw c.store.ensures.done (small_err _ (λ f e. packet_small _ c.args.p.now f (sym c.read_packet.ensures ∙ e)))

@@ -1,23 +1,12 @@
--- A refused packet leaves state and account; an accepted one tells both.
+-- The number, the state and the account of what was received; an offset is one of reading, and small.
 -- Assumes nothing.
 use mathlib.Core.Path.{sym, ap, ◌∙◌}
-use native.Mathlib.Omega.{arith}
 use Rattle.packet.proofs.Places.{packet_small}
 use Rattle.receiver.specs.Lent.{Handled}
 use Rattle.receiver.proofs.Places.{bad_read}
-use Rattle.api.specs.Calls.{receive_answer}
-use Rattle.api.proofs.Handing.{receive_handed, receive_bad, receive_accepted}
+use Rattle.api.proofs.Telling.{small_err}
 use Rattle.api.proofs.rimeheath_receive.Goals as goal
+use Rattle.api.proofs.rimeheath_receive.Goals.{then-is_ok, else-is_ok}
 
-pub with_offset-requires : goal.with_offset-requires
-with_offset-requires c = omega (arith, packet_small _ c.args.p.now _ (bad_read _ c.args.p.now _ (ap (λ (x : Handled). x.answer) (sym c.receive-r.ensures) ∙ c.in-Bad.is)))
-
-pub returns-in-Refused : goal.returns-in-Refused
-unfolding receive_answer
-returns-in-Refused c = receive_handed _ _ _ _ _ _ _ (rw c.state_in.ensures at c.receive-r.ensures) c.args.state.now c.args.account.now _ c.in-Refused.is
-
-pub returns-in-Bad : goal.returns-in-Bad
-returns-in-Bad c = receive_bad _ _ _ _ _ _ _ (rw c.state_in.ensures at c.receive-r.ensures) _ _ _ c.in-Bad.is _ c.with_offset.ensures
-
-pub returns-in-Accepted : goal.returns-in-Accepted
-returns-in-Accepted c = receive_accepted _ _ _ _ _ _ _ (rw c.state_in.ensures at c.receive-r.ensures) _ _ _ c.in-Accepted.is _ c.state_numbers.ensures _ c.account_numbers.ensures
+pub code-requires : goal.code-requires
+code-requires c = rw c.store-done.ensures.done (small_err _ (λ f e. packet_small _ c.args.p.now f (bad_read _ c.args.p.now f (ap (λ (x : Handled). x.answer) (sym c.receive-r.ensures) ∙ e))))

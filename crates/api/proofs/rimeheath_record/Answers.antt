@@ -1,18 +1,10 @@
--- Both answers to a record are handed on; an offset in one is small.
+-- The number and the head of what was read; an offset in a record is small.
 -- Assumes nothing.
 use mathlib.Core.Path.{sym, ◌∙◌}
 use native.Mathlib.Omega.{arith}
 use Rattle.packet.proofs.Places.{record_small}
-use Rattle.api.specs.Calls.{record_answer}
-use Rattle.api.proofs.Handing.{record_handed, record_bad}
+use Rattle.api.proofs.Telling.{refused}
 use Rattle.api.proofs.rimeheath_record.Goals as goal
 
 pub with_offset-requires : goal.with_offset-requires
-with_offset-requires c = omega (arith, record_small _ c.args.rest.now _ (sym c.in-Bad.is ∙ c.read_record.ensures))
-
-pub returns-in-Bad : goal.returns-in-Bad
-returns-in-Bad c = record_bad _ _ _ c.in-Bad.is (rw c.edition_of.ensures at c.read_record.ensures) _ _ c.with_offset.ensures
-
-pub returns-in-Good : goal.returns-in-Good
-unfolding record_answer
-returns-in-Good c = record_handed _ _ _ c.in-Good.is (rw c.edition_of.ensures at c.read_record.ensures) c.args.head.now
+with_offset-requires c = omega (arith, record_small _ c.args.rest.now _ (sym (refused _ _ (sym c.store.ensures.done ∙ c.in-Err.is)) ∙ c.read_record.ensures))

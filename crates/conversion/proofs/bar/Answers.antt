@@ -1,14 +1,12 @@
--- The reader of the edition asked for decides: it takes the packet, whose byte behind the fault is then 0 (bar_taken), or refuses it (bar_refused, bar_bad).
+-- The reader of the edition asked for decides: it takes the packet, whose byte behind the fault is then 0 (bar_taken), or refuses it (bar_refused).
 -- Assumes nothing.
 use mathlib.Core.Path.{sym, ◌∙◌}
-use Rattle.conversion.proofs.Exits.{bar_taken, bar_refused, bar_bad}
+use Rattle.retype.specs.Retyped.{asked_of}
+use Rattle.conversion.proofs.Exits.{bar_taken, bar_refused}
 use Rattle.conversion.proofs.bar.Goals as goal
 
-pub returns-in-Good : goal.returns-in-Good
-returns-in-Good c = λ a. bar_taken a c.args.f c.args.to c.args.p.now _ _ (sym c.read_packet.ensures ∙ c.in-Good.is) c.put_le.ensures
+pub returns-then-is_err : goal.returns-then-is_err
+returns-then-is_err c = bar_refused (asked_of c.args.a.now) c.args.f c.args.p.now c.read_packet.result c.read_packet.ensures (sym c.is_err.ensures.value ∙ c.if-is_err.true)
 
-pub returns-in-Refused : goal.returns-in-Refused
-returns-in-Refused c = λ a. bar_refused a c.args.f c.args.to c.args.p.now _ (sym c.read_packet.ensures ∙ c.in-Refused.is)
-
-pub returns-in-Bad : goal.returns-in-Bad
-returns-in-Bad c = λ a. bar_bad a c.args.f c.args.to c.args.p.now _ (sym c.read_packet.ensures ∙ c.in-Bad.is)
+pub returns : goal.returns
+returns c = rw c.put.ensures (bar_taken (asked_of c.args.a.now) c.args.f c.args.p.now c.read_packet.result c.read_packet.ensures (sym c.is_err.ensures.value ∙ c.if-is_err.false))

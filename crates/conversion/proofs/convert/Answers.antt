@@ -1,25 +1,23 @@
--- Each return is an answer of the definition, by what was judged before it and what the reader said (answer_6 and its like).
+-- What is asked for is judged first (answer_not), and then the reader of its own edition decides (answer_bad, answer_good).
 -- Assumes nothing.
-use mathlib.Core.Path.{sym, ◌∙◌}
-use borrow.Author.Tests.{not-true, not-false}
-use Rattle.retype.specs.Retyped.{asked}
-use Rattle.conversion.proofs.Exits.{packet_is, answer_6, answer_4, answer_refused, answer_bad, answer_good}
+use mathlib.Core.Path.{sym}
+use Rattle.std.proofs.lemmas.Result.{err_from_is_err_and}
+use Rattle.retype.specs.Retyped.{asked_of}
+use Rattle.conversion.proofs.Exits.{packet_is, answer_not, answer_bad, answer_good}
 use Rattle.conversion.proofs.convert.Goals as goal
 
-pub returns-then-not-whole_exceptions : goal.returns-then-not-whole_exceptions
-returns-then-not-whole_exceptions c = answer_6 c.args.from (asked c.args.to c.args.all c.args.others.now) c.args.p.now (sym c.whole_exceptions.ensures ∙ not-true c.whole_exceptions.result c.if-not-whole_exceptions.true-raw)
+pub returns-in_err-judge : goal.returns-in_err-judge
+returns-in_err-judge c =
+    let p = err_from_is_err_and c.from_residual.result c.from_residual.ensures.1 in
+    rw (p.1, p.2) (answer_not c.args.from (asked_of c.args.a.now) c.args.p.now c.in_err-judge.field-0.0 (c.in_err-judge.ensures))
 
-pub returns-then-not-types_ok : goal.returns-then-not-types_ok
-returns-then-not-types_ok c = answer_4 c.args.from (asked c.args.to c.args.all c.args.others.now) c.args.p.now (sym c.whole_exceptions.ensures ∙ not-false c.whole_exceptions.result c.if-not-whole_exceptions.false-raw) (sym c.types_ok.ensures ∙ not-true c.types_ok.result c.if-not-types_ok.true-raw)
+pub returns-in_err-read_packet : goal.returns-in_err-read_packet
+returns-in_err-read_packet c =
+    let p = err_from_is_err_and c.from_residual-in_err-read_packet.result c.from_residual-in_err-read_packet.ensures.1 in
+    rw (p.1, p.2) (answer_bad c.args.from (asked_of c.args.a.now) c.args.p.now (c.in_ok-judge.ensures) c.in_err-read_packet.field-0.0 (sym (c.in_err-read_packet.ensures)))
 
 pub rewrite-requires : goal.rewrite-requires
-rewrite-requires c = packet_is c.args.from c.args.p.now _ (sym c.read_packet.ensures ∙ c.in-Good.is)
+rewrite-requires c = packet_is c.args.from c.args.p.now _ (sym (c.in_ok-read_packet.ensures))
 
-pub returns-in-Refused : goal.returns-in-Refused
-returns-in-Refused c = answer_refused c.args.from (asked c.args.to c.args.all c.args.others.now) c.args.p.now (sym c.whole_exceptions.ensures ∙ not-false c.whole_exceptions.result c.if-not-whole_exceptions.false-raw) (sym c.types_ok.ensures ∙ not-false c.types_ok.result c.if-not-types_ok.false-raw) _ (sym c.read_packet.ensures ∙ c.in-Refused.is)
-
-pub returns-in-Bad : goal.returns-in-Bad
-returns-in-Bad c = answer_bad c.args.from (asked c.args.to c.args.all c.args.others.now) c.args.p.now (sym c.whole_exceptions.ensures ∙ not-false c.whole_exceptions.result c.if-not-whole_exceptions.false-raw) (sym c.types_ok.ensures ∙ not-false c.types_ok.result c.if-not-types_ok.false-raw) _ (sym c.read_packet.ensures ∙ c.in-Bad.is)
-
-pub returns-in-Good : goal.returns-in-Good
-returns-in-Good c = answer_good c.args.from (asked c.args.to c.args.all c.args.others.now) c.args.p.now (sym c.whole_exceptions.ensures ∙ not-false c.whole_exceptions.result c.if-not-whole_exceptions.false-raw) (sym c.types_ok.ensures ∙ not-false c.types_ok.result c.if-not-types_ok.false-raw) _ c.rewrite.result _ (sym c.read_packet.ensures ∙ c.in-Good.is) c.rewrite.ensures
+pub returns : goal.returns
+returns c = answer_good c.args.from (asked_of c.args.a.now) c.args.p.now (c.in_ok-judge.ensures) _ c.rewrite.result _ (sym (c.in_ok-read_packet.ensures)) c.rewrite.ensures

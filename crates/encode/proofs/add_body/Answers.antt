@@ -6,4 +6,4 @@ use borrow.Author.Rules.{rules}
 use Rattle.encode.proofs.add_body.Goals as goal
 
 pub returns : goal.returns
-returns c = rw (c.put_four-2.ensures, c.put_four.ensures, c.put_le.ensures, c.put_byte.ensures, c.front_id.ensures) (body_written add_order c.args.m (search rules))
+returns c = rw (c.put-4.ensures, c.put-3.ensures, c.put-2.ensures, c.put.ensures, c.front_id.ensures) (body_written add_order c.args.m (search rules))

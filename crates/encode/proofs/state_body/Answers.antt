@@ -6,4 +6,4 @@ use borrow.Author.Rules.{rules}
 use Rattle.encode.proofs.state_body.Goals as goal
 
 pub returns : goal.returns
-returns c = rw (c.put_at-2.ensures, c.put_at.ensures, c.put_four.ensures, c.put_byte.ensures) (body_written system_state c.args.m (search rules))
+returns c = rw (c.put_at-2.ensures, c.put_at.ensures, c.put-2.ensures, c.put.ensures) (body_written system_state c.args.m (search rules))

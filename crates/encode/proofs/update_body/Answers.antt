@@ -19,4 +19,4 @@ returns c =
     let good = c.well_formed in
     let m = c.args.m in
     let fit : Fit symbol_update m = (omega (arith, good), (omega (arith, good), (search (rules, good), (omega (arith, good), (omega (arith, good), (omega (arith, good), (omega (arith, good), (search (rules, good), (search (rules, good), (omega (arith, good), tt)))))))))) in
-    rw (c.put_byte.ensures, c.put_at-4.ensures, c.put_at-3.ensures, c.put_le.ensures, c.put_at-2.ensures, c.put_at.ensures, c.front.ensures) (body_written symbol_update m fit)
+    rw (c.put-2.ensures, c.put_at-4.ensures, c.put_at-3.ensures, c.put.ensures, c.put_at-2.ensures, c.put_at.ensures, c.front.ensures) (body_written symbol_update m fit)

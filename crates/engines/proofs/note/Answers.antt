@@ -1,12 +1,14 @@
-use mathlib.Core.Path.{refl}
-use native.Mathlib.Omega.{arith}
+use borrow.Author.Tests.{eqb-true}
+use mathlib.Core.Path.{refl, sym, ap, ◌∙◌}
+use Prim.Native.Nat.{ℕ}
 use Rattle.rows.specs.Rows.{rows}
-use Rattle.engines.specs.Engines.{noted}
+use Rattle.index.specs.Index.{each_row}
+use Rattle.engines.specs.Engines.{left, noted}
 use Rattle.engines.proofs.Alone.{noted_none}
 use Rattle.engines.proofs.note.Goals as goal
 
-pub returns-then-ix-eq0 : goal.returns-then-ix-eq0
-returns-then-ix-eq0 c = noted_none c.args.w (rows c.args.t.now) c.args.ix.now (omega arith)
+pub returns-then-is_empty : goal.returns-then-is_empty
+returns-then-is_empty c = noted_none c.args.w (rows c.args.t.now) c.args.ix.now (eqb-true _ _ (sym c.if-is_empty.ensures))
 
 pub returns-in-Keep : goal.returns-in-Keep
 unfolding noted
@@ -18,4 +20,4 @@ returns-in-Put c = rw c.in-Put.is c.note_put.ensures
 
 pub returns-in-Clear : goal.returns-in-Clear
 unfolding noted
-returns-in-Clear c = rw c.in-Clear.is c.note_clear.ensures
+returns-in-Clear c = rw c.in-Clear.is (c.note_clear.ensures ∙ ap (λ (s : ℕ). each_row (left s) 0 (rows c.args.t.now) c.args.ix.now) c.from.ensures)

@@ -1,8 +1,6 @@
-use borrow.Author.Rules.{rules}
-use mathlib.Core.Path.{◌≡◌, refl, sym, ap, ◌∙◌}
-use Prim.Native.Nat.{◌+◌}
-use native.Mathlib.Omega.{arith}
-use lib.ListN.{get_or, drop}
+-- What row i on leaves of the index is what all rows leave.
+-- Assumes nothing.
+use Rattle.std.proofs.Common.{arith, get_or, drop, ◌+◌, ◌≡◌, sym, ap, refl, ◌∙◌}
 use Rattle.rows.specs.declared.Row.{Row}
 use Rattle.rows.specs.Rows.{rows, zero_row}
 use Rattle.rows.proofs.Tables.{length_rows}
@@ -12,23 +10,17 @@ use Rattle.engines.specs.Engines.{left}
 use Rattle.engines.proofs.note_clear.Goals as goal
 
 pub loop-i-init : goal.loop-i-init
-loop-i-init c = (omega arith, omega arith, refl, refl)
-
-pub overflow_add-i : goal.overflow_add-i
-overflow_add-i c = omega arith
-
-pub loop-i-smaller : goal.loop-i-smaller
-loop-i-smaller c = omega arith
+loop-i-init c = record { end = omega arith; rest = refl }
 
 pub loop-i-preserved : goal.loop-i-preserved
 loop-i-preserved c =
     let a = c.args in
     let l = c.loop-i in
     let e : c.note_row.new.ix ≡ left a.symbol l.ix (get_or (rows a.t.now) l.i zero_row) l.i = c.note_row.ensures ∙ ap (λ (r : Row). left a.symbol l.ix r l.i) c.row_at.ensures in
-    (omega arith, omega arith, search rules, l.invariant.3 ∙ each_more (left a.symbol) (rows a.t.now) l.i l.ix (rw length_rows (omega arith)) ∙ ap (each_row (left a.symbol) (l.i + 1) (drop (l.i + 1) (rows a.t.now))) (sym e))
+    record {
+      end = l.invariant.end;
+      rest = l.invariant.rest ∙ each_more (left a.symbol) (rows a.t.now) l.i l.ix (rw length_rows (omega arith)) ∙ ap (each_row (left a.symbol) (l.i + 1) (drop (l.i + 1) (rows a.t.now))) (sym e);
+    }
 
 pub returns : goal.returns
-returns c =
-    let a = c.args in
-    let l = c.loop-i in
-    sym (l.invariant.3 ∙ each_end (left a.symbol) (rows a.t.now) l.i l.ix (rw length_rows (omega arith)))
+returns c = sym (c.loop-i.invariant.rest ∙ each_end (left c.args.symbol) (rows c.args.t.now) c.loop-i.i c.loop-i.ix (rw length_rows (omega arith)))

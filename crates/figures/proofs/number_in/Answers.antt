@@ -1,30 +1,48 @@
--- The number n of the digits before i, at most the most, goes on as all the digits do; each turn takes one digit or finds that none of it is a number.
+-- Each turn takes one digit, or finds that none of it is a number: no digit, or more than the most, as whatever passes 64 bits is.
 -- Assumes nothing.
-use native.Mathlib.Omega.{arith}
-use mathlib.Core.Path.{refl}
-use Rattle.figures.proofs.NumberLaws.{number_none, read_below, read_above, read_past, read_more, read_end}
+use Rattle.std.proofs.Common.{◌≡◌, ◌≤◌, ◌<◌, ◌*◌, ◌+◌, length, ◌∙◌, refl, arith, rules}
+use Rattle.figures.proofs.NumberLaws.{number_none, a_digit, read_other, read_past, read_more, read_end}
 use Rattle.figures.proofs.number_in.Goals as goal
 
-pub returns-then-s-lt1 : goal.returns-then-s-lt1
-returns-then-s-lt1 c = number_none c.args.most c.args.s.now c.if-s-lt1.true
+pub returns-then-is_empty : goal.returns-then-is_empty
+returns-then-is_empty c = let none : length c.args.s.now ≡ 0 = search rules in number_none c.args.most c.args.s.now (omega arith)
 
-pub loop-i-init : goal.loop-i-init
-loop-i-init c = (omega arith, omega arith, refl, refl)
+pub loop-x-init : goal.loop-x-init
+loop-x-init c = (omega arith, omega arith, refl, refl)
 
-pub returns-then-x-lt48 : goal.returns-then-x-lt48
-returns-then-x-lt48 c = let l = c.loop-i in read_below c.args.most c.args.s.now l.n l.i c.if-s-lt1.false l.invariant (omega arith) c.if-x-lt48.true
+pub returns-in_err-d : goal.returns-in_err-d
+returns-in_err-d c =
+    let l = c.loop-x in
+    let some : 1 ≤ length c.args.s.now = omega arith in
+    c.from_residual.ensures ∙ read_other c.args.most c.args.s.now l.n l.x-index some l.invariant (omega arith) (rw c.from.ensures at c.in_err-d.ensures.cases)
 
-pub returns-then-x-gt57 : goal.returns-then-x-gt57
-returns-then-x-gt57 c = let l = c.loop-i in read_above c.args.most c.args.s.now l.n l.i c.if-s-lt1.false l.invariant (omega arith) c.if-x-lt48.false c.if-x-gt57.true
+pub returns-in_err-checked_mul : goal.returns-in_err-checked_mul
+returns-in_err-checked_mul c =
+    let l = c.loop-x in
+    let some : 1 ≤ length c.args.s.now = omega arith in
+    let digit = rw c.from.ensures at (a_digit c.from.result c.in_ok-d.d c.in_ok-d.ensures.value c.in_ok-d.ensures.cases) in
+    c.from_residual-in_err-checked_mul.ensures ∙ read_past c.args.most c.args.s.now l.n l.x-index some l.invariant c.in_ok-d.d (l.n * 10 + c.in_ok-d.d) (omega arith) digit refl (omega (arith, c.in_err-checked_mul.ensures, c.ranges.most))
 
-pub returns-then-most-d : goal.returns-then-most-d
-returns-then-most-d c = let l = c.loop-i in read_past c.args.most c.args.s.now l.n l.i c.if-s-lt1.false l.invariant (omega arith) (omega arith)
+pub returns-in_err-n : goal.returns-in_err-n
+returns-in_err-n c =
+    let l = c.loop-x in
+    let some : 1 ≤ length c.args.s.now = omega arith in
+    let digit = rw c.from.ensures at (a_digit c.from.result c.in_ok-d.d c.in_ok-d.ensures.value c.in_ok-d.ensures.cases) in
+    c.from_residual-in_err-n.ensures ∙ read_past c.args.most c.args.s.now l.n l.x-index some l.invariant c.in_ok-d.d (l.n * 10 + c.in_ok-d.d) (omega arith) digit refl (omega (arith, c.in_ok-checked_mul.ensures, c.in_err-n.ensures, c.ranges.most))
 
-pub returns-then-most-d-2 : goal.returns-then-most-d-2
-returns-then-most-d-2 c = let l = c.loop-i in read_past c.args.most c.args.s.now l.n l.i c.if-s-lt1.false l.invariant (omega arith) (omega arith)
+pub returns-then-most-n : goal.returns-then-most-n
+returns-then-most-n c =
+    let l = c.loop-x in
+    let some : 1 ≤ length c.args.s.now = omega arith in
+    let digit = rw c.from.ensures at (a_digit c.from.result c.in_ok-d.d c.in_ok-d.ensures.value c.in_ok-d.ensures.cases) in
+    read_past c.args.most c.args.s.now l.n l.x-index some l.invariant c.in_ok-d.d c.in_ok-n.n (omega arith) digit (omega (arith, c.in_ok-checked_mul.ensures, c.in_ok-n.ensures)) (omega arith)
 
-pub loop-i-preserved : goal.loop-i-preserved
-loop-i-preserved c = let l = c.loop-i in read_more c.args.most c.args.s.now l.n l.i c.if-s-lt1.false l.invariant (omega arith) c.if-x-lt48.false c.if-x-gt57.false (omega arith)
+pub loop-x-preserved : goal.loop-x-preserved
+loop-x-preserved c =
+    let l = c.loop-x in
+    let some : 1 ≤ length c.args.s.now = omega arith in
+    let digit = rw c.from.ensures at (a_digit c.from.result c.in_ok-d.d c.in_ok-d.ensures.value c.in_ok-d.ensures.cases) in
+    read_more c.args.most c.args.s.now l.n l.x-index some l.invariant c.in_ok-d.d c.in_ok-n.n (omega arith) digit (omega (arith, c.in_ok-checked_mul.ensures, c.in_ok-n.ensures)) (omega arith)
 
 pub returns : goal.returns
-returns c = let l = c.loop-i in read_end c.args.most c.args.s.now l.n l.i c.if-s-lt1.false l.invariant (omega arith)
+returns c = let some : 0 < length c.args.s.now = search rules in let l = c.loop-x in read_end c.args.most c.args.s.now l.n l.x-index (omega arith) l.invariant (omega arith)

@@ -1,15 +1,12 @@
--- Where eight numbers are there, the answer is their eight tests.
+-- Numbers or-ed are 0 exactly if each is.
 -- Assumes nothing.
-use mathlib.Core.Path.{sym}
-use mathlib.Core.Bool.{true≢false}
-use Rattle.index.proofs.Cases.{eight_zero}
+use Rattle.std.proofs.Common.{rules, ◌≡◌, ap, ◌∙◌}
+use Rattle.std.specs.Prelude.{fold, bit_or}
+use lib.Dec.{eqb}
+use Rattle.index.proofs.Cases.{zeros_or}
 use Rattle.index.proofs.none_in.Goals as goal
 
-pub returns-then-ix-lt8 : goal.returns-then-ix-lt8
-returns-then-ix-lt8 c = λ e. absurd (true≢false (sym e))
-
-pub returns-then-ix-p : goal.returns-then-ix-p
-returns-then-ix-p c = λ e. absurd (true≢false (sym e))
-
 pub returns : goal.returns
-returns c = λ e. eight_zero c.args.ix.now c.args.p e
+returns c =
+    let e : c.fold.result ≡ fold bit_or 0 c.args.eight.now = search rules in
+    ap (λ n. eqb n 0) e ∙ zeros_or 0 c.args.eight.now

@@ -1,29 +1,21 @@
 -- Eight blocks without a free row are passed at once, and the search from there on gives what the whole search gives.
 -- Assumes nothing.
-use mathlib.Core.Path.{◌≡◌, ◌∙◌}
-use Prim.Native.Nat.{◌+◌}
-use native.Mathlib.Omega.{arith}
-use borrow.Author.Tests.{not-false}
-use Rattle.index.proofs.Cases.{block_start, blocks_on}
+use Rattle.std.proofs.Common.{rules, tests, arith, ◌==◌, ℕ, ap, ◌∙◌}
+use Rattle.std.specs.List.{prefix_len, list_all}
+use Rattle.std.proofs.lemmas.List.Folds.{length-prefix_len}
+use Rattle.std.proofs.lemmas.Iterator.{YieldsList-from_slice}
+use Rattle.std.proofs.lemmas.Iterator.Search.{YieldsList-from_take_while}
+use Rattle.std.proofs.lemmas.Iterator.Consumers.{YieldsList-at, count_from_yields_List}
+use Rattle.index.proofs.Cases.{block_start, eights_on}
 use Rattle.index.proofs.skipped.Goals as goal
 
-pub loop-b-init : goal.loop-b-init
-loop-b-init c = (omega arith, block_start c.args.ix.now)
-
-pub overflow_add-b : goal.overflow_add-b
-overflow_add-b c = omega arith
-
-pub returns-then-not-none_in : goal.returns-then-not-none_in
-returns-then-not-none_in c = (omega arith, c.loop-b.invariant.1)
-
-pub overflow_add-b-in-loop-b : goal.overflow_add-b-in-loop-b
-overflow_add-b-in-loop-b c = omega arith
-
-pub loop-b-smaller : goal.loop-b-smaller
-loop-b-smaller c = omega arith
-
-pub loop-b-preserved : goal.loop-b-preserved
-loop-b-preserved c = (omega arith, c.loop-b.invariant.1 ∙ blocks_on c.args.ix.now 8 c.loop-b.b (omega arith) (λ k h. let q : 32769 + c.loop-b.b + k ≡ 32769 + (c.loop-b.b + k) = omega arith in rw (← q) (c.none_in.ensures (not-false c.none_in.result c.if-not-none_in.false-raw) k h)))
+pub returns-in_default : goal.returns-in_default
+returns-in_default c = (omega arith, block_start c.args.ix.now)
 
 pub returns : goal.returns
-returns c = (omega arith, c.loop-b.invariant.1)
+returns c =
+    let p = list_all {X = ℕ} (λ n. n == 0) in
+    let cs = c.as_chunks.result.0.now in
+    let r = count_from_yields_List c.take_while.result _ c.count.ensures.ran (YieldsList-from_take_while _ p (YieldsList-at c.take_while.ensures.source (YieldsList-from_slice cs cc)) c.take_while.ensures.closure c.take_while.ensures.done (λ x b q k. search (rules, tests))) in
+    let at = c.in-Some.ensures.lookup.0 in
+    eights_on c.args.ix.now c.in-Some.counts.now c.count.result at.2 at.3 (r ∙ length-prefix_len p cs ∙ ap (prefix_len p) c.as_chunks.ensures.front)

@@ -1,41 +1,14 @@
--- The loop keeps: what the search from field i on finds is what the whole search finds.
+-- The first row with that key.
 -- Assumes nothing.
-use Prim.Native.Nat.{◌≤◌, ◌<◌}
-use mathlib.Core.Path.{refl, sym, ◌∙◌}
-use native.Mathlib.Omega.{arith}
-use lib.ListN.{length}
-use Rattle.facts.specs.Same.{same_bytes}
-use Rattle.facts.proofs.Searches.{first_hit, first_miss, first_end}
-use Rattle.keys.specs.Keys.{entries_of, no_entry, key_named}
+use Rattle.std.proofs.Common.{rules, tests, bytes_eq, sym, ap, position, ◌∙◌}
+use Rattle.std.proofs.lemmas.Iterator.{YieldsList-from_slice}
+use Rattle.std.proofs.lemmas.Iterator.Search.{position_from_yields_List}
+use Rattle.keys.specs.Rows.{entry_of}
+use Rattle.keys.proofs.RowLaws.{position-map}
 use Rattle.keys.proofs.key_named.Goals as goal
-
-pub loop-i-init : goal.loop-i-init
-unfolding key_named
-loop-i-init c = (omega arith, refl)
-
-pub returns-then-is_key : goal.returns-then-is_key
-returns-then-is_key c =
-    let a = c.args in
-    let i = c.loop-i.i in
-    let es = entries_of a.e a.k in
-    let h : i < length es = omega (arith, c.field_count-n.ensures) in
-    sym (first_hit (λ f. same_bytes a.w.now f.key) es i no_entry h (sym c.is_key.ensures ∙ c.if-is_key.true)) ∙ c.loop-i.invariant.1
-
-pub loop-i-smaller : goal.loop-i-smaller
-loop-i-smaller c = omega arith
-
-pub loop-i-preserved : goal.loop-i-preserved
-loop-i-preserved c =
-    let a = c.args in
-    let i = c.loop-i.i in
-    let es = entries_of a.e a.k in
-    let h : i < length es = omega (arith, c.field_count-n.ensures) in
-    (omega arith, sym (first_miss (λ f. same_bytes a.w.now f.key) es i no_entry h (sym c.is_key.ensures ∙ c.if-is_key.false)) ∙ c.loop-i.invariant.1)
 
 pub returns : goal.returns
 returns c =
-    let a = c.args in
-    let i = c.loop-i.i in
-    let es = entries_of a.e a.k in
-    let h : length es ≤ i = omega (arith, c.field_count-n.ensures) in
-    sym (first_end (λ f. same_bytes a.w.now f.key) es i h) ∙ c.loop-i.invariant.1
+    position_from_yields_List (λ r. bytes_eq r.key.now c.args.w.now) _ _ _ c.position.ensures.ran (YieldsList-from_slice c.rows.result.now cc) (λ x b q k. search (rules, tests))
+    ∙ sym (position-map (λ f. bytes_eq f.key c.args.w.now) entry_of c.rows.result.now)
+    ∙ ap (position (λ f. bytes_eq f.key c.args.w.now)) c.rows.ensures

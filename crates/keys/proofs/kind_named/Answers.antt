@@ -1,34 +1,12 @@
--- The loop keeps: the names from i on decide what all of them decide.
+-- The first message with that name.
 -- Assumes nothing.
-use mathlib.Core.Path.{sym, ◌∙◌}
-use native.Mathlib.Omega.{arith}
-use Rattle.kinds.specs.declared.Kind.{Kind}
-use Rattle.keys.proofs.RowLaws.{kinds, named_all, named_hit, named_miss, named_end}
+use Rattle.std.proofs.Common.{rules, tests, bytes_eq, sym, ◌∙◌}
+use Rattle.std.proofs.lemmas.Iterator.{YieldsList-from_slice}
+use Rattle.std.proofs.lemmas.Iterator.Consumers.{YieldsList-from_copied}
+use Rattle.std.proofs.lemmas.Iterator.Search.{find_from_yields_List}
+use Rattle.std.proofs.lemmas.Iterator.Adapters.{option_map_id}
+use Rattle.keys.specs.Keys.{name_of, kinds}
 use Rattle.keys.proofs.kind_named.Goals as goal
 
-pub loop-i-init : goal.loop-i-init
-loop-i-init c = (omega arith, named_all c.args.w.now)
-
-pub returns-then-is_name : goal.returns-then-is_name
-unfolding kinds
-returns-then-is_name c =
-    let w = c.args.w.now in
-    let i = c.loop-i.i in
-    sym (c.loop-i.invariant.1 ∙ named_hit w kinds i Kind.SystemTime (omega arith) (sym c.is_name.ensures ∙ c.if-is_name.true))
-
-pub loop-i-smaller : goal.loop-i-smaller
-loop-i-smaller c = omega arith
-
-pub loop-i-preserved : goal.loop-i-preserved
-unfolding kinds
-loop-i-preserved c =
-    let w = c.args.w.now in
-    let i = c.loop-i.i in
-    (omega arith, c.loop-i.invariant.1 ∙ named_miss w kinds i Kind.SystemTime (omega arith) (sym c.is_name.ensures ∙ c.if-is_name.false))
-
 pub returns : goal.returns
-unfolding kinds
-returns c =
-    let w = c.args.w.now in
-    let i = c.loop-i.i in
-    sym (c.loop-i.invariant.1 ∙ named_end w kinds i (omega arith))
+returns c = sym (option_map_id _) ∙ find_from_yields_List (λ k. bytes_eq (name_of k) c.args.w.now) _ _ _ c.find.ensures.ran (YieldsList-from_copied (YieldsList-from_slice kinds cc)) (λ x b q k. search (rules, tests))

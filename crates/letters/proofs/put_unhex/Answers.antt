@@ -1,22 +1,21 @@
--- The loop keeps: each byte below i is what its two digits say.
+-- Each byte so far is what its two digits say.
 -- Assumes nothing.
-use Prim.Native.Nat.{◌+◌, ◌*◌}
-use native.Mathlib.Omega.{arith}
-use lib.ListN.{length-set}
+use Rattle.std.proofs.Common.{◌+◌, ◌*◌, arith}
 use Rattle.facts.proofs.Lists.{write_more}
 use Rattle.letters.proofs.HexLaws.{byte_at, is_unhex, hex_at}
 use Rattle.letters.proofs.put_unhex.Goals as goal
 
-pub two_digits-requires : goal.two_digits-requires
-two_digits-requires c = (hex_at c.args.s.now (2 * c.loop-i.i) c.requires.1 (omega arith), hex_at c.args.s.now (2 * c.loop-i.i + 1) c.requires.1 (omega arith))
+pub two_digits-requires-clause-high : goal.two_digits-requires-clause-high
+two_digits-requires-clause-high c = hex_at c.args.digits.now (2 * c.loop-i.i) c.requires.good (omega arith)
+
+pub two_digits-requires-clause-low : goal.two_digits-requires-clause-low
+two_digits-requires-clause-low c = hex_at c.args.digits.now (2 * c.loop-i.i + 1) c.requires.good (omega arith)
 
 pub loop-i-preserved : goal.loop-i-preserved
 unfolding byte_at
 loop-i-preserved c =
     let l = c.loop-i in
-    (omega arith, l.invariant.1, simp length-set l.invariant.2, write_more l.out (byte_at c.args.s.now) l.i c.two_digits.result (omega arith) c.two_digits.ensures l.invariant.3)
+    write_more l.out (byte_at c.args.digits.now) l.i c.two_digits.result (omega arith) c.two_digits.ensures l.invariant
 
 pub returns : goal.returns
-returns c =
-    let l = c.loop-i in
-    is_unhex c.args.s.now l.out (omega arith) (λ k h. l.invariant.3 k (omega arith))
+returns c = is_unhex c.args.digits.now c.loop-i.out (omega arith) (λ k h. c.loop-i.invariant k (omega arith))

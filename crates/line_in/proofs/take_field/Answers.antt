@@ -1,17 +1,13 @@
--- A column that is not 0 says that the key stood before; else what value_in told is what the definition takes.
+-- What the value said stands in the field's place, and the column of the value beside it.
 -- Assumes nothing.
-use mathlib.Core.Path.{ap, ◌∙◌}
-use native.Mathlib.Omega.{arith}
-use borrow.Author.Tests.{not-true, not-false}
-use Rattle.line_in.specs.Lines.{draft, slipped}
-use Rattle.line_in.proofs.FieldLaws.{field_twice, field_well, field_wrong}
+use Rattle.std.proofs.Common.{◌≡◌, get_or, None, is_some, is_err, false, rules, arith}
+use Rattle.line_in.proofs.Laws.{field_taken}
 use Rattle.line_in.proofs.take_field.Goals as goal
 
-pub returns-then-given-i-ne0 : goal.returns-then-given-i-ne0
-returns-then-given-i-ne0 c = ap slipped c.slip_at.ensures ∙ field_twice c.args.e c.args.k c.args.i c.args.w c.args.v c.args.s.now (draft c.args.body.now c.args.given.now) c.if-given-i-ne0.true
-
-pub returns-then-not-value_in : goal.returns-then-not-value_in
-returns-then-not-value_in c = ap slipped c.slip_at-then-not-value_in.ensures ∙ field_wrong c.args.e c.args.k c.args.i c.args.w c.args.v c.args.s.now (draft c.args.body.now c.args.given.now) c.if-given-i-ne0.false c.form_at-f.result c.form_at-f.ensures (omega arith) c.value_in.result c.value_in.new.body c.value_in.ensures (not-true c.value_in.result c.if-not-value_in.true-raw)
-
 pub returns : goal.returns
-returns c = field_well c.args.e c.args.k c.args.i c.args.w c.args.v c.args.s.now (draft c.args.body.now c.args.given.now) c.if-given-i-ne0.false c.form_at-f.result c.form_at-f.ensures (omega arith) c.value_in.result c.value_in.new.body c.value_in.ensures (not-false c.value_in.result c.if-not-value_in.false-raw)
+returns c =
+    let a = c.args in
+    let f = c.form_at-f in
+    let free : is_some (get_or a.draft.columns a.i None) ≡ false = search rules in
+    let well : is_err c.value_in.result ≡ false = search rules in
+    field_taken a.draft a.i a.at a.place f.result a.value.now c.value_in.new.field c.value_in.result f.ensures.form (omega (arith, f.ensures.inside)) free c.value_in.ensures.told c.value_in.ensures.kept well

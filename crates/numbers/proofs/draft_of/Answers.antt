@@ -8,10 +8,10 @@ use Rattle.numbers.proofs.Held.{unfit, held}
 use Rattle.numbers.proofs.draft_of.Goals as goal
 
 pub returns-then-not-fits : goal.returns-then-not-fits
-returns-then-not-fits c = c.refused.ensures ∙ (unfit c.args.e c.kind_in-k.result c.args.n.now c.args.t.now (sym c.fits.ensures ∙ not-true _ c.if-not-fits.true-raw) ∙ ap (λ k. draft_from c.args.e k c.args.n.now c.args.t.now) c.kind_in-k.ensures)
+returns-then-not-fits c = unfit c.args.e c.kind_in-k.result c.args.n.now c.args.t.now (sym (c.fits.ensures c.args.t.now (c.fits-t 27)) ∙ not-true _ c.if-not-fits.true-raw) ∙ ap (λ k. draft_from c.args.e k c.args.n.now c.args.t.now) c.kind_in-k.ensures
 
 pub body_from-requires : goal.body_from-requires
-body_from-requires c = draft_fit c.args.e c.kind_in-k.result c.args.n.now c.args.t.now (sym c.fits.ensures ∙ not-false _ c.if-not-fits.false-raw)
+body_from-requires c = draft_fit c.args.e c.kind_in-k.result c.args.n.now c.args.t.now (sym (c.fits.ensures c.args.t.now (c.fits-t 27)) ∙ not-false _ c.if-not-fits.false-raw)
 
 pub returns : goal.returns
-returns c = c.judged.ensures ∙ (ap (held_draft c.args.e) c.body_from.ensures ∙ (held c.args.e c.kind_in-k.result c.args.n.now c.args.t.now (sym c.fits.ensures ∙ not-false _ c.if-not-fits.false-raw) ∙ ap (λ k. draft_from c.args.e k c.args.n.now c.args.t.now) c.kind_in-k.ensures))
+returns c = c.judged.ensures ∙ (ap (held_draft c.args.e) c.body_from.ensures ∙ (held c.args.e c.kind_in-k.result c.args.n.now c.args.t.now (sym (c.fits.ensures c.args.t.now (c.fits-t 27)) ∙ not-false _ c.if-not-fits.false-raw) ∙ ap (λ k. draft_from c.args.e k c.args.n.now c.args.t.now) c.kind_in-k.ensures))

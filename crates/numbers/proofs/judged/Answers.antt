@@ -1,6 +1,6 @@
 -- The length is the table's and the judgement is of as many bytes, so that the draft is the definition's.
 -- Assumes nothing.
-use mathlib.Core.Path.{◌≡◌, sym}
+use mathlib.Core.Path.{◌≡◌, sym, ◌∙◌}
 use native.Mathlib.Omega.{arith}
 use lib.ListN.{length, get_or}
 use lib.Seq.{length-take-le}
@@ -18,8 +18,11 @@ slice_bounds-judge-end c =
     let whole : length c.args.bytes ≡ 42 = search rules in
     sym (length-take-le _ c.args.bytes (omega (arith, c.length_of-len.ensures, length_most (get_or c.args.bytes 0 0))))
 
-pub returns-then-c-ne0 : goal.returns-then-c-ne0
-returns-then-c-ne0 c = held_refused c.args.e c.args.bytes _ c.length_of-len.ensures _ c.judge-c.ensures c.if-c-ne0.true c.refused.ensures
+pub invariant_of-result : goal.invariant_of-result
+invariant_of-result c = omega (arith, c.length_of-len.ensures, length_most (get_or c.args.bytes 0 0))
 
-pub returns : goal.returns
-returns c = held_good c.args.e c.args.bytes _ c.length_of-len.ensures _ c.judge-c.ensures c.if-c-ne0.false
+pub returns-in-Ok : goal.returns-in-Ok
+returns-in-Ok c = held_good c.args.e c.args.bytes _ c.length_of-len.ensures _ (sym c.judge.ensures ∙ c.in-Ok.is)
+
+pub returns-in-Err : goal.returns-in-Err
+returns-in-Err c = held_refused c.args.e c.args.bytes _ c.length_of-len.ensures _ (sym c.judge.ensures ∙ c.in-Err.is)

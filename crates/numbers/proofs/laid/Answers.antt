@@ -5,4 +5,4 @@ use borrow.Author.Rules.{rules}
 use Rattle.numbers.proofs.laid.Goals as goal
 
 pub returns : goal.returns
-returns c = rw (c.put_byte.ensures, c.put_at-3.ensures, c.put_at-2.ensures, c.put_at.ensures) (laid_is c.args.ticker c.args.opening c.args.closing c.args.last (search rules) (search rules) (search rules))
+returns c = rw (c.put.ensures, c.put_at-3.ensures, c.put_at-2.ensures, c.put_at.ensures) (laid_is c.args.ticker c.args.opening c.args.closing c.args.last (search rules) (search rules) (search rules))

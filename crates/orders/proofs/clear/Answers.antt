@@ -11,18 +11,23 @@ use Rattle.orders.specs.Work.{wiped, cleared}
 use Rattle.orders.proofs.clear.Goals as goal
 
 pub loop-i-init : goal.loop-i-init
-loop-i-init c = (omega arith, omega arith, refl, refl, sym (map_none (wiped c.args.symbol) (rows c.args.t.now)))
+loop-i-init c = record { end = omega arith; size = refl; rest = refl; rows = sym (map_none (wiped c.args.symbol) (rows c.args.t.now)) }
 
 pub loop-i-preserved : goal.loop-i-preserved
 loop-i-preserved c =
     let a = c.args in
     let l = c.loop-i in
     let e = c.wipe.ensures in
-    (omega arith, omega arith, ap length e ∙ length_put_row _ _ _ ∙ l.invariant.2, ap rest e ∙ rest_put_row _ _ _ ∙ l.invariant.3, ap rows e ∙ map_row (wiped a.symbol) a.t.now l.i l.t (omega arith) l.invariant.4)
+    record {
+      end = l.invariant.end;
+      size = ap length e ∙ length_put_row _ _ _ ∙ l.invariant.size;
+      rest = ap rest e ∙ rest_put_row _ _ _ ∙ l.invariant.rest;
+      rows = ap rows e ∙ map_row (wiped a.symbol) a.t.now l.i l.t (omega arith) l.invariant.rows;
+    }
 
 pub returns : goal.returns
 unfolding cleared
 returns c =
     let a = c.args in
     let l = c.loop-i in
-    sym (flat_rest l.t) ∙ rw (l.invariant.3, l.invariant.4, map_past (wiped a.symbol) a.t.now l.i (omega arith))
+    sym (flat_rest l.t) ∙ rw (l.invariant.rest, l.invariant.rows, map_past (wiped a.symbol) a.t.now l.i (omega arith))

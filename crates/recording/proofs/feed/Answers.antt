@@ -1,18 +1,22 @@
 -- Refused as it came; else the end of the loop, with the rest of the buffer zeroed.
 -- Assumes nothing.
 use mathlib.Core.Path.{sym, ◌∙◌}
-use borrow.Author.Tests.{not-true, not-false}
-use Rattle.recording.proofs.Exits.{fed_refused, fed_took, buffer_fits}
+use borrow.Author.Rules.{rules}
+use Rattle.recording.proofs.Exits.{fed_refused, fed_took, buffer_fits, clear_zeros}
 use Rattle.recording.proofs.feed.Goals as goal
 
 pub returns-then-not-can_feed : goal.returns-then-not-can_feed
-returns-then-not-can_feed c = fed_refused c.args.s c.args.orders.now c.args.symbols.now c.args.shelf.now c.args.index.now c.args.hold.now c.args.chunk.now (sym c.can_feed.ensures ∙ not-true c.can_feed.result c.if-not-can_feed.true-raw)
+returns-then-not-can_feed c =
+    let a = c.args in
+    fed_refused a.s a.orders.now a.symbols.now a.shelf.now a.index.now a.hold.now a.chunk.now (sym c.can_feed.ensures ∙ c.if-not-can_feed.true)
 
-pub run-k-requires : goal.run-k-requires
-run-k-requires c = buffer_fits c.args.s _ _ _ _ _ (sym c.can_feed.ensures ∙ not-false c.can_feed.result c.if-not-can_feed.false-raw)
-
-pub clear-requires : goal.clear-requires
-clear-requires c = c.run-k.ensures.fits
+pub run-requires : goal.run-requires
+run-requires c = let f = buffer_fits c.args.s _ _ _ _ _ (sym c.can_feed.ensures ∙ c.if-not-can_feed.false) in record { held = f.0; least = f.1 }
 
 pub returns : goal.returns
-returns c = fed_took c.args.s c.args.orders.now c.args.symbols.now c.args.shelf.now c.args.index.now c.args.hold.now c.args.chunk.now (sym c.can_feed.ensures ∙ not-false c.can_feed.result c.if-not-can_feed.false-raw) c.run-k.result _ _ _ _ _ _ c.run-k.auto.hold c.run-k.ensures c.clear.ensures
+returns c =
+    let a = c.args in
+    let r = c.run in
+    let w = r.new.self in
+    fed_took a.s a.orders.now a.symbols.now a.shelf.now a.index.now a.hold.now a.chunk.now (sym c.can_feed.ensures ∙ c.if-not-can_feed.false) w.stream _ _ _ _ r.new.hold _ w.orders.now w.symbols.now w.shelf.now w.index.now (search rules) (search rules) (search rules) (search rules) r.auto.hold r.ensures.room.held r.ensures.hearing
+    (clear_zeros r.new.hold w.stream.held c.wipe.new.t r.ensures.room.held c.wipe.ensures)

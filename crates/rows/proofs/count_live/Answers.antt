@@ -1,48 +1,15 @@
--- The count so far and the live rows among those left make the whole count; each turn takes one row off.
+-- The rows that pass, counted, are the count over all rows.
 -- Assumes nothing.
-use mathlib.Core.Path.{◌≡◌}
-use mathlib.Core.Bool.{true, false}
-use native.Mathlib.Omega.{arith}
-use lib.ListN.{get_or}
-use Rattle.rows.specs.Rows.{rows, zero_row, live}
+use Rattle.std.proofs.Common.{rules, tests, ap, ◌∙◌}
+use Rattle.std.proofs.lemmas.Iterator.{YieldsList-from_slice}
+use Rattle.std.proofs.lemmas.Iterator.Consumers.{YieldsList-from_filter, count_from_yields_List, YieldsList-at}
+use Rattle.rows.specs.Rows.{row_of, live}
 use Rattle.rows.specs.Find.{count_live}
-use Rattle.rows.proofs.Walks.{count_yes, count_no, count_past}
+use Rattle.rows.proofs.Walks.{live_filtered}
 use Rattle.rows.proofs.count_live.Goals as goal
-use Rattle.rows.proofs.count_live.Goals.{then-is_live, else-is_live}
-
-pub loop-i-init : goal.loop-i-init
-unfolding count_live
-loop-i-init c = (omega arith, omega arith, omega arith, omega arith)
-
-pub row_in-requires : goal.row_in-requires
-row_in-requires c = omega arith
-
-pub overflow_add-count : goal.overflow_add-count
-overflow_add-count c = omega arith
-
-pub overflow_add-i : goal.overflow_add-i
-overflow_add-i c = omega arith
-
-pub loop-i-smaller : goal.loop-i-smaller
-loop-i-smaller c = omega arith
-
-pub loop-i-preserved : goal.loop-i-preserved
-loop-i-preserved c =
-    let a = c.args in
-    let l = c.loop-i in
-    elim c.if-is_live.branch [
-      | then-is_live w ↦
-          let e : live (get_or (rows a.t.now) l.i zero_row) ≡ true = cc w.if-is_live.true in
-          let n = count_yes live a.t.now l.i (omega arith) e in
-          (omega arith, omega arith, omega arith, omega (arith, l.invariant.3))
-      | else-is_live w ↦
-          let e : live (get_or (rows a.t.now) l.i zero_row) ≡ false = cc w.if-is_live.false in
-          let n = count_no live a.t.now l.i (omega arith) e in
-          (omega arith, omega arith, omega arith, omega (arith, l.invariant.3))
-    ]
 
 pub returns : goal.returns
 returns c =
-    let a = c.args in
-    let l = c.loop-i in
-    omega (arith, count_past live a.t.now l.i (omega arith))
+    let xs = c.whole_rows.result.now in
+    count_from_yields_List c.filter.result _ c.count.ensures.ran (YieldsList-from_filter _ (λ x. live (row_of x)) (YieldsList-at c.filter.ensures.source (YieldsList-from_slice xs cc)) c.filter.ensures.closure (λ x b q k. search (rules, tests)))
+    ∙ live_filtered xs ∙ ap count_live c.whole_rows.ensures

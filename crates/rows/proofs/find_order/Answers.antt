@@ -1,43 +1,18 @@
--- The search from row i on, over the rows left, gives what the whole search gives; each turn takes one row off.
+-- The first place whose numbers are the order's row is the first row that is the order's.
 -- Assumes nothing.
-use mathlib.Core.Path.{◌≡◌, refl, sym, ◌∙◌}
-use mathlib.Core.Bool.{true, false}
-use native.Mathlib.Omega.{arith}
-use lib.ListN.{get_or}
-use Rattle.rows.specs.Rows.{rows, zero_row}
+use Rattle.std.proofs.Common.{rules, tests, sym, ap, ◌∙◌}
+use Rattle.std.proofs.lemmas.Iterator.{YieldsList-from_slice}
+use Rattle.std.proofs.lemmas.Iterator.Search.{position_from_yields_List}
+use Rattle.facts.specs.Search.{first}
+use Rattle.rows.specs.Rows.{row_of}
 use Rattle.rows.specs.Find.{is_order, find_order}
-use Rattle.rows.proofs.Walks.{row_hit, row_miss, row_end}
+use Rattle.rows.proofs.Walks.{first_position}
 use Rattle.rows.proofs.find_order.Goals as goal
 
-pub loop-i-init : goal.loop-i-init
-unfolding find_order
-loop-i-init c = (omega arith, omega arith, refl)
-
-pub row_in-requires : goal.row_in-requires
-row_in-requires c = omega arith
-
-pub returns-then-is_order : goal.returns-then-is_order
-returns-then-is_order c =
-    let a = c.args in
-    let l = c.loop-i in
-    let e : is_order a.id (get_or (rows a.t.now) l.i zero_row) ≡ true = cc in
-    sym (l.invariant.2 ∙ row_hit (is_order a.id) a.t.now l.i (omega arith) e)
-
-pub overflow_add-i : goal.overflow_add-i
-overflow_add-i c = omega arith
-
-pub loop-i-smaller : goal.loop-i-smaller
-loop-i-smaller c = omega arith
-
-pub loop-i-preserved : goal.loop-i-preserved
-loop-i-preserved c =
-    let a = c.args in
-    let l = c.loop-i in
-    let e : is_order a.id (get_or (rows a.t.now) l.i zero_row) ≡ false = cc in
-    (omega arith, omega arith, l.invariant.2 ∙ row_miss (is_order a.id) a.t.now l.i (omega arith) e)
-
 pub returns : goal.returns
+unfolding find_order
 returns c =
-    let a = c.args in
-    let l = c.loop-i in
-    sym (l.invariant.2 ∙ row_end (is_order a.id) a.t.now l.i (omega arith))
+    let p = is_order c.args.id in
+    let xs = c.whole_rows.result.now in
+    position_from_yields_List (λ x. p (row_of x)) _ _ _ c.position.ensures.ran (YieldsList-from_slice xs cc) (λ x b q k. search (rules, tests))
+    ∙ sym (first_position p row_of xs) ∙ ap (first p 0) c.whole_rows.ensures

@@ -1,25 +1,19 @@
--- Five stores are the piece put in place (row_written); without such a row the table stays as it is.
+-- The part of row i, filled with its five numbers, is the piece put in place; without such a row the table stays as it is.
 -- Assumes nothing.
-use mathlib.Core.Path.{sym}
-use native.Mathlib.Omega.{arith}
-use lib.ListN.{length-set}
-use Rattle.rows.proofs.Tables.{row_written, put_row_past}
+use Rattle.std.proofs.Common.{arith, ◌≡◌, ◌<◌, ◌+◌, ◌*◌, ◌-◌, sym, ◌∙◌}
+use Rattle.facts.proofs.TableLaws.{part_put}
+use Rattle.rows.specs.Rows.{row_count, numbers_of, put_row}
+use Rattle.rows.proofs.Tables.{length_numbers, put_row_past}
 use Rattle.rows.proofs.put_row.Goals as goal
 
-pub returns-then-row_count-i : goal.returns-then-row_count-i
-returns-then-row_count-i c = let a = c.args in sym (put_row_past a.t.now a.i a.r (omega arith))
+pub returns-then-i-row_count : goal.returns-then-i-row_count
+unfolding put_row
+returns-then-i-row_count c =
+    let a = c.args in
+    let h : a.i < row_count a.t.now = omega arith in
+    let e : 5 * a.i + 5 - 5 * a.i ≡ 5 = omega arith in
+    let s = c.copy_from_slice.ensures.after ∙ c.from.ensures in
+    rw e (rw s (part_put 5 a.t.now a.i (numbers_of a.r) h (length_numbers a.r)))
 
-pub bounds-t-b-2 : goal.bounds-t-b-2
-bounds-t-b-2 c = simp length-set (omega arith)
-
-pub bounds-t-b-3 : goal.bounds-t-b-3
-bounds-t-b-3 c = simp length-set (omega arith)
-
-pub bounds-t-b-4 : goal.bounds-t-b-4
-bounds-t-b-4 c = simp length-set (omega arith)
-
-pub bounds-t-b-5 : goal.bounds-t-b-5
-bounds-t-b-5 c = simp length-set (omega arith)
-
-pub returns : goal.returns
-returns c = let a = c.args in row_written a.t.now a.i a.r (omega arith)
+pub returns-else-i-row_count : goal.returns-else-i-row_count
+returns-else-i-row_count c = let a = c.args in sym (put_row_past a.t.now a.i a.r (omega arith))

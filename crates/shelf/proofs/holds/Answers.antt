@@ -1,26 +1,30 @@
 -- Number, length and bytes decide in the order of same_slot.
 -- Assumes nothing.
 use mathlib.Core.Path.{◌∙◌, sym}
-use Rattle.shelf.proofs.Laws.{other_number, other_length, bytes_decide}
+use borrow.Author.Tests.{eqb-true, eq-eqb}
+use Rattle.shelf.proofs.Laws.{other_number, other_length, bytes_decide, pointwise_same}
 use Rattle.shelf.proofs.holds.Goals as goal
+use Rattle.shelf.proofs.holds.Goals.{then-at-number, else-at-number}
 
-pub returns-then-u64_at-number : goal.returns-then-u64_at-number
-returns-then-u64_at-number c =
+pub returns-then-at-body : goal.returns-then-at-body
+returns-then-at-body c =
     let a = c.args in
     let x = c.slot-x in
-    other_number a.s.now a.i x.result.now x.ensures a.number a.body.now (λ e. c.if-u64_at-number.true (c.u64_at.ensures ∙ e))
+    elim c.if-at-number.branch [
+      | then-at-number w ↦
+          let n = sym c.at.ensures ∙ w.if-at-number.true in
+          let l = sym w.at-then-at-number.ensures ∙ eqb-true _ _ (sym w.value-is ∙ c.if-at-body.true) in
+          rw (c.eq.ensures, c.bytes_at.ensures, c.bytes_at-then-at-body.ensures) (pointwise_same _ _ ∙ bytes_decide a.s.now a.i x.result.now x.ensures a.number a.body.now n l)
+      | else-at-number w ↦ absurd (w.if-at-number.false (eqb-true _ _ (sym w.value-is ∙ c.if-at-body.true)))
+    ]
 
-pub returns-then-u16_at-body : goal.returns-then-u16_at-body
-returns-then-u16_at-body c =
+pub returns-else-at-body : goal.returns-else-at-body
+returns-else-at-body c =
     let a = c.args in
     let x = c.slot-x in
-    other_length a.s.now a.i x.result.now x.ensures a.number a.body.now (sym c.u64_at.ensures ∙ c.if-u64_at-number.false)
-    (λ e. c.if-u16_at-body.true (c.u16_at.ensures ∙ e))
-
-pub returns : goal.returns
-returns c =
-    let a = c.args in
-    let x = c.slot-x in
-    c.same_bytes.ensures
-    ∙ bytes_decide a.s.now a.i x.result.now x.ensures a.number a.body.now (sym c.u64_at.ensures ∙ c.if-u64_at-number.false)
-    (sym c.u16_at.ensures ∙ c.if-u16_at-body.false)
+    elim c.if-at-number.branch [
+      | then-at-number w ↦
+          c.if-at-body.false ∙ other_length a.s.now a.i x.result.now x.ensures a.number a.body.now (sym c.at.ensures ∙ w.if-at-number.true)
+          (λ e. let t = eq-eqb _ _ (w.at-then-at-number.ensures ∙ e) in cc)
+      | else-at-number w ↦ c.if-at-body.false ∙ other_number a.s.now a.i x.result.now x.ensures a.number a.body.now (λ e. w.if-at-number.false (c.at.ensures ∙ e))
+    ]

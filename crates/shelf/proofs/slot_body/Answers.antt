@@ -1,24 +1,18 @@
--- A slot that is not there has no body; one that is there has 64 bytes, of which the length takes the first or all.
+-- A slot that is there has 64 bytes, of which the length takes the first or all (body_in); one that is not there has none.
 -- Assumes nothing.
-use Rattle.shelf.proofs.Laws.{body_none, body_long, body_in}
+use Rattle.std.proofs.Common.{◌≡◌, min, rules, [], get_or, refl}
+use Rattle.facts.specs.Pieces.{pieces}
+use Rattle.shelf.specs.Shelf.{slot_size}
+use Rattle.shelf.proofs.Laws.{body_none, body_in}
 use Rattle.shelf.proofs.slot_body.Goals as goal
 
-pub returns-then-x-lt-SLOT : goal.returns-then-x-lt-SLOT
-returns-then-x-lt-SLOT c =
+pub returns-in-Some : goal.returns-in-Some
+returns-in-Some c =
     let a = c.args in
-    let x = c.slot-x in
-    body_none a.s.now a.i x.result.now x.ensures c.if-x-lt-SLOT.true
+    let x = c.in-Some.x.now in
+    let is : x ≡ get_or (pieces slot_size a.s.now) a.i [] = search rules in
+    let e : c.min-n.result ≡ min c.at.result 64 = c.min-n.ensures in
+    rw e (body_in a.s.now a.i x is c.at.result c.at.ensures (search rules))
 
-pub returns-then-n-gt64 : goal.returns-then-n-gt64
-returns-then-n-gt64 c =
-    let a = c.args in
-    let x = c.slot-x in
-    let n = c.u16_at-n in
-    body_long a.s.now a.i x.result.now x.ensures n.result n.ensures c.if-x-lt-SLOT.false c.if-n-gt64.true
-
-pub returns : goal.returns
-returns c =
-    let a = c.args in
-    let x = c.slot-x in
-    let n = c.u16_at-n in
-    body_in a.s.now a.i x.result.now x.ensures n.result n.ensures c.if-x-lt-SLOT.false c.if-n-gt64.false
+pub returns-in-None : goal.returns-in-None
+returns-in-None c = let a = c.args in body_none a.s.now a.i [] (search rules) refl

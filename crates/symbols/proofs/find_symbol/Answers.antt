@@ -1,47 +1,17 @@
--- The search from entry i on, over the entries left, gives what the whole search gives; each turn takes one entry off.
+-- The first place that holds the symbol's entry is the lowest.
 -- Assumes nothing.
-use mathlib.Core.Path.{◌≡◌, refl, sym, ◌∙◌}
-use mathlib.Core.List.{[]}
-use mathlib.Core.Bool.{true, false}
-use native.Mathlib.Omega.{arith}
-use lib.ListN.{get_or}
-use Rattle.facts.proofs.Searches.{first_hit, first_miss, first_end}
-use Rattle.symbols.specs.Entries.{entries}
+use Rattle.std.proofs.Common.{rules, tests, sym, ap, ◌∙◌}
+use Rattle.std.proofs.lemmas.Iterator.{YieldsList-from_slice}
+use Rattle.std.proofs.lemmas.Iterator.Search.{position_from_yields_List}
+use Rattle.facts.specs.Search.{first}
 use Rattle.symbols.specs.Find.{is_symbol, find_symbol}
+use Rattle.symbols.proofs.FindLaws.{first_position}
 use Rattle.symbols.proofs.find_symbol.Goals as goal
 
-pub loop-i-init : goal.loop-i-init
-unfolding find_symbol
-loop-i-init c = (omega arith, c.entry_count-end.ensures, refl)
-
-pub entry_in-requires : goal.entry_in-requires
-entry_in-requires c = omega arith
-
-pub returns-then-is_symbol : goal.returns-then-is_symbol
-returns-then-is_symbol c =
-    let a = c.args in
-    let es = entries a.t.now in
-    let l = c.loop-i in
-    let e : is_symbol a.id (get_or es l.i []) ≡ true = cc in
-    sym (l.invariant.2 ∙ first_hit (is_symbol a.id) es l.i [] (omega arith) e)
-
-pub overflow_add-i : goal.overflow_add-i
-overflow_add-i c = omega arith
-
-pub loop-i-smaller : goal.loop-i-smaller
-loop-i-smaller c = omega arith
-
-pub loop-i-preserved : goal.loop-i-preserved
-loop-i-preserved c =
-    let a = c.args in
-    let es = entries a.t.now in
-    let l = c.loop-i in
-    let e : is_symbol a.id (get_or es l.i []) ≡ false = cc in
-    (omega arith, l.invariant.1, l.invariant.2 ∙ first_miss (is_symbol a.id) es l.i [] (omega arith) e)
-
 pub returns : goal.returns
+unfolding find_symbol
 returns c =
-    let a = c.args in
-    let es = entries a.t.now in
-    let l = c.loop-i in
-    sym (l.invariant.2 ∙ first_end (is_symbol a.id) es l.i (omega arith))
+    let p = is_symbol c.args.id in
+    let es = c.whole_entries.result.now in
+    position_from_yields_List p _ _ _ c.position.ensures.ran (YieldsList-from_slice es cc) (λ x b q k. search (rules, tests))
+    ∙ sym (first_position p es) ∙ ap (first p 0) c.whole_entries.ensures

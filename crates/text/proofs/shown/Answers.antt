@@ -4,11 +4,11 @@ use native.Mathlib.Omega.{arith}
 use Rattle.text.proofs.TickerLaws.{shown_same, shown_below, shown_above}
 use Rattle.text.proofs.shown.Goals as goal
 
-pub returns-then-x-lt32 : goal.returns-then-x-lt32
-returns-then-x-lt32 c = shown_below c.args.x (omega arith)
+pub returns-in-32-to-126 : goal.returns-in-32-to-126
+returns-in-32-to-126 c = shown_same c.args.x (omega arith) (omega arith)
 
-pub returns-then-x-gt126 : goal.returns-then-x-gt126
-returns-then-x-gt126 c = shown_above c.args.x (omega arith)
+pub returns-in_default : goal.returns-in_default
+returns-in_default c = shown_below c.args.x (omega arith)
 
-pub returns : goal.returns
-returns c = shown_same c.args.x (omega arith) (omega arith)
+pub returns-in_default-2 : goal.returns-in_default-2
+returns-in_default-2 c = shown_above c.args.x (omega arith)

@@ -3,12 +3,15 @@
 use Rattle.text.proofs.Laws.{wrote_as, wrote_then}
 use Rattle.text.proofs.SignedLaws.{shows_neg, shows_pos}
 use Rattle.text.proofs.signed.Goals as goal
-
-pub returns-then-n-lt0 : goal.returns-then-n-lt0
-returns-then-n-lt0 c =
-    wrote_as (shows_neg _ _ c.ranges.n c.magnitude-m.ensures c.if-n-lt0.true)
-    (wrote_then c.byte-o.ensures c.decimal.ensures)
+use Rattle.text.proofs.signed.Goals.{then-n-lt0, else-n-lt0}
 
 pub returns : goal.returns
 returns c =
-    wrote_as (shows_pos _ _ c.ranges.n c.magnitude-m.ensures c.if-n-lt0.false) c.decimal-2.ensures
+    elim c.if-n-lt0.branch [
+      | then-n-lt0 w ↦
+          wrote_as (shows_neg _ _ c.ranges.n c.unsigned_abs.ensures.value w.if-n-lt0.true)
+          (wrote_then w.byte-o.ensures (rw (w.buf-is, w.o-is) at c.decimal.ensures))
+      | else-n-lt0 w ↦
+          wrote_as (shows_pos _ _ c.ranges.n c.unsigned_abs.ensures.value w.if-n-lt0.false)
+          (rw (w.buf-is, w.o-is) at c.decimal.ensures)
+    ]

@@ -1,17 +1,12 @@
--- The loop keeps: trimming the first n bytes gives what trimming all gives; a space at their end goes, and the first other byte stops it.
+-- The search from the end finds the last byte that is no space, or none where all are spaces.
 -- Assumes nothing.
 use borrow.Author.Rules.{rules}
-use Rattle.text.proofs.TickerLaws.{trim_start, trim_down, trim_stop, trim_none}
+use mathlib.Core.Path.{sym}
+use Rattle.text.proofs.TickerLaws.{trim_last, trim_blank}
 use Rattle.text.proofs.trimmed.Goals as goal
 
-pub loop-n-init : goal.loop-n-init
-loop-n-init c = (search rules, trim_start _)
+pub returns-in-Some : goal.returns-in-Some
+returns-in-Some c = (search rules, trim_last _ _ (search rules) (search rules) (search rules))
 
-pub returns-then-s-n-ne32 : goal.returns-then-s-n-ne32
-returns-then-s-n-ne32 c = (search rules, search (rules, trim_stop))
-
-pub loop-n-preserved : goal.loop-n-preserved
-loop-n-preserved c = (search rules, search (rules, trim_down))
-
-pub returns : goal.returns
-returns c = (search rules, search (rules, trim_none))
+pub returns-in-None : goal.returns-in-None
+returns-in-None c = (search rules, sym (trim_blank c.args.s.now (search rules)))

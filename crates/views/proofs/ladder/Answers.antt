@@ -1,19 +1,12 @@
--- Where no fault is found the ladder of the key is laid out; else the run stays.
+-- Where the symbol can be shown the ladder of its key is laid out; else the run stays.
 -- Assumes nothing.
-use mathlib.Core.Path.{◌≡◌}
-use native.Mathlib.Omega.{arith}
-use Rattle.views.specs.Views.{view_fault}
-use Rattle.views.proofs.ViewLaws.{ladder_refused, ladder_shown}
+use mathlib.Core.Path.{sym, ◌∙◌}
+use borrow.Author.Rules.{rules}
+use Rattle.views.proofs.ViewLaws.{ladder_err, ladder_ok}
 use Rattle.views.proofs.ladder.Goals as goal
 
-pub returns-then-fault-ne0 : goal.returns-then-fault-ne0
-returns-then-fault-ne0 c =
-    let a = c.args in
-    let e = c.view_fault-fault.ensures in
-    rw e (ladder_refused a.symbol a.orders.now a.symbols.now a.side a.out.now (λ z. omega (arith, c.if-fault-ne0.true)))
+pub returns-in_err-viewable : goal.returns-in_err-viewable
+returns-in_err-viewable c = search (rules, ladder_err)
 
 pub returns : goal.returns
-returns c =
-    let a = c.args in
-    let z : view_fault a.symbol a.orders.now a.symbols.now ≡ 0 = omega (arith, c.view_fault-fault.ensures, c.if-fault-ne0.false) in
-    ladder_shown a.symbol a.orders.now a.symbols.now a.side a.out.now z _ _ (rw c.key_of.ensures at c.ladder_of.ensures)
+returns c = let a = c.args in ladder_ok a.symbol a.orders.now a.symbols.now a.side a.out.now _ (sym c.viewable.ensures ∙ c.in_ok-viewable.was) _ _ (rw c.key_of.ensures at c.ladder_of.ensures)

@@ -9,8 +9,8 @@ use Rattle.views.proofs.Laws.{ladder_from}
 use Rattle.views.proofs.Runs.{laid}
 use Rattle.views.proofs.ladder_of.Given as goal
 
-abbrev pub invariant-loop-key : goal.invariant-loop-key
-invariant-loop-key l = (laid 0 (ladder l.key (rows l.orders)) l.initial.out ≡ laid l.j (ladder_from l.key (rows l.orders) l.low) l.out) × (length (ladder l.key (rows l.orders)) ≡ l.j + length (ladder_from l.key (rows l.orders) l.low)) × (length l.out ≡ length l.initial.out)
+abbrev pub invariant-loop-d : goal.invariant-loop-d
+invariant-loop-d l = (laid 0 (ladder l.key (rows l.orders)) l.initial.out ≡ laid l.j (ladder_from l.key (rows l.orders) l.low) l.out) × (length (ladder l.key (rows l.orders)) ≡ l.j + length (ladder_from l.key (rows l.orders) l.low))
 
-abbrev pub decreases-loop-key : goal.decreases-loop-key
-decreases-loop-key l = length (ladder_from l.key (rows l.orders) l.low)
+abbrev pub decreases-loop-d : goal.decreases-loop-d
+decreases-loop-d l = length (ladder_from l.key (rows l.orders) l.low)

@@ -1,19 +1,18 @@
--- Three stores are the piece put in place (level_written); without such a place the run stays as it is.
+-- The part of place j, filled with the level's three numbers, is the piece put in place; without such a place the run stays as it is.
 -- Assumes nothing.
-use mathlib.Core.Path.{sym}
-use native.Mathlib.Omega.{arith}
-use lib.ListN.{length-set}
-use Rattle.views.proofs.Runs.{level_written, level_past}
+use Rattle.std.proofs.Common.{arith, ◌≡◌, ◌<◌, ◌+◌, ◌*◌, ◌-◌, ◌/◌, length, refl, sym}
+use Rattle.facts.proofs.TableLaws.{part_put}
+use Rattle.views.specs.Ladder.{three_of, put_level}
+use Rattle.views.proofs.Runs.{level_past}
 use Rattle.views.proofs.put_level.Goals as goal
 
-pub returns-then-out-j : goal.returns-then-out-j
-returns-then-out-j c = let a = c.args in sym (level_past a.out.now a.j a.l (omega arith))
+pub returns-then-j-out : goal.returns-then-j-out
+unfolding put_level three_of
+returns-then-j-out c =
+    let a = c.args in
+    let h : a.j < length a.out.now / 3 = omega arith in
+    let e : 3 * a.j + 3 - 3 * a.j ≡ 3 = omega arith in
+    rw e (rw c.copy_from_slice.ensures.after (part_put 3 a.out.now a.j (three_of a.l) h refl))
 
-pub bounds-out-b-2 : goal.bounds-out-b-2
-bounds-out-b-2 c = simp length-set (omega arith)
-
-pub bounds-out-b-3 : goal.bounds-out-b-3
-bounds-out-b-3 c = simp length-set (omega arith)
-
-pub returns : goal.returns
-returns c = let a = c.args in level_written a.out.now a.j a.l (omega arith)
+pub returns-else-j-out : goal.returns-else-j-out
+returns-else-j-out c = let a = c.args in sym (level_past a.out.now a.j a.l (omega arith))

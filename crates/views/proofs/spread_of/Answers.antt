@@ -1,4 +1,4 @@
--- The nearest place of a side is its best price, and BEYOND says that the side is empty.
+-- The nearest place of a side is its best price, and where there is none the side is empty.
 -- Assumes nothing.
 use mathlib.Core.Path.{◌≡◌}
 use Prim.Native.Nat.{◌-◌}
@@ -8,25 +8,30 @@ use mir.Syntax.{w64}
 use mir.ValLaws.{to_z-of_z}
 use Rattle.facts.specs.Limits.{most_price}
 use Rattle.rows.specs.Rows.{rows}
+use Rattle.views.proofs.Laws.{place_found}
 use Rattle.views.proofs.Signs.{minus_fits}
 use Rattle.views.proofs.Spreads.{no_bid, no_offer, two_sided}
+use borrow.Author.Rules.{rules}
 use Rattle.views.proofs.spread_of.Goals as goal
 
-pub returns-then-bid-gt-MOST_PRICE : goal.returns-then-bid-gt-MOST_PRICE
-returns-then-bid-gt-MOST_PRICE c =
-    let a = c.args in
-    no_bid a.symbol (rows a.orders.now) c.nearest-bid.result (rw c.key_of.ensures at c.nearest-bid.ensures) c.if-bid-gt-MOST_PRICE.true
+pub returns-in_err-bid : goal.returns-in_err-bid
+returns-in_err-bid c = search (rules, no_bid)
 
-pub returns-then-offer-gt-MOST_PRICE : goal.returns-then-offer-gt-MOST_PRICE
-returns-then-offer-gt-MOST_PRICE c =
-    let a = c.args in
-    no_offer a.symbol (rows a.orders.now) c.nearest-bid.result (rw c.key_of.ensures at c.nearest-bid.ensures) c.if-bid-gt-MOST_PRICE.false c.nearest-offer.result (rw c.key_of-2.ensures at c.nearest-offer.ensures) c.if-offer-gt-MOST_PRICE.true
+pub returns-in_err-offer : goal.returns-in_err-offer
+returns-in_err-offer c = search (rules, no_offer)
+
+pub overflow_sub-bid : goal.overflow_sub-bid
+overflow_sub-bid c = (place_found c.key_of.result 0 (rows c.args.orders.now) c.in_ok-bid.bid (search rules)).1
+
+pub minus-requires : goal.minus-requires
+minus-requires c = let f = (place_found c.key_of-2.result 0 (rows c.args.orders.now) c.in_ok-offer.offer (search rules)).1 in (omega arith, omega arith)
 
 pub returns : goal.returns
 returns c =
     let a = c.args in
-    let b = c.nearest-bid.result in
-    let o = c.nearest-offer.result in
-    let p = two_sided a.symbol (rows a.orders.now) b (rw c.key_of.ensures at c.nearest-bid.ensures) c.if-bid-gt-MOST_PRICE.false o (rw c.key_of-2.ensures at c.nearest-offer.ensures) c.if-offer-gt-MOST_PRICE.false in
+    let b = c.in_ok-bid.bid in
+    let o = c.in_ok-offer.offer in
+    let p = two_sided a.symbol (rows a.orders.now) b (search rules) o (search rules) in
+    let f = (place_found c.key_of-2.result 0 (rows a.orders.now) o (search rules)).1 in
     let m : c.minus.result ≡ pos o -ℤ pos (most_price - b) = c.minus.ensures in
-    rw (m, to_z-of_z w64 _ (minus_fits o (most_price - b) c.if-offer-gt-MOST_PRICE.false (omega arith))) p
+    rw (m, to_z-of_z w64 _ (minus_fits o (most_price - b) f (omega arith))) p

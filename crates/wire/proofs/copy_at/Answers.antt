@@ -1,25 +1,21 @@
--- Nothing is there (zeros_alone), all of it is (padded_part), or its front, with zeros behind (front_and_zeros).
+-- Nothing is there (zeros_alone), all of it is (part_there), or its front, with zeros behind (front_and_zeros).
 -- Assumes nothing.
-use mathlib.Core.Path.{sym, ap, ◌∙◌}
-use Prim.Native.Nat.{ℕ, ◌-◌}
+use mathlib.Core.Path.{sym, ◌∙◌}
+use Prim.Native.Nat.{◌-◌}
 use native.Mathlib.Omega.{arith}
-use native.Mathlib.Nat.{add-sub_cancel_left}
-use lib.ListN.{length, take, drop, length-drop}
+use lib.ListN.{length, drop, length-drop}
 use lib.Seq.{length-take-le}
-use Rattle.wire.proofs.Laws.{padded_part, front_and_zeros, zeros_alone, zeros_room}
+use Rattle.wire.proofs.Laws.{part_there, front_and_zeros, zeros_alone, zeros_room}
 use Rattle.wire.proofs.copy_at.Goals as goal
 
 pub returns-then-b-at : goal.returns-then-b-at
 returns-then-b-at c = c.wipe.ensures ∙ zeros_alone c.args.b.now c.args.at (length c.args.out.now) c.if-b-at.true
 
 pub returns-then-n-k : goal.returns-then-n-k
-returns-then-n-k c = c.copy.ensures ∙ (ap (λ (m : ℕ). take m (drop c.args.at c.args.b.now)) (add-sub_cancel_left c.args.at (length c.args.out.now)) ∙ sym (padded_part c.args.b.now c.args.at (length c.args.out.now) (omega arith)))
+returns-then-n-k c = c.copy_from_slice.ensures.after ∙ part_there c.args.b.now c.args.at (length c.args.out.now) (omega arith)
 
-pub slice_bounds-copy-end-4 : goal.slice_bounds-copy-end-4
-slice_bounds-copy-end-4 c = sym (zeros_room (length c.args.out.now) (length c.args.b.now - c.args.at) _ (omega arith) c.wipe-2.ensures)
-
-pub copy-requires-2 : goal.copy-requires-2
-copy-requires-2 c = length-take-le (length c.args.b.now - c.args.at) (drop c.args.at c.args.b.now) (rw length-drop (omega arith)) ∙ sym (zeros_room (length c.args.out.now) (length c.args.b.now - c.args.at) _ (omega arith) c.wipe-2.ensures)
+pub copy_from_slice-requires-2 : goal.copy_from_slice-requires-2
+copy_from_slice-requires-2 c = sym (length-take-le (length c.args.b.now - c.args.at) (drop c.args.at c.args.b.now) (rw length-drop (omega arith)) ∙ sym (zeros_room (length c.args.out.now) (length c.args.b.now - c.args.at) _ (omega arith) c.wipe-2.ensures))
 
 pub returns : goal.returns
-returns c = front_and_zeros c.args.b.now c.args.at (length c.args.out.now) _ _ (omega arith) (omega arith) c.wipe-2.ensures c.copy-2.ensures
+returns c = front_and_zeros c.args.b.now c.args.at (length c.args.out.now) _ _ (omega arith) (omega arith) c.wipe-2.ensures c.copy_from_slice-2.ensures.after

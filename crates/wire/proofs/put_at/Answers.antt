@@ -1,21 +1,16 @@
--- The loop keeps: the bytes that are left, stored from here on, give all of them stored; past the end nothing is stored.
+-- As much as is reached is stored, and that is all of it stored (put_reached); past the end nothing is.
 -- Assumes nothing.
-use mathlib.Core.Path.{refl, ◌∙◌}
+use mathlib.Core.Path.{sym}
+use native.Mathlib.Nat.{add-sub_cancel_left}
 use native.Mathlib.Omega.{arith}
-use lib.ListN.{length-set}
-use Rattle.wire.proofs.Laws.{text_more, text_none, text_past}
+use Rattle.facts.proofs.Stores.{sets_past}
+use Rattle.wire.proofs.Laws.{put_reached}
 use Rattle.wire.proofs.put_at.Goals as goal
 
-pub loop-k-init : goal.loop-k-init
-loop-k-init c = (omega arith, refl, refl, refl)
-
-pub returns-then-out-i : goal.returns-then-out-i
-returns-then-out-i c = let l = c.loop-k in text_past _ l.out l.i l.k c.if-out-i.true ∙ l.invariant.3
-
-pub loop-k-preserved : goal.loop-k-preserved
-loop-k-preserved c =
-    let l = c.loop-k in
-    (omega arith, l.invariant.1, simp length-set l.invariant.2, text_more _ l.out l.i l.k (omega arith) ∙ l.invariant.3)
+pub returns-then-out-at : goal.returns-then-out-at
+returns-then-out-at c = let a = c.args in sym (sets_past a.s.now a.out.now a.at c.if-out-at.true)
 
 pub returns : goal.returns
-returns c = let l = c.loop-k in text_none _ l.out l.i l.k (omega arith) ∙ l.invariant.3
+returns c =
+    let a = c.args in
+    rw (add-sub_cancel_left a.at c.min-n.result) (put_reached a.out.now a.s.now _ a.at c.min-n.result (omega arith) c.min-n.ensures c.copy_from_slice.ensures.after)

@@ -7,4 +7,4 @@ use Rattle.words.proofs.by_id.Goals as goal
 
 pub returns : goal.returns
 unfolding by_id to_le
-returns c = rw c.put_le.ensures refl
+returns c = rw c.put.ensures refl

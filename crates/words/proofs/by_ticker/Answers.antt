@@ -1,24 +1,16 @@
--- What is left of the name, stored from here on, gives the whole of it stored over the spaces.
+-- The name, and the spaces and the type behind it.
 -- Assumes nothing.
-use mathlib.Core.Path.{sym, ◌∙◌}
-use Prim.Native.Nat.{◌+◌}
+use mathlib.Core.Path.{◌≡◌, refl}
+use Prim.Native.Nat.{◌+◌, ◌-◌}
 use native.Mathlib.Omega.{arith}
-use lib.ListN.{length-set}
-use Rattle.words.proofs.TypeLaws.{store_more, store_end, unnamed_length, name_over_spaces}
+use lib.ListN.{length}
+use Rattle.words.specs.Types.{by_ticker}
+use Rattle.words.proofs.TypeLaws.{type_behind}
 use Rattle.words.proofs.by_ticker.Goals as goal
 
-pub loop-i-init : goal.loop-i-init
-loop-i-init c =
-    let a = c.args in
-    let x = c.unnamed-x in
-    (omega arith, unnamed_length x.result a.t x.ensures, name_over_spaces x.result a.name.now a.t x.ensures c.requires)
-
-pub loop-i-preserved : goal.loop-i-preserved
-loop-i-preserved c =
-    let l = c.loop-i in
-    (omega arith, simp length-set l.invariant.1, store_more l.x c.args.name.now (l.i + 1) l.i (omega arith) ∙ l.invariant.2)
-
 pub returns : goal.returns
+unfolding by_ticker
 returns c =
-    let l = c.loop-i in
-    sym (store_end l.x c.args.name.now (l.i + 1) l.i (omega arith)) ∙ l.invariant.2
+    let n = length c.args.name.now in
+    let k : 1 + n - 1 ≡ n = omega arith in
+    rw (← type_behind n c.args.t c.requires) (rw (k, c.copy_from_slice.ensures.after) refl)

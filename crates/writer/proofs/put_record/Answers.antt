@@ -4,4 +4,4 @@ use Rattle.writer.proofs.Laws.{record_put}
 use Rattle.writer.proofs.put_record.Goals as goal
 
 pub returns : goal.returns
-returns c = rw (c.put_at.ensures, c.put_le-2.ensures, c.put_le.ensures) (record_put c.args.memory.now c.args.body.now c.args.at c.args.number)
+returns c = rw (c.put_at.ensures, c.put-2.ensures, c.put.ensures) (record_put c.args.memory.now c.args.body.now c.args.at c.args.number)

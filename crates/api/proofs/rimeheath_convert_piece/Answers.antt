@@ -1,8 +1,0 @@
-use Rattle.api.proofs.Converting.{piece_told}
-use Rattle.api.proofs.rimeheath_convert_piece.Goals as goal
-
-pub returns-in-Refused : goal.returns-in-Refused
-returns-in-Refused c = piece_told _ _ _ _ c.in-Refused.is (rw (c.edition_of-f.ensures, c.edition_of-t.ensures) at c.convert_piece.ensures) _
-
-pub returns-in-Done : goal.returns-in-Done
-returns-in-Done c = piece_told _ _ _ _ c.in-Done.is (rw (c.edition_of-f.ensures, c.edition_of-t.ensures) at c.convert_piece.ensures) c.args.counts.now

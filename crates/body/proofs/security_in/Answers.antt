@@ -1,8 +1,0 @@
--- In 1.3 the byte that is read; later nothing is asked.
--- Assumes nothing.
-use mathlib.Core.Path.{ap}
-use Rattle.body.specs.declared.Security.{Security}
-use Rattle.body.proofs.security_in.Goals as goal
-
-pub returns-in-V13 : goal.returns-in-V13
-returns-in-V13 c = rw c.in-V13.is (ap Security.Type c.security_of.ensures)

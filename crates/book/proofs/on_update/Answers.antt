@@ -1,7 +1,0 @@
--- The search is the one that the contract names.
--- Assumes nothing.
-use mathlib.Core.Path.{refl}
-use Rattle.book.proofs.on_update.Goals as goal
-
-pub returns : goal.returns
-returns c = rw (c.update_plan.ensures, c.find_place.ensures, c.u32_at.ensures) refl

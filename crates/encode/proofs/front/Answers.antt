@@ -1,6 +1,0 @@
--- Each call stores one field behind those before it.
--- Assumes nothing.
-use Rattle.encode.proofs.front.Goals as goal
-
-pub returns : goal.returns
-returns c = rw (c.put_four-2.ensures, c.put_four.ensures, c.put_byte.ensures)

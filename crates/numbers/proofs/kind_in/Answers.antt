@@ -1,8 +1,0 @@
--- A byte decides the kind, and no larger number is a type.
--- Assumes nothing.
-use native.Mathlib.Omega.{arith}
-use Rattle.numbers.proofs.Held.{no_type}
-use Rattle.numbers.proofs.kind_in.Goals as goal
-
-pub returns : goal.returns
-returns c = no_type c.args.v (omega arith)
