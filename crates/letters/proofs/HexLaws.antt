@@ -79,7 +79,7 @@ solid : ℕ → Bool
 solid d = both (leb 33 (digit_char d)) (leb (digit_char d) 126)
 
 -- a digit that is written says what it was
-digit_back : (d : ℕ) → d < 16 → digit_value (digit_char d) ≡ d
+pub digit_back : (d : ℕ) → d < 16 → digit_value (digit_char d) ≡ d
 unfolding back run both
 digit_back d h = eqb-true (digit_value (digit_char d)) d (in_run back 0 16 refl d (omega arith) (omega arith))
 

@@ -1,6 +1,6 @@
 -- Where fields lie, and what a field that was read leaves of the body.
 -- Assumes nothing.
-use Rattle.std.proofs.Common.{◌≡◌, refl, sym, ap, ◌∙◌, ◌==◌, ℕ, suc, ◌+◌, ◌-◌, ◌≤◌, ◌<◌, true, false, true≢false, List, [], ◌∷◌, ◌++◌, length, take, drop, get_or, set, Option, Some, None, MatchOption, option_map, slice_get, is_some, is_err, unwrap_or, Result, Ok, Err, arith, add-one, length-take-le, length-drop, drop-drop, append_assoc}
+use Rattle.std.proofs.Common.{◌≡◌, refl, sym, ap, ◌∙◌, ◌==◌, ◌×◌, ℕ, suc, ◌+◌, ◌-◌, ◌≤◌, ◌<◌, true, false, true≢false, List, [], ◌∷◌, ◌++◌, length, take, drop, get_or, set, Option, Some, None, MatchOption, option_map, slice_get, is_some, is_err, unwrap_or, Result, Ok, Err, arith, add-one, length-take-le, length-drop, drop-drop, append_assoc}
 use lib.Seq.{sets, sets-eq}
 use Rattle.std.proofs.lemmas.List.Quantifiers.{position-Some}
 use Rattle.facts.specs.Pick.{pick}
@@ -20,8 +20,11 @@ use Rattle.spans.specs.Spans.{Word}
 use Rattle.spans.specs.Left.{told}
 use Rattle.spans.specs.declared.Word.{Word as Told}
 
-pub field_inside : (ed : Edition) (k : Kind) (place i : ℕ) → field_at ed k place ≡ Some i → i < 10
-field_inside ed k place i e = omega (arith, (position-Some (λ f. f.form.at == place) (entries_of ed k) i no_entry e).0, most_fields_lem ed k)
+-- a field that is found is one of the message's, which are ten at most
+pub field_inside : (ed : Edition) (k : Kind) (place i : ℕ) → field_at ed k place ≡ Some i → (i < length (entries_of ed k)) × (i < 10)
+field_inside ed k place i e =
+    let there = (position-Some (λ f. f.form.at == place) (entries_of ed k) i no_entry e).0 in
+    (there, omega (arith, there, most_fields_lem ed k))
 
 -- ---- a field that was lent by itself
 abbrev lent : List ℕ → ℕ → ℕ → List ℕ

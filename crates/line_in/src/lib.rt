@@ -11,7 +11,10 @@ ghost use Rattle.line_in.specs.Lines.{blank_draft, take_field, take_word, take_a
 use editions::Edition;
 use keys::Form;
 use kinds::Kind;
-use spans::{LINE_MOST, Word, Words};
+use spans::{Word, Words};
+
+// The longest line.
+pub const LINE_MOST: usize = spans::LINE_MOST;
 
 // What was expected where a line is wrong; of a message and of its field, where there is one.
 #[derive(Clone, Copy, PartialEq, Eq, Debug)]

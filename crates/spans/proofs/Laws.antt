@@ -9,7 +9,7 @@ use Rattle.words.specs.Types.{all_from}
 use Rattle.spans.specs.Spans.{blank, blanks, filled, word, opens, grown, words_at, place_of}
 
 -- no byte from 33 to 126 is a blank
-letter_no_blank : (x : ℕ) → 33 ≤ x → blank x ≡ false
+pub letter_no_blank : (x : ℕ) → 33 ≤ x → blank x ≡ false
 unfolding blank
 letter_no_blank x h = rw (ne_eqb x 32 (λ e. omega arith), ne_eqb x 9 (λ e. omega arith), ne_eqb x 13 (λ e. omega arith)) refl
 
@@ -17,7 +17,7 @@ letter_no_blank x h = rw (ne_eqb x 32 (λ e. omega arith), ne_eqb x 9 (λ e. ome
 later : (i n : ℕ) → suc i + n ≡ i + suc n
 later i n = omega arith
 
-words_start : (i : ℕ) (s : List ℕ) → words_at i s ≡ words_at (i + blanks s) (drop (blanks s) s)
+pub words_start : (i : ℕ) (s : List ℕ) → words_at i s ≡ words_at (i + blanks s) (drop (blanks s) s)
 unfolding words_at pick
 words_start i [] = refl
 words_start i (x ∷ s) = go (blank x) refl (words_start (suc i) s)
@@ -48,7 +48,7 @@ opens_not (x ∷ s) h = go (blank x) refl
     go true e = rw e refl
     go false e = absurd (true≢false (rw e at h))
 
-start_fills : (s : List ℕ) → blanks s < length s → 0 < filled (drop (blanks s) s)
+pub start_fills : (s : List ℕ) → blanks s < length s → 0 < filled (drop (blanks s) s)
 start_fills [] h = absurd (not-suc-le-zero h)
 start_fills (x ∷ s) h = go (blank x) refl (start_fills s)
   where
@@ -56,7 +56,7 @@ start_fills (x ∷ s) h = go (blank x) refl (start_fills s)
     go true e rest = rw (e, one-add) (rest (let l = rw e at h in omega arith))
     go false e rest = rw (e, e) (omega arith)
 
-words_more : (i : ℕ) (s : List ℕ) → 0 < filled s → words_at i s ≡ word i (take (filled s) s) ∷ words_at (i + filled s) (drop (filled s) s)
+pub words_more : (i : ℕ) (s : List ℕ) → 0 < filled s → words_at i s ≡ word i (take (filled s) s) ∷ words_at (i + filled s) (drop (filled s) s)
 unfolding words_at pick grown
 words_more i [] h = absurd (not-suc-le-zero h)
 words_more i (x ∷ s) h = go (blank x) (opens s) refl refl (words_more (suc i) s)

@@ -6,6 +6,8 @@ ghost use Rattle.std.specs.Io.{ReadsAtMost};
 ghost use Rattle.std.specs.Io.KnownBytes.{Consumes, IsAtEnd, Keeps, ReadConsumes};
 ghost use Rattle.streams.specs.Streams.{framed, spaced, told_text};
 
+pub mod lent;
+
 use std::env::{Env, FillError};
 use std::error::Error;
 use std::io::{ErrorKind, Read};
@@ -118,7 +120,7 @@ impl<const N: usize> Word<N> {
         ensures { length result ≤ N }
     {
         let mut bytes = [0; N];
-        let len = rt.arg(i, &mut bytes).unwrap_or(0);
+        let len = lent::word(rt, i, &mut bytes);
         Word { bytes, len }
     }
 
@@ -262,6 +264,12 @@ mod tests {
     fn takes_words(rt: HostRuntime) {
         assert_eq!(rt; word_count(&Three, usize::MAX), 3);
         assert_eq!(rt; word_count(&Three, 2), 2);
+        let mut buf = [0u8; 5];
+        assert_eq!(rt; lent::word(&Three, 0, &mut buf), 4);
+        assert_eq!(rt; lent::word(&Three, 1, &mut buf), 0);
+        assert_eq!(rt; lent::word(&Three, 3, &mut buf), 0);
+        let mut small = [0u8; 3];
+        assert_eq!(rt; lent::word(&Three, 0, &mut small), 0);
         assert_eq!(rt; Word::<5>::at(&Three, 0).as_slice().len(), 4);
         assert_eq!(rt; Word::<5>::at(&Three, 1).as_slice().len(), 0);
         assert_eq!(rt; Word::<5>::at(&Three, 3).as_slice().len(), 0);
