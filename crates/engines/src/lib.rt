@@ -21,6 +21,7 @@ pub fn good_index(n: usize) -> bool
 }
 
 #[tactic(auto, unfolding(crate::specs::Engines::order_by, facts::specs::Pick::pick))]
+#[inline(always)]
 pub fn find_order(t: &[u64], ix: &[u64], id: u64) -> Option<usize>
     ensures { result ≡ order_by ix.now id (rows t.now) }
 {
@@ -32,6 +33,7 @@ pub fn find_order(t: &[u64], ix: &[u64], id: u64) -> Option<usize>
 }
 
 #[tactic(auto, unfolding(crate::specs::Engines::free_by, facts::specs::Pick::pick))]
+#[inline(always)]
 pub fn find_free(t: &[u64], ix: &[u64]) -> Option<usize>
     ensures { result ≡ free_by ix.now (rows t.now) }
 {

@@ -172,6 +172,7 @@ pub fn clear_of(b: &[u8]) -> SymbolClear
     }
 }
 
+#[inline(always)]
 pub fn add_of(b: &[u8]) -> AddOrder
     ensures { result ≡ add_of b.now }
 {
@@ -209,6 +210,7 @@ pub fn delete_of(b: &[u8]) -> DeleteOrder
     }
 }
 
+#[inline(always)]
 pub fn execution_of(b: &[u8]) -> OrderExecution
     ensures { result ≡ execution_of b.now }
 {

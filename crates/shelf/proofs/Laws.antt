@@ -63,6 +63,10 @@ module _ (t : List ℕ) (i : ℕ) (x : List ℕ) (is : x ≡ get_or (pieces slot
       let front : take (min n 64) (padded x 10 64) ≡ take n (padded x 10 64) = rw length_padded at (take_min n (padded x 10 64)) in
       rw (add-sub_cancel_left 10 (min n 64)) (sym (ap (take (min n 64)) part ∙ take-take (min n 64) 64 (drop 10 x) (omega arith)) ∙ front ∙ body_is n e)
 
+  pub number_none : x ≡ [] → 0 ≡ (slot_at t i).number
+  unfolding field le
+  number_none e = ap (λ (y : List ℕ). field y 0 8) (sym e) ∙ number_is
+
   pub body_none : x ≡ [] → [] ≡ slot_body (slot_at t i)
   unfolding field le
   body_none e = let n : 0 ≡ field x 8 2 = ap (λ (y : List ℕ). field y 8 2) (sym e) in body_is 0 n

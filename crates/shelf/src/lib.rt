@@ -44,7 +44,10 @@ fn slot(s: &[u8], i: usize) -> &[u8]
 pub fn slot_number(s: &[u8], i: usize) -> u64
     ensures { result ≡ (slot_at s.now i).number }
 {
-    u64::at(slot(s, i), 0)
+    match slots(s).get(i) {
+        Some(x) => u64::at(x, 0),
+        None => 0,
+    }
 }
 
 #[tactic(auto, using(crate::proofs::Laws::len_is))]
