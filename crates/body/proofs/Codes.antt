@@ -14,7 +14,7 @@ use Rattle.kinds.specs.declared.Kind.{Kind}
 use Rattle.fields.specs.Fields.{bad_at}
 use Rattle.fields.specs.declared.Fault.{Fault}
 use Rattle.body.specs.Faults.{fault_of}
-use Rattle.body.specs.Read.{framed, judge_fields, ranged, judge_body, judged, judged_number, judged_code}
+use Rattle.body.specs.Read.{framed, judge_fields, ranged, judge_body, judged, judged_number, judged_code, coded}
 use Rattle.std.specs.Prelude.{Result, Ok, Err}
 use Rattle.body.specs.Places.{BadBody}
 use Rattle.body.proofs.Tests.{passed, failed}
@@ -29,6 +29,11 @@ told_good (Err f) u e = let z : ◌≡◌ {A = ℕ} 0 1 = cc in absurd (omega ar
 pub told_bad : (r : Result Kind Fault) (f : Fault) → judged r ≡ Err f → Err f ≡ r
 told_bad (Ok k) f e = let z : ◌≡◌ {A = ℕ} 0 1 = cc in absurd (omega arith)
 told_bad (Err g) f e = let q : g ≡ f = cc in ap (λ (x : Fault). Err x) (sym q)
+
+-- in one number it is that of the judgement
+pub code_told : (r : Result Kind Fault) → coded (judged r) ≡ judged_code r
+code_told (Ok k) = refl
+code_told (Err f) = refl
 
 module _ (ed : Edition) (b : List ℕ) where
   -- ---- by the tests

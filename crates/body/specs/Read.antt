@@ -48,6 +48,11 @@ abbrev pub judged_code : Result Kind Fault → ℕ
 judged_code (Ok k) = 0
 judged_code (Err f) = with_offset f
 
+-- what judging answers, in one number
+abbrev pub coded : Result (Unit {0}) Fault → ℕ
+coded (Ok u) = 0
+coded (Err f) = with_offset f
+
 -- what is judged good is decoded as its kind, and nothing else is
 unfoldable pub message : Result Kind Fault → List ℕ → Body
 message (Ok k) b = decoded k b

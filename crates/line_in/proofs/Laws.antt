@@ -1,6 +1,6 @@
 -- Where fields lie, and what a field that was read leaves of the body.
 -- Assumes nothing.
-use Rattle.std.proofs.Common.{◌≡◌, refl, sym, ap, ◌∙◌, ◌==◌, ◌×◌, ℕ, suc, ◌+◌, ◌-◌, ◌≤◌, ◌<◌, true, false, true≢false, List, [], ◌∷◌, ◌++◌, length, take, drop, get_or, set, Option, Some, None, MatchOption, option_map, slice_get, is_some, is_err, unwrap_or, Result, Ok, Err, arith, add-one, length-take-le, length-drop, drop-drop, append_assoc}
+use Rattle.std.proofs.Common.{◌≡◌, refl, sym, ap, ◌∙◌, ◌==◌, ℕ, suc, ◌+◌, ◌-◌, ◌≤◌, ◌<◌, true, false, true≢false, List, [], ◌∷◌, ◌++◌, length, take, drop, get_or, set, Option, Some, None, MatchOption, option_map, slice_get, is_some, is_err, unwrap_or, Result, Ok, Err, arith, add-one, length-take-le, length-drop, drop-drop, append_assoc}
 use lib.Seq.{sets, sets-eq}
 use Rattle.std.proofs.lemmas.List.Quantifiers.{position-Some}
 use Rattle.facts.specs.Pick.{pick}

@@ -114,20 +114,21 @@ fn show_views(rt: &impl Print, orders: &[u64], symbols: &[u8]) -> io::Result<()>
     Ok(())
 }
 
-// How many levels each side has, the spread, and then the levels.
+// How many levels each side has, the spread, and then the levels. Both sides' stand in one array, one after the other, since it is the
+// largest but the order table that the program keeps.
 fn show_symbol(rt: &impl Print, orders: &[u64], symbols: &[u8], id: u32) -> io::Result<()> {
-    let mut bids = [0; LEVELS];
-    let mut asks = [0; LEVELS];
-    let bought = views::ladder(orders, symbols, id, Side::Buy, &mut bids).unwrap_or(0);
-    let sold = views::ladder(orders, symbols, id, Side::Sell, &mut asks).unwrap_or(0);
+    let mut levels = [0; LEVELS];
+    let sold = views::ladder(orders, symbols, id, Side::Sell, &mut []).unwrap_or(0);
+    let bought = views::ladder(orders, symbols, id, Side::Buy, &mut levels).unwrap_or(0);
     print!(rt; "symbol {id} {bought} {sold} ")?;
     match views::spread(orders, symbols, id) {
         Ok(Some(z)) => rt.println(z)?,
         Ok(None) => rt.println("none")?,
         Err(_) => rt.println("refused")?,
     }
-    show_levels(rt, "bid", &bids, bought)?;
-    show_levels(rt, "ask", &asks, sold)
+    show_levels(rt, "bid", &levels, bought)?;
+    let sold = views::ladder(orders, symbols, id, Side::Sell, &mut levels).unwrap_or(0);
+    show_levels(rt, "ask", &levels, sold)
 }
 
 fn show_levels(rt: &impl Print, key: &str, levels: &[u64], n: usize) -> io::Result<()> {

@@ -44,6 +44,10 @@ Laid (p ∷ ps) t u = InFront p t × Laid ps (drop (2 + length p) t) u
 abbrev pub Inside : List ℕ → Type 0
 Inside u = (length u < 2) ⊎ (length u - 2 < field u 0 2)
 
+-- no packet of at most 1,500 bytes lies whole in front
+abbrev pub NoneInFront : List ℕ → Type 0
+NoneInFront t = (packet_most < field t 0 2) ⊎ Inside t
+
 -- ---- its end
 -- what such bytes come to where no more follow: of an over-long packet the rest is still to be passed over, any other piece is held
 unfoldable pub waiting : List ℕ → Standing → Hearing

@@ -1,9 +1,9 @@
 // A stream that listens to a chunk: bytes passed over, packets given to the receiver, and bytes of an unfinished packet put into the buffer.
-ghost use Rattle.std.specs.Prelude.{◌≡◌, ◌≤◌, ◌<◌, length, drop, IfSome};
+ghost use Rattle.std.specs.Prelude.{◌≡◌, ◌≤◌, ◌<◌, length, drop, IfSome, IfNone};
 ghost use Rattle.facts.specs.Limits.{packet_most};
 ghost use Rattle.arbitration.specs.Stream.{each};
 ghost use Rattle.recording.specs.Stream.{added, placed, heard, byte};
-ghost use Rattle.recording.specs.Whole.{InFront};
+ghost use Rattle.recording.specs.Whole.{InFront, NoneInFront};
 ghost use Rattle.recording.specs.Steps.{missed, passed_over};
 
 use crate::Stream;
@@ -76,6 +76,7 @@ fn passed(mut stream: Stream, n: usize) -> Stream
 fn whole(chunk: &[u8]) -> Option<&[u8]>
     ensures packet { IfSome result (λ p. InFront p.now chunk.now) }
     ensures short { IfSome result (λ p. length p.now ≤ packet_most) }
+    ensures none { IfNone result (NoneInFront chunk.now) }
 {
     let n = u16::at(chunk, 0) as usize;
     if PACKET_MOST < n {

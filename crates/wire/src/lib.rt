@@ -76,6 +76,17 @@ impl Number for u64 {
     }
 }
 
+// All bytes of one run into another of the same length, whatever that is. The library's copy of a run whose length the compiler doesn't know
+// would have an archive for C need `memmove` from outside.
+fn copy(s: &[u8], out: &mut [u8])
+    requires { length s.now ≡ length out.old }
+    ensures { out.new ≡ s.now }
+{
+    for i in 0..out.len() {
+        out[i] = s[i];
+    }
+}
+
 // The bytes from at on, into the whole of out, with zeros for those past the end. Where all are there, as nearly always, they are one copy.
 pub fn copy_at(b: &[u8], at: usize, out: &mut [u8])
     ensures { out.new ≡ padded b.now at (length out.old) }
@@ -91,16 +102,30 @@ pub fn copy_at(b: &[u8], at: usize, out: &mut [u8])
         return;
     }
     wipe(out);
-    out[..k].copy_from_slice(&b[at..]);
+    copy(&b[at..], &mut out[..k]);
+}
+
+// N bytes that are not all there. Hardly anybody asks for them, so this is kept out of the way of whoever asks for bytes that are.
+#[cold]
+#[inline(never)]
+fn part_at<const N: usize>(b: &[u8], at: usize) -> [u8; N]
+    ensures { result ≡ padded b.now at N }
+{
+    let mut out = [0u8; N];
+    copy_at(b, at, &mut out);
+    out
 }
 
 // The N bytes from at on, with zeros for those past the end.
 pub fn bytes_at<const N: usize>(b: &[u8], at: usize) -> [u8; N]
     ensures { result ≡ padded b.now at N }
 {
-    let mut out = [0u8; N];
-    copy_at(b, at, &mut out);
-    out
+    if at <= b.len()
+        && let Some((x, _)) = b[at..].split_first_chunk()
+    {
+        return *x;
+    }
+    part_at(b, at)
 }
 
 // Every byte of a slice of any length, zeroed.
@@ -133,5 +158,5 @@ pub fn put_at(out: &mut [u8], at: usize, s: &[u8])
         return;
     }
     let n = s.len().min(out.len() - at);
-    out[at..at + n].copy_from_slice(&s[..n]);
+    copy(&s[..n], &mut out[at..at + n]);
 }

@@ -14,8 +14,8 @@ returns-then-b-at c = c.wipe.ensures ∙ zeros_alone c.args.b.now c.args.at (len
 pub returns-then-n-k : goal.returns-then-n-k
 returns-then-n-k c = c.copy_from_slice.ensures.after ∙ part_there c.args.b.now c.args.at (length c.args.out.now) (omega arith)
 
-pub copy_from_slice-requires-2 : goal.copy_from_slice-requires-2
-copy_from_slice-requires-2 c = sym (length-take-le (length c.args.b.now - c.args.at) (drop c.args.at c.args.b.now) (rw length-drop (omega arith)) ∙ sym (zeros_room (length c.args.out.now) (length c.args.b.now - c.args.at) _ (omega arith) c.wipe-2.ensures))
+pub copy-requires : goal.copy-requires
+copy-requires c = length-take-le (length c.args.b.now - c.args.at) (drop c.args.at c.args.b.now) (rw length-drop (omega arith)) ∙ sym (zeros_room (length c.args.out.now) (length c.args.b.now - c.args.at) _ (omega arith) c.wipe-2.ensures)
 
 pub returns : goal.returns
-returns c = front_and_zeros c.args.b.now c.args.at (length c.args.out.now) _ _ (omega arith) (omega arith) c.wipe-2.ensures c.copy_from_slice-2.ensures.after
+returns c = front_and_zeros c.args.b.now c.args.at (length c.args.out.now) _ _ (omega arith) (omega arith) c.wipe-2.ensures c.copy.ensures
