@@ -293,11 +293,20 @@ front : (b : List ℕ) (n : ℕ) → length b ≡ n → n ≤ 42 → take n (pad
 unfolding padded
 front b n h m = take-take n 42 (b ++ replicate 42 0) m ∙ take_at b (replicate 42 0) n h
 
+-- as many of its first bytes as its type has in the table stand in front of zeros
+abbrev pub HeldInFront : List ℕ → Type 0
+HeldInFront w = w ≡ padded (take (length_of (get_or w 0 0)) w) 0 42
+
 -- ---- the whole draft
 -- the body of a type that is no message's is 42 zeros, which are judged 3
 unknown_held : (ed : Edition) (l x : List ℕ) → held_draft ed (padded (body_from ed Kind.Unknown l x) 0 42) ≡ draft_from ed Kind.Unknown l x
 unfolding held_draft draft_from number_from body_for joined padded length_of lookup table judge_body framed pick both
 unknown_held ed l x = refl
+
+-- and zeros behind none of them
+unknown_padded : (ed : Edition) (l x : List ℕ) → HeldInFront (padded (body_from ed Kind.Unknown l x) 0 42)
+unfolding body_for joined padded length_of lookup table pick
+unknown_padded ed l x = refl
 
 module _ (ed : Edition) (k : Kind) (l x : List ℕ) where
   pub unfit : draft_fits ed k l x ≡ false → Err (refusal 4) ≡ draft_from ed k l x
@@ -305,17 +314,25 @@ module _ (ed : Edition) (k : Kind) (l x : List ℕ) where
   unfit h = elim (known k) [ inl e ↦ absurd (true≢false (sym (unknown_fits ed k l x e) ∙ h)) | inr r ↦ rw (r, h) ]
 
   module _ (f : draft_fits ed k l x ≡ true) where
-    known_held : refusal_of k ≡ 0 → held_draft ed (padded (body_from ed k l x) 0 42) ≡ draft_from ed k l x
-    unfolding held_draft draft_from number_from body_for kind_length pick
-    known_held r =
+    known_front : refusal_of k ≡ 0 → take (length_of (get_or (padded (body_from ed k l x) 0 42) 0 0)) (padded (body_from ed k l x) 0 42) ≡ body_from ed k l x
+    unfolding body_for kind_length
+    known_front r =
         let w = draft_framed ed k l x r f in
         let m = w.most in
         let b : List ℕ = body_from ed k l x in
         let type_is : get_or (padded b 0 42) 0 0 ≡ type_of k = get_or_padded b 0 42 0 (omega arith) in
-        rw (type_is, front b (kind_length k) w.length_is (omega arith), r, f)
+        rw (type_is, front b (kind_length k) w.length_is (omega arith)) refl
+
+    known_held : refusal_of k ≡ 0 → held_draft ed (padded (body_from ed k l x) 0 42) ≡ draft_from ed k l x
+    unfolding held_draft draft_from number_from pick
+    known_held r = rw (known_front r, r, f)
 
     pub held : held_draft ed (padded (body_from ed k l x) 0 42) ≡ draft_from ed k l x
     held = elim (known k) [ inl e ↦ (λ i. held_draft ed (padded (body_from ed (e i) l x) 0 42)) ∙ (unknown_held ed l x ∙ ap (λ (y : Kind). draft_from ed y l x) (sym e)) | inr r ↦ known_held r ]
+
+    -- behind what the table takes of the 42 bytes are zeros
+    pub held_padded : HeldInFront (padded (body_from ed k l x) 0 42)
+    held_padded = elim (known k) [ inl e ↦ subst (λ (y : Kind). HeldInFront (padded (body_from ed y l x) 0 42)) (sym e) (unknown_padded ed l x) | inr r ↦ ap (λ (b : List ℕ). padded b 0 42) (sym (known_front r)) ]
 
 -- ---- what a caller has in hand
 module _ (ed : Edition) (l x : List ℕ) where

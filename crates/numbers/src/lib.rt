@@ -1,14 +1,16 @@
 // A message as eight numbers and 28 bytes of text, as C has it (docs/WRITE.md), both ways: read into them, and written from them.
 #![tactic(auto)]
 
-ghost use Rattle.std.specs.Prelude.{ℕ, ◌≡◌, ◌<◌, ◌≤◌, List, [], ◌∷◌, ◌++◌, take, get_or};
+ghost use Rattle.std.specs.Prelude.{ℕ, ◌≡◌, ◌<◌, ◌≤◌, List, [], ◌∷◌, ◌++◌, length, take, get_or};
+ghost use Rattle.std.proofs.Common.{ap, arith, length-take-le, sym};
 ghost use Rattle.body.specs.Shown.{security_in};
 ghost use Rattle.fields.specs.Fields.{update_of, state_of, decoded};
 ghost use Rattle.fields.specs.Messages.{system_time, symbol_update, system_state, trading_status, symbol_clear, add_order, modify_order, delete_order, order_execution, trade, trade_cancel};
-ghost use Rattle.kinds.specs.Table.{kind_of};
+ghost use Rattle.kinds.specs.Table.{length_of, kind_of};
 ghost use Rattle.layout.specs.Layout.{FieldsFit};
 ghost use Rattle.layout.specs.Message.{written, Fit};
 ghost use Rattle.wire.specs.Le.{padded};
+ghost use Rattle.wire.proofs.Laws.{length_padded};
 ghost use Rattle.numbers.specs.Drafts.{time_from, security_from, symbol_from, update_from, state_from, status_from, clear_from, add_from, modify_from, delete_from, execution_from, trade_from, cancel_from, fields_from, most, draft_fits, body_from, held_draft, draft_of};
 ghost use Rattle.numbers.specs.Numbers.{update_fields, state_fields, status_fields, clear_fields, add_fields, modify_fields, delete_fields, execution_fields, trade_fields, cancel_fields, typed, reserved_byte, update_text, state_text, text_of};
 
@@ -22,7 +24,7 @@ use std::marker::Model;
 use wire::Number;
 
 // A body from numbers and text: as many bytes as it has, in front of zeros.
-#[derive(Drop)]
+#[derive(Clone, Copy)]
 pub struct Draft {
     len: usize,
     bytes: [u8; 42],
@@ -33,7 +35,14 @@ impl Model for Draft {
 
     ghost view = { λ d. take d.len d.bytes };
 
-    ghost invariant = { λ d. d.len ≤ 42 };
+    ghost invariant = { λ d. (d.len ≤ 42) × (d.bytes ≡ padded (take d.len d.bytes) 0 42) };
+
+    ghost inverse = { λ b. record { len = length b; bytes = padded b 0 42 } };
+
+    ghost inverse_ok = { λ d h i. record {
+      len = length-take-le d.len d.bytes (omega (arith, h.0, ap length h.1, length_padded (take d.len d.bytes) 0 42)) i;
+      bytes = sym h.1 i;
+    } };
 }
 
 impl Draft {
@@ -491,6 +500,7 @@ fn body_from(e: Edition, k: Kind, n: &[u64; 8], t: &[u8; 28]) -> [u8; 42]
 // Judges a body that stands in front of zeros, as long as its type has it in the table of kinds; a type that is no message's has length 0,
 // and is judged 3.
 fn judged(e: Edition, bytes: [u8; 42]) -> Result<Draft, Refusal>
+    requires { bytes ≡ padded (take (length_of (get_or bytes 0 0)) bytes) 0 42 }
     ensures { result ≡ held_draft e bytes }
 {
     let len = kinds::length_of(bytes[0]);
