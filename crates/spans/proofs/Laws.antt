@@ -82,12 +82,19 @@ words_none i s e = go (cases_lt (blanks s) (length s))
     go (inr g) = words_start i s ∙ ap (words_at (i + blanks s)) (drop_of_length-le s g)
 
 -- where the word ends: at the first blank, or with the line
-word_ends : (f : List ℕ) → unwrap_or (position blank f) (length f) ≡ filled f
+pub word_ends : (f : List ℕ) → unwrap_or (position blank f) (length f) ≡ filled f
 word_ends f = go (cases_lt (filled f) (length f))
   where
     go : (filled f < length f) ⊎ (length f ≤ filled f) → unwrap_or (position blank f) (length f) ≡ filled f
     go (inl l) = rw (lt-ltb (filled f) (length f) l) refl
     go (inr g) = rw (le-ltb (filled f) (length f) g) (omega (arith, prefix_len-le-length (λ x. not (blank x)) f))
+
+pub word_starts : (f : List ℕ) → unwrap_or (position (λ x. not (blank x)) f) (length f) ≡ blanks f
+word_starts f = go (cases_lt (blanks f) (length f))
+  where
+    go : (blanks f < length f) ⊎ (length f ≤ blanks f) → unwrap_or (position (λ x. not (blank x)) f) (length f) ≡ blanks f
+    go (inl l) = rw (lt-ltb (blanks f) (length f) l) refl
+    go (inr g) = rw (le-ltb (blanks f) (length f) g) (omega (arith, prefix_len-le-length (λ x. not (not (blank x))) f))
 
 pub words_first :
     (i n e : ℕ) (s f w r : List ℕ) →

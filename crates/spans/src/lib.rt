@@ -1,8 +1,8 @@
 // The words of a line, each with the place of its first byte (docs/TEXT.md).
 #![tactic(auto)]
 
-ghost use Rattle.std.specs.Prelude.{◌≡◌, ◌+◌, ◌≤◌, ◌==◌, length, option_map, position};
-ghost use Rattle.spans.specs.Spans.{blank, line_most};
+ghost use Rattle.std.specs.Prelude.{◌≡◌, ◌+◌, ◌≤◌, ◌==◌, length, drop, option_map, position};
+ghost use Rattle.spans.specs.Spans.{blank, blanks, filled, line_most};
 
 // The longest line.
 pub const LINE_MOST: usize = 4096;
@@ -13,6 +13,29 @@ pub fn is_blank(x: u8) -> bool
     ensures { result ≡ blank x }
 {
     matches!(x, b' ' | b'\t' | b'\r')
+}
+
+// What is left of a line from a place on, none past its end.
+fn behind(line: &[u8], from: usize) -> &[u8]
+    ensures { result.now ≡ drop from line.now }
+{
+    line.get(from..).unwrap_or(&[])
+}
+
+// The place of the first byte from `from` on that is no blank, or the line's end.
+pub fn word_start(line: &[u8], from: usize) -> usize
+    ensures { result ≡ from + blanks (drop from line.now) }
+{
+    let rest = behind(line, from);
+    from + rest.iter().position(|x| !is_blank(*x)).unwrap_or(rest.len())
+}
+
+// The place of the first blank from `from` on, or the line's end.
+pub fn word_end(line: &[u8], from: usize) -> usize
+    ensures { result ≡ from + filled (drop from line.now) }
+{
+    let rest = behind(line, from);
+    from + rest.iter().position(|x| is_blank(*x)).unwrap_or(rest.len())
 }
 
 // The place of the first x.
