@@ -131,16 +131,17 @@ fn take_word(draft: Draft, w: Word<'_>) -> Result<Draft, Slip>
     take_field(draft, i, w.at, w.at + p + 1, &w.bytes[p + 1..])
 }
 
-// All words up to a comment.
-#[tactic(auto, using(crate::proofs::Laws::taken_err), unfolding(crate::specs::Lines::take_all, spans::specs::Spans::uncommented, facts::specs::Pick::pick))]
+// All words up to a comment, of which no more than its first byte is read.
+#[tactic(auto, using(crate::proofs::Laws::taken_err), unfolding(crate::specs::Lines::take_all, spans::specs::Spans::uncommented, spans::specs::Spans::noted, facts::specs::Pick::pick))]
 fn take_all(start: Draft, words: Words<'_>) -> Result<Draft, Slip>
     ensures { result ≡ take_all (uncommented (words_left words.entry)) (Ok start) }
 {
     let mut draft = start;
-    for w in words {
-        if w.is_note() {
+    let mut left = words;
+    while !left.at_note() {
+        let Some(w) = left.next() else {
             break;
-        }
+        };
         draft = take_word(draft, w)?;
     }
     Ok(draft)
@@ -236,14 +237,16 @@ fn read_record(e: Edition, first: Word<'_>, rest: Words<'_>, end: usize) -> Resu
 }
 
 // What a line says.
-#[tactic(auto, unfolding(crate::specs::Lines::read_line, crate::specs::Lines::of_line, crate::specs::Lines::of_words, facts::specs::Pick::pick))]
+#[tactic(auto, unfolding(crate::specs::Lines::read_line, crate::specs::Lines::of_line, crate::specs::Lines::of_words, spans::specs::Spans::noted, facts::specs::Pick::pick))]
 pub fn read_line(e: Edition, s: &[u8]) -> Result<Line, Slip>
     ensures { result ≡ read_line e s.now }
 {
     let mut words = Words::new(s).ok_or(slip_at(LINE_MOST, Expected::Shorter))?;
+    if words.at_note() {
+        return Ok(Line::Comment);
+    }
     match words.next() {
         None => Ok(Line::Blank),
-        Some(w) if w.is_note() => Ok(Line::Comment),
         Some(w) => read_record(e, w, words, s.len()),
     }
 }

@@ -1,12 +1,13 @@
 -- The words of a line, by the blanks in front and the word behind them, as the iterator takes them off; and where a byte stands.
 -- Assumes nothing.
-use Rattle.std.proofs.Common.{◌≡◌, ◌⊎◌, refl, sym, ap, ◌∙◌, Bool, true, false, not, true≢false, List, [], ◌∷◌, ◌++◌, ℕ, suc, ◌+◌, ◌≤◌, ◌<◌, length, take, drop, eqb, leb, arith, add-one, one-add, Some, None, drop_of_length-le, inl, inr, not-suc-le-zero, take_at, drop_at, ne_eqb, eq-eqb, leb-true, position, unwrap_or, lt-ltb, le-ltb}
+use Rattle.std.proofs.Common.{◌≡◌, ◌⊎◌, refl, sym, ap, ◌∙◌, Bool, true, false, not, true≢false, List, [], ◌∷◌, ◌++◌, ℕ, suc, ◌+◌, ◌≤◌, ◌<◌, length, get_or, take, drop, eqb, leb, arith, add-one, one-add, Some, None, drop_of_length-le, inl, inr, not-suc-le-zero, take_at, drop_at, ne_eqb, eq-eqb, leb-true, position, unwrap_or, lt-ltb, le-ltb}
 use Rattle.std.proofs.lemmas.Bool.{cases_lt}
+use Rattle.std.proofs.lemmas.List.{get_or-take, get_or-drop}
 use Rattle.std.proofs.lemmas.List.Sums.{prefix_len-le-length}
 use Rattle.facts.specs.Pick.{pick, both}
 use Rattle.facts.proofs.Picks.{both_true}
 use Rattle.words.specs.Types.{all_from}
-use Rattle.spans.specs.Spans.{blank, blanks, filled, word, opens, grown, words_at, place_of}
+use Rattle.spans.specs.Spans.{blank, blanks, filled, word, opens, grown, words_at, place_of, is_note, noted}
 
 -- no byte from 33 to 126 is a blank
 pub letter_no_blank : (x : ℕ) → 33 ≤ x → blank x ≡ false
@@ -153,3 +154,17 @@ place_below x lo hi (y ∷ a) h l =
     let t = both_true {a = leb lo y} {b = leb y hi} b.0 in
     let above : lo ≤ y = leb-true lo y t.0 in
     rw (ne_eqb y x (λ e. omega arith)) (ap (λ (n : ℕ). 1 + n) (place_below x lo hi a b.1 l) ∙ omega arith)
+
+-- ---- a comment in front, told by its first byte
+module _ (i : ℕ) (s : List ℕ) where
+  pub noted_word : blanks s < length s → noted (words_at i s) ≡ eqb (get_or s (blanks s) 0) 35
+  unfolding noted is_note
+  noted_word l =
+      let rest = drop (blanks s) s in
+      let some = start_fills s l in
+      let first : get_or (take (filled rest) rest) 0 0 ≡ get_or s (blanks s) 0 = get_or-take (filled rest) rest 0 0 some ∙ get_or-drop (blanks s) s 0 0 ∙ ap (λ n. get_or s n 0) (omega arith) in
+      ap noted (words_start i s ∙ words_more (i + blanks s) rest some) ∙ ap (λ x. eqb x 35) first
+
+  pub noted_none : length s ≤ blanks s → noted (words_at i s) ≡ false
+  unfolding noted words_at
+  noted_none h = rw (words_start i s, drop_of_length-le s h) refl

@@ -49,6 +49,11 @@ opened s = if leb (length s) line_most then Some (words_at 0 s) else None
 unfoldable pub is_note : Word → Bool
 is_note w = eqb (get_or w.bytes 0 0) 35
 
+-- whether the first of the words begins a comment
+unfoldable pub noted : List Word → Bool
+noted [] = false
+noted (w ∷ ws) = is_note w
+
 -- ".. which goes to the end of the line"
 unfoldable pub uncommented : List Word → List Word
 uncommented [] = []

@@ -75,7 +75,7 @@ pub struct Words<'a> {
 }
 
 impl<'a> Words<'a> {
-    ghost use Rattle.spans.specs.Spans.{opened};
+    ghost use Rattle.spans.specs.Spans.{opened, noted};
     ghost use Rattle.spans.specs.Left.{words_left};
 
     // All words of a line, unless it is too long.
@@ -87,6 +87,15 @@ impl<'a> Words<'a> {
         } else {
             None
         }
+    }
+
+    // Whether a comment begins with the next word: its first byte tells, so that no more of a comment is read.
+    #[tactic(auto, using(crate::proofs::Laws::noted_word, crate::proofs::Laws::noted_none))]
+    pub fn at_note(&self) -> bool
+        ensures { result ≡ noted (words_left self.now) }
+    {
+        let start = word_start(self.rest, 0);
+        start < self.rest.len() && self.rest[start] == b'#'
     }
 }
 
