@@ -65,17 +65,18 @@ fn place_from(r: Row, key: u64, low: u64) -> Option<u64>
     (low <= d).then_some(d)
 }
 
-// The nearest place, not below low, where the key has an order.
+// The nearest place, not below low, where the key has an order. Until the rows end a number beyond every place stands for none: an Option asked again
+// at each row took a quarter longer.
 fn nearest(t: &[u64], key: u64, low: u64) -> Option<u64>
     ensures { result ≡ nearest key low (rows t.now) }
 {
-    let mut best = None;
+    let mut best = u64::MAX;
     for i in 0..rows::row_count(t) {
         if let Some(d) = place_from(rows::row_at(t, i), key, low) {
-            best = Some(best.map_or(d, |b: u64| b.min(d)));
+            best = best.min(d);
         }
     }
-    best
+    (best <= facts::MOST_PRICE).then_some(best)
 }
 
 #[tactic(auto, unfolding(crate::specs::Ladder::at_price, facts::specs::Pick::both))]
