@@ -51,6 +51,13 @@ impl Draft {
     {
         &self.bytes[..self.len]
     }
+
+    // The body, with zeros behind it to the longest body's length.
+    pub fn bytes(&self) -> [u8; 42]
+        ensures { result ≡ padded self.now 0 42 }
+    {
+        self.bytes
+    }
 }
 
 // The numbers of each message: its type t first, zeros behind them. They stand in the order of their places, but for a Symbol Update's.
