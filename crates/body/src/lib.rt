@@ -70,6 +70,7 @@ pub fn market_ok(x: u8) -> bool
 
 // Refuses a body by 4 at a field whose test fails.
 #[tactic(auto, unfolding(facts::specs::Pick::pick))]
+#[inline(always)]
 fn judge_field(at: usize, ok: bool) -> Result<(), Fault>
     ensures { result ≡ tested ok at }
 {
@@ -81,6 +82,7 @@ fn judge_field(at: usize, ok: bool) -> Result<(), Fault>
 }
 
 // The Timestamp, which lies behind the type byte of every message that carries one.
+#[inline(always)]
 fn judge_stamp(b: &[u8]) -> Result<(), Fault>
     ensures { result ≡ tested (nanos_ok (field b.now 1 4)) 1 }
 {
@@ -88,6 +90,7 @@ fn judge_stamp(b: &[u8]) -> Result<(), Fault>
 }
 
 // Price and size, which stand side by side in every message that has them.
+#[inline(always)]
 fn judge_deal(b: &[u8], at: usize) -> Result<(), Fault>
     requires { at ≤ 42 }
     ensures { result ≡ pick (price_ok (field b.now at 8)) (tested (size_ok (field b.now (at + 8) 4)) (at + 8)) (Err (bad_at 4 at)) }
@@ -96,6 +99,7 @@ fn judge_deal(b: &[u8], at: usize) -> Result<(), Fault>
     judge_field(at + 8, size_ok(u32::at(b, at + 8)))
 }
 
+#[inline(always)]
 fn judge_update(e: Edition, b: &[u8]) -> Result<(), Fault>
     ensures { result ≡ judge_fields e Kind.SymbolUpdate b.now }
 {
@@ -106,6 +110,7 @@ fn judge_update(e: Edition, b: &[u8]) -> Result<(), Fault>
 }
 
 // An Add is judged alike in every edition.
+#[inline(always)]
 fn judge_add(b: &[u8]) -> Result<(), Fault>
     ensures { (e : Edition) → result ≡ judge_fields e Kind.Add b.now }
 {
@@ -115,6 +120,7 @@ fn judge_add(b: &[u8]) -> Result<(), Fault>
 }
 
 // A message in which Timestamp, price and size are all that is judged.
+#[inline(always)]
 fn judge_stamped_deal(b: &[u8], at: usize) -> Result<(), Fault>
     requires { at ≤ 42 }
     ensures { result ≡ pick (nanos_ok (field b.now 1 4)) (pick (price_ok (field b.now at 8)) (tested (size_ok (field b.now (at + 8) 4)) (at + 8)) (Err (bad_at 4 at))) (Err (bad_at 4 1)) }
@@ -125,6 +131,7 @@ fn judge_stamped_deal(b: &[u8], at: usize) -> Result<(), Fault>
 
 // The fields of a kind in their order: 4 at the earliest one out of range.
 #[tactic(auto, using(crate::proofs::Tests::none_judged, crate::proofs::Tests::stamp_judged, crate::proofs::Tests::modify_judged, crate::proofs::Tests::trade_judged, crate::proofs::Tests::execution_judged))]
+#[inline(always)]
 fn judge_fields(e: Edition, k: Kind, b: &[u8]) -> Result<(), Fault>
     ensures { result ≡ judge_fields e k b.now }
 {
@@ -142,6 +149,7 @@ fn judge_fields(e: Edition, k: Kind, b: &[u8]) -> Result<(), Fault>
 }
 
 // Judges a body of an edition, and decodes nothing: 3 at its start, then 4 at the earliest field out of range. A good body's kind is told.
+#[inline(always)]
 pub fn judge_body(e: Edition, b: &[u8]) -> Result<Kind, Fault>
     ensures { result ≡ judge_body e b.now }
 {
@@ -154,6 +162,7 @@ pub fn judge_body(e: Edition, b: &[u8]) -> Result<Kind, Fault>
 }
 
 // The same for whoever asks no more than whether a body is good.
+#[inline(always)]
 pub fn judge(e: Edition, b: &[u8]) -> Result<(), Fault>
     ensures { result ≡ judged (judge_body e b.now) }
 {

@@ -47,6 +47,7 @@ impl From<u8> for Kind {
     ghost from_gives = { λ t k. k ≡ kind_of t };
 
     #[tactic(auto, unfolding(crate::specs::Table::kind_of, facts::specs::Pick::pick))]
+    #[inline(always)]
     fn from(t: u8) -> Kind {
         match t {
             49 => Kind::SystemTime,

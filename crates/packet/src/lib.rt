@@ -86,6 +86,7 @@ fn shifted(n: usize, f: Fault) -> Fault
 }
 
 // Judges the first record of what is left: 2, 5, then what the body's judge says of its part.
+#[inline(always)]
 pub fn read_record(e: Edition, t: &[u8]) -> Result<Head, Fault>
     ensures { result ≡ read_record e t.now }
 {
