@@ -200,11 +200,20 @@ pub fn wipe_rows(t: &mut [u64])
     t.fill(0);
 }
 
+// A free row is passed by its rank alone. `filter` and `count` took half as long again where most rows are live, and a loop without the first test
+// reads every number of every row, which takes twice as long where most are free.
 pub fn count_live(t: &[u64]) -> usize
     ensures { result ≡ count_live (rows t.now) }
 {
-    whole_rows(t)
-        .iter()
-        .filter(|x| is_live(Row::from(**x)))
-        .count()
+    let mut count = 0;
+    for x in whole_rows(t) {
+        let r = Row::from(*x);
+        if r.rank == 0 {
+            continue;
+        }
+        if is_live(r) {
+            count += 1;
+        }
+    }
+    count
 }

@@ -135,5 +135,11 @@ pub fn commit(t: &mut [u8], w: Option<usize>, body: &[u8])
 pub fn count_used(t: &[u8]) -> usize
     ensures { result ≡ count_used (entries t.now) }
 {
-    whole_entries(t).iter().filter(|e| is_used(*e)).count()
+    let mut count = 0;
+    for e in whole_entries(t) {
+        if is_used(e) {
+            count += 1;
+        }
+    }
+    count
 }
