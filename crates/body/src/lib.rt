@@ -130,7 +130,7 @@ fn judge_stamped_deal(b: &[u8], at: usize) -> Result<(), Fault>
 }
 
 // The fields of a kind in their order: 4 at the earliest one out of range.
-#[tactic(auto, using(crate::proofs::Tests::none_judged, crate::proofs::Tests::stamp_judged, crate::proofs::Tests::modify_judged, crate::proofs::Tests::trade_judged, crate::proofs::Tests::execution_judged))]
+#[tactic(auto, using(crate::proofs::Tests::none_judged, crate::proofs::Tests::stamp_judged, crate::proofs::Tests::modify_judged, crate::proofs::Tests::trade_judged, crate::proofs::Tests::execution_judged, crate::proofs::Tests::add_judged), unfolding(facts::specs::Pick::pick))]
 #[inline(always)]
 fn judge_fields(e: Edition, k: Kind, b: &[u8]) -> Result<(), Fault>
     ensures { result ≡ judge_fields e k b.now }

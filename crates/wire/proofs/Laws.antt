@@ -120,6 +120,16 @@ sum_field b (suc n) =
 pub number_copied : (b c : List ℕ) (at n : ℕ) → c ≡ padded b at (suc n) → sum_through (λ i. byte_worth i (get_or c i 0)) n ≡ field b at (suc n)
 number_copied b c at n e = rw e (sum_field (padded b at (suc n)) n ∙ field_copied b at (suc n) (suc n) (omega arith))
 
+-- byte by byte: each is worth 256 times as much as the one before it
+pub two_copied : (b : List ℕ) (at : ℕ) → field b at 2 ≡ get_or (padded b at 2) 0 0 + 256 * get_or (padded b at 2) 1 0
+two_copied b at = sym (number_copied b _ at 1 refl) ∙ omega arith
+
+pub four_copied : (b : List ℕ) (at : ℕ) → field b at 4 ≡ get_or (padded b at 4) 0 0 + 256 * get_or (padded b at 4) 1 0 + 65536 * get_or (padded b at 4) 2 0 + 16777216 * get_or (padded b at 4) 3 0
+four_copied b at = sym (number_copied b _ at 3 refl) ∙ omega arith
+
+pub eight_copied : (b : List ℕ) (at : ℕ) → field b at 8 ≡ sum_through (λ i. byte_worth i (get_or (padded b at 8) i 0)) 7
+eight_copied b at = sym (number_copied b _ at 7 refl)
+
 -- and so it stands in a padded copy that reaches so far
 pub field_padded : (b : List ℕ) (n at w : ℕ) → at + w ≤ n → field (padded b 0 n) at w ≡ field b at w
 field_padded b n at w h = field_same (padded b 0 n) b at w (λ k l u. get_or_padded b 0 n k (omega arith) ∙ rw (zero-add k))

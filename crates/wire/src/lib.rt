@@ -39,6 +39,7 @@ impl Number for u16 {
 
     ghost laid_out = { λ n. to_le 2 n };
 
+    #[tactic(auto, using(crate::proofs::Laws::two_copied))]
     fn at(b: &[u8], at: usize) -> u16 {
         u16::from_le_bytes(bytes_at(b, at))
     }
@@ -53,6 +54,7 @@ impl Number for u32 {
 
     ghost laid_out = { λ n. to_le 4 n };
 
+    #[tactic(auto, using(crate::proofs::Laws::four_copied))]
     fn at(b: &[u8], at: usize) -> u32 {
         u32::from_le_bytes(bytes_at(b, at))
     }
@@ -67,6 +69,7 @@ impl Number for u64 {
 
     ghost laid_out = { λ n. to_le 8 n };
 
+    #[tactic(auto, using(crate::proofs::Laws::eight_copied))]
     fn at(b: &[u8], at: usize) -> u64 {
         u64::from_le_bytes(bytes_at(b, at))
     }

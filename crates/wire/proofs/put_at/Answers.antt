@@ -13,4 +13,4 @@ returns-then-out-at c = let a = c.args in sym (sets_past a.s.now a.out.now a.at 
 pub returns : goal.returns
 returns c =
     let a = c.args in
-    rw (add-sub_cancel_left a.at c.min-n.result) (put_reached a.out.now a.s.now _ a.at c.min-n.result (omega arith) c.min-n.ensures c.copy.ensures)
+    rw (add-sub_cancel_left a.at c.min-n.result) (put_reached a.out.now a.s.now _ a.at c.min-n.result (omega arith) (omega arith) c.copy.ensures)

@@ -29,4 +29,4 @@ pub returns : goal.returns
 returns c =
     let a = c.args in
     let l = c.loop-x in
-    reached a.out.now l.x-items a.at a.w c.min-reached.result a.n (omega arith) c.min-reached.ensures (le_done _ l.x-items l.x-index a.n l.v (omega arith) l.invariant)
+    reached a.out.now l.x-items a.at a.w c.min-reached.result a.n (omega arith) (omega arith) (le_done _ l.x-items l.x-index a.n l.v (omega arith) l.invariant)
