@@ -8,7 +8,7 @@ use native.Mathlib.Nat.{sub-zero}
 use native.Mathlib.Numerals.{add-one}
 use native.Mathlib.Omega.{arith}
 use lib.ListN.{length, get_or, drop}
-use Rattle.std.specs.Prelude.{position, cond}
+use Rattle.std.specs.Prelude.{position, cond, filter}
 use Rattle.std.specs.List.{position_from}
 use Rattle.std.proofs.lemmas.Iterator.Adapters.{position_from-zero}
 use Rattle.facts.specs.Pick.{pick}
@@ -20,8 +20,8 @@ use Rattle.facts.proofs.Searches.{first_hit, first_miss, first_end, first_at}
 use Rattle.facts.proofs.SumLaws.{sum_step, sum_end, sum_bound, only_bound}
 use Rattle.facts.proofs.CountLaws as counts
 use Rattle.rows.specs.declared.Row.{Row}
-use Rattle.rows.specs.Rows.{rows, row_count, put_row, zero_row, free, live}
-use Rattle.rows.specs.Find.{is_order, find_order, find_free}
+use Rattle.rows.specs.Rows.{row_of, rows, row_count, put_row, zero_row, free, live}
+use Rattle.rows.specs.Find.{is_order, find_order, find_free, count_live}
 use Rattle.rows.proofs.Tables.{length_rows, rows_put}
 use Rattle.rows.proofs.Judged.{live_ranges}
 
@@ -61,6 +61,19 @@ module _ {A B : Type 0} (p : B → Bool) (f : A → B) where
 
   pub first_position : (xs : List A) → first p 0 (map f xs) ≡ position (λ x. p (f x)) xs
   first_position xs = from_position 0 xs ∙ sym (position_from-zero (λ x. p (f x)) xs)
+
+counted : {A B : Type 0} (p : B → Bool) (f : A → B) (xs : List A) → length (filter (λ x. p (f x)) xs) ≡ sum_by (only_if p (λ x. 1)) (map f xs)
+unfolding sum_by only_if pick
+counted p f [] = refl
+counted p f (x ∷ xs) = go (p (f x)) (counted p f xs)
+  where
+    go : (b : Bool) → length (filter (λ x. p (f x)) xs) ≡ sum_by (only_if p (λ x. 1)) (map f xs) → length (cond b (x ∷ filter (λ x. p (f x)) xs) (filter (λ x. p (f x)) xs)) ≡ pick b 1 0 + sum_by (only_if p (λ x. 1)) (map f xs)
+    go true h = omega arith
+    go false h = omega arith
+
+pub live_filtered : (xs : List (List ℕ)) → length (filter (λ x. live (row_of x)) xs) ≡ count_live (map row_of xs)
+unfolding count_live count_by
+live_filtered xs = counted live row_of xs
 
 -- ---- sums and counts: a walk at row i
 module _ (f : Row → ℕ) (t : List ℕ) (i : ℕ) where

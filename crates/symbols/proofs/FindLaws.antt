@@ -10,9 +10,10 @@ use native.Mathlib.Omega.{arith}
 use lib.ListN.{length, get_or, get_or-eq_default}
 use lib.Dec.{eqb, ltb}
 use borrow.Author.Tests.{eq-eqb, ne_eqb, eqb-true, ltb-true, ltb-false}
-use Rattle.std.specs.Prelude.{cond, position}
+use Rattle.std.specs.Prelude.{cond, filter, position}
 use Rattle.std.specs.List.{position_from}
 use Rattle.std.proofs.lemmas.Iterator.Adapters.{position_from-zero}
+use Rattle.facts.specs.Sums.{sum_by, only_if, count_by}
 use Rattle.facts.specs.Pick.{pick, both}
 use Rattle.facts.specs.Search.{first, is_found, or_else}
 use Rattle.std.specs.Prelude.{Option, Some, None}
@@ -20,7 +21,7 @@ use Rattle.std.specs.Option.{is_some}
 use Rattle.facts.proofs.Picks.{both_true}
 use Rattle.facts.proofs.Searches.{first_at, first_none}
 use Rattle.symbols.specs.Entries.{used, free_entry, id_of}
-use Rattle.symbols.specs.Find.{is_symbol, find_symbol, find_free_entry, known_symbol, place_for}
+use Rattle.symbols.specs.Find.{is_symbol, find_symbol, find_free_entry, known_symbol, place_for, count_used}
 
 -- ---- a symbol's entry
 pub entry_is : (id : ℕ) (e : List ℕ) → is_symbol id e ≡ true → (used e ≡ true) × (id_of e ≡ id)
@@ -52,7 +53,7 @@ pub no_symbol : (id : ℕ) → is_symbol id [] ≡ false
 unfolding is_symbol used both
 no_symbol id = refl
 
--- ---- searches as std makes them
+-- ---- searches and counts as std makes them
 module _ {A : Type 0} (p : A → Bool) where
   from_position : (i : ℕ) (xs : List A) → first p i xs ≡ position_from p i xs
   unfolding first pick
@@ -65,6 +66,19 @@ module _ {A : Type 0} (p : A → Bool) where
 
   pub first_position : (xs : List A) → first p 0 xs ≡ position p xs
   first_position xs = from_position 0 xs ∙ sym (position_from-zero p xs)
+
+  counted : (xs : List A) → length (filter p xs) ≡ sum_by (only_if p (λ x. 1)) xs
+  unfolding sum_by only_if pick
+  counted [] = refl
+  counted (x ∷ xs) = go (p x) (counted xs)
+    where
+      go : (b : Bool) → length (filter p xs) ≡ sum_by (only_if p (λ x. 1)) xs → length (cond b (x ∷ filter p xs) (filter p xs)) ≡ pick b 1 0 + sum_by (only_if p (λ x. 1)) xs
+      go true h = omega arith
+      go false h = omega arith
+
+pub used_filtered : (es : List (List ℕ)) → length (filter used es) ≡ count_used es
+unfolding count_used count_by
+used_filtered es = counted used es
 
 -- ---- where a search ends
 module _ (es : List (List ℕ)) (i : ℕ) where

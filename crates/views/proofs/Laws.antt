@@ -3,7 +3,9 @@
 use mathlib.Core.Path.{◌≡◌, refl, sym, ap, ◌∙◌}
 use mathlib.Core.List.{List, [], ◌∷◌, map}
 use mathlib.Core.Bool.{Bool, true, false}
-use Rattle.std.specs.Prelude.{Some, None}
+use Rattle.std.specs.Prelude.{Option, Some, None}
+use Rattle.std.specs.List.{fold, reduce, filter_map, cons_option}
+use Rattle.std.specs.Option.{option_map_or}
 use Rattle.std.specs.Bool.{then_some}
 use Rattle.std.proofs.lemmas.Option.{none-some}
 use Prim.Native.Nat.{ℕ, ◌+◌, ◌*◌, ◌-◌, ◌≤◌, ◌<◌, min}
@@ -82,8 +84,17 @@ module _ (k : ℕ) (rs : List Row) where
   ladder_length = simp length-map
 
 -- ---- the scan
--- what the least place is with one row in front, and with rows left
+-- where a row lies that has a place, and what the nearest place is with it in front
 module _ (k low : ℕ) where
+  place_in : (r : Row) (d : ℕ) → place_from k low r ≡ Some d → d ≤ most_price
+  unfolding place_from pick
+  place_in r d = go (of_key k r) refl (leb low (far k r.price))
+    where
+      go : (b : Bool) → of_key k r ≡ b → (l : Bool) → pick b (pick l (Some (far k r.price)) None) None ≡ Some d → d ≤ most_price
+      go true e true h = let q : far k r.price ≡ d = cc in rw (← q) (far_top k r.price (key_price k r e))
+      go true e false h = absurd (none-some d h)
+      go false e l h = absurd (none-some d h)
+
   abbrev pub least : List Row → ℕ
   least rs = least_from beyond low (places_of k rs)
 
@@ -113,31 +124,93 @@ module _ (k low : ℕ) where
           there false h = refl
       go false e h = refl
 
+  -- the least of the rows' places, from b on
+  folded : (b : ℕ) → b ≤ beyond → (rs : List Row) → fold min b (filter_map (place_from k low) rs) ≡ min b (least rs)
+  unfolding places_of places least_from
+  folded b t [] = omega arith
+  folded b t (r ∷ rs) = go (λ x l. folded x l rs) (place_from k low r) refl
+    where
+      go : ((x : ℕ) → x ≤ beyond → fold min x (filter_map (place_from k low) rs) ≡ min x (least rs)) → (o : Option ℕ) → place_from k low r ≡ o
+          → fold min b (cons_option o (filter_map (place_from k low) rs)) ≡ min b (least (r ∷ rs))
+      go rec (Some d) e = omega (arith, rec (min b d) (omega arith), least_some r rs d e)
+      go rec None e = omega (arith, rec b t, least_none r rs e)
+
+  lowest : (rs : List Row) → reduce min (filter_map (place_from k low) rs) ≡ nearest k low rs
+  unfolding places_of places least_from nearest within pick
+  lowest [] = refl
+  lowest (r ∷ rs) = go (lowest rs) (place_from k low r) refl
+    where
+      go : reduce min (filter_map (place_from k low) rs) ≡ nearest k low rs → (o : Option ℕ) → place_from k low r ≡ o → reduce min (cons_option o (filter_map (place_from k low) rs)) ≡ nearest k low (r ∷ rs)
+      go rec (Some d) e =
+          let t : d ≤ most_price = place_in r d e in
+          let q : fold min d (filter_map (place_from k low) rs) ≡ least (r ∷ rs) = folded d (omega arith) rs ∙ sym (least_some r rs d e) in
+          let l : least (r ∷ rs) < beyond = omega (arith, least_some r rs d e) in
+          ap Some q ∙ sym (rw (lt-ltb (least (r ∷ rs)) beyond l) refl)
+      go rec None e = rec ∙ ap within (sym (least_none r rs e))
+
+  -- the nearest of what was found so far and of what these rows have
+  unfoldable pub nearest_of : Option ℕ → List Row → Option ℕ
+  nearest_of None rs = reduce min (filter_map (place_from k low) rs)
+  nearest_of (Some b) rs = Some (fold min b (filter_map (place_from k low) rs))
+
+  pub scan_start : (rs : List Row) → nearest_of None rs ≡ nearest k low rs
+  unfolding nearest_of
+  scan_start rs = lowest rs
+
+  found : (o : Option ℕ) (r : Row) (rs : List Row) (d : ℕ) → place_from k low r ≡ Some d → nearest_of o (r ∷ rs) ≡ nearest_of (Some (option_map_or (λ b. min b d) o d)) rs
+  unfolding nearest_of
+  found None r rs d e = rw e
+  found (Some b) r rs d e = rw e
+
+  passed : (o : Option ℕ) (r : Row) (rs : List Row) → place_from k low r ≡ None → nearest_of o (r ∷ rs) ≡ nearest_of o rs
+  unfolding nearest_of
+  passed None r rs e = rw e
+  passed (Some b) r rs e = rw e
+
+  module _ (o : Option ℕ) (t : List ℕ) (i : ℕ) where
+    from_row : i < row_count t → drop i (rows t) ≡ get_or (rows t) i zero_row ∷ drop (i + 1) (rows t)
+    from_row h = let l : i < length (rows t) = rw length_rows h in drop-cons (rows t) i zero_row l ∙ ap (λ j. get_or (rows t) i zero_row ∷ drop j (rows t)) (sym (add-one i))
+
+    pub scan_found : (d : ℕ) → i < row_count t → place_from k low (get_or (rows t) i zero_row) ≡ Some d → nearest_of o (drop i (rows t)) ≡ nearest_of (Some (option_map_or (λ b. min b d) o d)) (drop (i + 1) (rows t))
+    scan_found d h e = ap (nearest_of o) (from_row h) ∙ found o (get_or (rows t) i zero_row) (drop (i + 1) (rows t)) d e
+
+    pub scan_passed : i < row_count t → place_from k low (get_or (rows t) i zero_row) ≡ None → nearest_of o (drop i (rows t)) ≡ nearest_of o (drop (i + 1) (rows t))
+    scan_passed h e = ap (nearest_of o) (from_row h) ∙ passed o (get_or (rows t) i zero_row) (drop (i + 1) (rows t)) e
+
+  pub scan_end : (o : Option ℕ) (t : List ℕ) (i : ℕ) → row_count t ≤ i → nearest_of o (drop i (rows t)) ≡ o
+  unfolding nearest_of
+  scan_end o t i h = let l : length (rows t) ≤ i = rw length_rows h in rw (drop_of_length-le (rows t) l) (go o)
+    where
+      go : (o : Option ℕ) → nearest_of o [] ≡ o
+      go None = refl
+      go (Some b) = refl
+
+  -- the same by a number beyond every place where nothing is found yet
   least_below : (rs : List Row) → least rs ≤ beyond
   least_below rs = least_top beyond low 0 (places_of k rs) (rising k rs)
 
   -- a number beyond every place changes no least
-  pub scan_start : (rs : List Row) (b : ℕ) → beyond ≤ b → min b (least rs) ≡ least rs
-  scan_start rs b h = omega (arith, least_below rs)
+  pub turn_start : (rs : List Row) (b : ℕ) → beyond ≤ b → min b (least rs) ≡ least rs
+  turn_start rs b h = omega (arith, least_below rs)
 
   module _ (t : List ℕ) (i : ℕ) where
-    from_row : i < row_count t → drop i (rows t) ≡ get_or (rows t) i zero_row ∷ drop (i + 1) (rows t)
-    from_row h = let l : i < length (rows t) = rw length_rows h in drop-cons (rows t) i zero_row l ∙ ap (λ j. get_or (rows t) i zero_row ∷ drop j (rows t)) (sym (add-one i))
+    first_row : i < row_count t → drop i (rows t) ≡ get_or (rows t) i zero_row ∷ drop (i + 1) (rows t)
+    first_row h = let l : i < length (rows t) = rw length_rows h in drop-cons (rows t) i zero_row l ∙ ap (λ j. get_or (rows t) i zero_row ∷ drop j (rows t)) (sym (add-one i))
 
-    pub scan_found : (d : ℕ) → i < row_count t → place_from k low (get_or (rows t) i zero_row) ≡ Some d → least (drop i (rows t)) ≡ min d (least (drop (i + 1) (rows t)))
-    scan_found d h e = ap least (from_row h) ∙ least_some (get_or (rows t) i zero_row) (drop (i + 1) (rows t)) d e
+    pub turn_found : (d : ℕ) → i < row_count t → place_from k low (get_or (rows t) i zero_row) ≡ Some d → least (drop i (rows t)) ≡ min d (least (drop (i + 1) (rows t)))
+    turn_found d h e = ap least (first_row h) ∙ least_some (get_or (rows t) i zero_row) (drop (i + 1) (rows t)) d e
 
-    pub scan_passed : i < row_count t → place_from k low (get_or (rows t) i zero_row) ≡ None → least (drop i (rows t)) ≡ least (drop (i + 1) (rows t))
-    scan_passed h e = ap least (from_row h) ∙ least_none (get_or (rows t) i zero_row) (drop (i + 1) (rows t)) e
+    pub turn_passed : i < row_count t → place_from k low (get_or (rows t) i zero_row) ≡ None → least (drop i (rows t)) ≡ least (drop (i + 1) (rows t))
+    turn_passed h e = ap least (first_row h) ∙ least_none (get_or (rows t) i zero_row) (drop (i + 1) (rows t)) e
 
-    pub scan_end : row_count t ≤ i → least (drop i (rows t)) ≡ beyond
+    pub turn_end : row_count t ≤ i → least (drop i (rows t)) ≡ beyond
     unfolding places_of places least_from
-    scan_end h = let l : length (rows t) ≤ i = rw length_rows h in rw (drop_of_length-le (rows t) l)
+    turn_end h = let l : length (rows t) ≤ i = rw length_rows h in rw (drop_of_length-le (rows t) l)
 
   -- what the scan ends with tells the nearest place
-  pub scan_told : (rs : List Row) (b : ℕ) → min b beyond ≡ least rs → then_some (leb b most_price) b ≡ nearest k low rs
+  pub turns_told : (rs : List Row) (b : ℕ) → min b beyond ≡ least rs → then_some (leb b most_price) b ≡ nearest k low rs
   unfolding nearest within pick
-  scan_told rs b h = go (leb b most_price) refl
+  turns_told rs b h = go (leb b most_price) refl
     where
       go : (t : Bool) → leb b most_price ≡ t → then_some t b ≡ pick (ltb (least rs) beyond) (Some (least rs)) None
       go true e =
