@@ -8,20 +8,21 @@ use mathlib.Core.Bool.{Bool, true, false, ◌&&◌}
 use lib.Dec.{eqb}
 use lib.Pointwise.{pointwise}
 use lib.ListN.{length, get_or, take, drop, replicate, length-append, length-drop, drop_of_length-le}
-use lib.Seq.{sets, take_at, drop_at, take-take, length-take-le, drop-drop, sets-eq}
+use lib.Seq.{sets, take_at, drop_at, take-take, length-take-le, drop-drop, sets-eq, ext_get_or}
 use native.Mathlib.Nat.{add-sub_cancel_left}
 use native.Mathlib.Omega.{arith}
 use borrow.Author.Tests.{eqb-true, eq-eqb, ne_eqb}
 use Rattle.facts.specs.Limits.{shelf_size}
 use Rattle.facts.specs.Pick.{both}
-use Rattle.std.proofs.Common.{add-one}
+use Rattle.std.proofs.Common.{add-one, zero-add}
 use Rattle.std.specs.Simd.{first_chunks}
 use Rattle.std.proofs.lemmas.List.{take_min}
 use Rattle.facts.specs.Pieces.{cut, pieces}
 use Rattle.facts.proofs.PieceLaws.{length_piece, piece_fits, put_in, put_out, pieces_replicate}
 use Rattle.wire.specs.Le.{le, to_le, field, padded}
-use Rattle.wire.proofs.Laws.{length_padded, padded_part, length_to_le, stored_behind}
+use Rattle.wire.proofs.Laws.{length_padded, get_or_padded, padded_part, length_to_le, stored_behind}
 use Rattle.facts.specs.Same.{same_bytes}
+use Rattle.facts.proofs.SameLaws.{same_bytes_refl, bytes_differ}
 use Rattle.arbitration.specs.Receive.{highest}
 use Rattle.arbitration.specs.Slots.{Slot, empty_slot, slot_for, slot_body, same_slot}
 use Rattle.shelf.specs.Shelf.{slot_size, good_shelf, slot_from, bytes_of, slot_at, put_slot}
@@ -97,6 +98,27 @@ pointwise_same [] [] = refl
 pointwise_same [] (y ∷ ys) = refl
 pointwise_same (x ∷ xs) [] = refl
 pointwise_same (x ∷ xs) (y ∷ ys) = and_same (eqb x y) (pointwise_same xs ys)
+
+-- ---- comparing 64 bytes behind ten with a body and the zeros behind it
+module _ (x b : List ℕ) where
+  body_at : (k : ℕ) → k < 64 → get_or (padded b 0 64) k 0 ≡ get_or b k 0
+  body_at k h = get_or_padded b 0 64 k h ∙ ap (λ (j : ℕ). get_or b j 0) (zero-add k)
+
+  pub one_differs : (k : ℕ) → k < 64 → get_or x (10 + k) 0 ≢ get_or b k 0 → false ≡ same_bytes (padded x 10 64) (padded b 0 64)
+  one_differs k h n =
+      sym (bytes_differ (padded x 10 64) (padded b 0 64) k (rw length_padded h) (rw length_padded h)
+      (λ e. n (sym (get_or_padded x 10 64 k h) ∙ e ∙ body_at k h)))
+
+  pub all_same : ((k : ℕ) → k < 64 → get_or x (10 + k) 0 ≡ get_or b k 0) → true ≡ same_bytes (padded x 10 64) (padded b 0 64)
+  all_same h =
+      let e : padded x 10 64 ≡ padded b 0 64 =
+      ext_get_or 0 (padded x 10 64) (padded b 0 64) (length_padded x 10 64 ∙ sym (length_padded b 0 64))
+      (λ k l. go k (rw length_padded at l))
+      in
+      rw e (sym (same_bytes_refl (padded b 0 64)))
+    where
+      go : (k : ℕ) → k < 64 → get_or (padded x 10 64) k 0 ≡ get_or (padded b 0 64) k 0
+      go k l = get_or_padded x 10 64 k l ∙ h k l ∙ sym (body_at k l)
 
 -- ---- writing a slot: a part that comes back as other 74 bytes is that slot put
 pub part_put : (t : List ℕ) (i : ℕ) (s : Slot) (x : List ℕ) → i < length t / 74 → x ≡ bytes_of s → length s.bytes ≡ 64

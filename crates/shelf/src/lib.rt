@@ -4,6 +4,8 @@
 
 ghost use Rattle.std.specs.Prelude.{◌≡◌, [], length, get_or};
 ghost use Rattle.facts.specs.Pieces.{pieces};
+ghost use Rattle.wire.specs.Le.{padded};
+ghost use Rattle.facts.specs.Same.{same_bytes};
 ghost use Rattle.arbitration.specs.Slots.{empty_slot, slot_for, slot_body, same_slot};
 ghost use Rattle.arbitration.specs.Receive.{highest as highest_number};
 ghost use Rattle.shelf.specs.Shelf.{slot_size, good_shelf, bytes_of, slot_at, put_slot};
@@ -70,14 +72,24 @@ pub fn slot_body<'a>(s: &'a [u8], i: usize) -> &'a [u8]
     }
 }
 
+// The 64 bytes behind number and length are the body, with zeros behind it.
+fn same_bytes(x: &[u8], body: &[u8]) -> bool
+    ensures { result ≡ same_bytes (padded x.now 10 64) (padded body.now 0 64) }
+{
+    for k in 0..64 {
+        if u8::at(x, 10 + k) != u8::at(body, k) {
+            return false;
+        }
+    }
+    true
+}
+
 // Slot i holds the message: its number, its length and the same 64 padded bytes.
 pub fn holds(s: &[u8], i: usize, number: u64, body: &[u8]) -> bool
     ensures { result ≡ same_slot (slot_at s.now i) (slot_for number body.now) }
 {
     let x = slot(s, i);
-    u64::at(x, 0) == number
-        && u16::at(x, 8) as usize == body.len()
-        && wire::bytes_at::<64>(x, 10) == wire::bytes_at::<64>(body, 0)
+    u64::at(x, 0) == number && u16::at(x, 8) as usize == body.len() && same_bytes(x, body)
 }
 
 // Every byte of one slot: number, length, padded body.

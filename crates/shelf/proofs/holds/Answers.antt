@@ -2,7 +2,7 @@
 -- Assumes nothing.
 use mathlib.Core.Path.{◌∙◌, sym}
 use borrow.Author.Tests.{eqb-true, eq-eqb}
-use Rattle.shelf.proofs.Laws.{other_number, other_length, bytes_decide, pointwise_same}
+use Rattle.shelf.proofs.Laws.{other_number, other_length, bytes_decide}
 use Rattle.shelf.proofs.holds.Goals as goal
 use Rattle.shelf.proofs.holds.Goals.{then-at-number, else-at-number}
 
@@ -14,7 +14,7 @@ returns-then-at-body c =
       | then-at-number w ↦
           let n = sym c.at.ensures ∙ w.if-at-number.true in
           let l = sym w.at-then-at-number.ensures ∙ eqb-true _ _ (sym w.value-is ∙ c.if-at-body.true) in
-          rw (c.eq.ensures, c.bytes_at.ensures, c.bytes_at-then-at-body.ensures) (pointwise_same _ _ ∙ bytes_decide a.s.now a.i x.result.now x.ensures a.number a.body.now n l)
+          c.same_bytes.ensures ∙ bytes_decide a.s.now a.i x.result.now x.ensures a.number a.body.now n l
       | else-at-number w ↦ absurd (w.if-at-number.false (eqb-true _ _ (sym w.value-is ∙ c.if-at-body.true)))
     ]
 
