@@ -13,10 +13,12 @@ use Rattle.values.proofs.Laws.{value_length}
 use Rattle.keys.specs.Keys.{entries_of, no_entry, form_at}
 use Rattle.keys.specs.declared.Form.{Form}
 use Rattle.keys.proofs.Laws.{most_fields_lem}
-use Rattle.line_in.specs.Lines.{field_at, take_field, take_value, take_all}
+use Rattle.line_in.specs.Lines.{field_at, take_field, take_value, take_all, kind_of}
+use Rattle.line_in.specs.Slips.{slip_at}
+use Rattle.line_in.specs.declared.Expected.{Expected}
 use Rattle.line_in.specs.declared.Draft.{Draft}
 use Rattle.line_in.specs.declared.Slip.{Slip}
-use Rattle.spans.specs.Spans.{Word}
+use Rattle.spans.specs.Spans.{Word, noted}
 use Rattle.spans.specs.Left.{told}
 use Rattle.spans.specs.declared.Word.{Word as Told}
 
@@ -78,3 +80,9 @@ taken_err (w ∷ ws) x = refl
 pub next_is : (o : Option Told) (ws rest : List Word) → MatchOption o ((ws ≡ []) × (rest ≡ [])) (λ w. ws ≡ told w ∷ rest) → (option_map told o ≡ slice_get ws 0) × (rest ≡ drop 1 ws)
 next_is None ws rest m = (rw m.0 refl, rw (m.0, m.1) refl)
 next_is (Some w) ws rest m = (rw m refl, rw m refl)
+
+-- where a comment begins behind the number, no message is named
+pub second_noted : (ws : List Word) (end : ℕ) → noted ws ≡ true → kind_of (slice_get ws 0) end ≡ Err (slip_at end Expected.Name)
+unfolding noted kind_of pick
+second_noted [] end h = absurd (true≢false (sym h))
+second_noted (w ∷ ws) end h = rw h refl

@@ -231,6 +231,9 @@ fn read_record(e: Edition, first: Word<'_>, rest: Words<'_>, end: usize) -> Resu
 {
     let mut words = rest;
     let number = number_of(first)?;
+    if words.at_note() {
+        return Err(slip_at(end, Expected::Name));
+    }
     let kind = kind_of(words.next(), end)?;
     let draft = take_all(blank_draft(e, kind), words)?;
     finish(draft, number, end)

@@ -114,8 +114,8 @@ fn show_views(rt: &impl Print, orders: &[u64], symbols: &[u8]) -> io::Result<()>
     Ok(())
 }
 
-// How many levels each side has, the spread, and then the levels. Both sides' stand in one array, one after the other, since it is the
-// largest but the order table that the program keeps.
+// How many levels each side has, the spread, and then the levels. One array serves both sides in turn, so that the stack has room for it;
+// the sell side's ladder is made twice for that, the first time for its count alone.
 fn show_symbol(rt: &impl Print, orders: &[u64], symbols: &[u8], id: u32) -> io::Result<()> {
     let mut levels = [0; LEVELS];
     let sold = views::ladder(orders, symbols, id, Side::Sell, &mut []).unwrap_or(0);

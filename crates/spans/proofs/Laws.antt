@@ -1,6 +1,6 @@
 -- The words of a line, by the blanks in front and the word behind them, as the iterator takes them off; and where a byte stands.
 -- Assumes nothing.
-use Rattle.std.proofs.Common.{◌≡◌, ◌⊎◌, refl, sym, ap, ◌∙◌, Bool, true, false, not, true≢false, List, [], ◌∷◌, ◌++◌, ℕ, suc, ◌+◌, ◌≤◌, ◌<◌, length, get_or, take, drop, eqb, leb, arith, add-one, one-add, Some, None, drop_of_length-le, inl, inr, not-suc-le-zero, take_at, drop_at, ne_eqb, eq-eqb, leb-true, position, unwrap_or, lt-ltb, le-ltb}
+use Rattle.std.proofs.Common.{◌≡◌, ◌⊎◌, refl, sym, ap, ◌∙◌, Bool, true, false, not, true≢false, List, [], ◌∷◌, ◌++◌, ℕ, suc, ◌+◌, ◌-◌, ◌≤◌, ◌<◌, length, length-drop, take_all, get_or, take, drop, eqb, leb, arith, add-one, one-add, Some, None, drop_of_length-le, inl, inr, not-suc-le-zero, take_at, drop_at, ne_eqb, eq-eqb, leb-true, position, unwrap_or, lt-ltb, le-ltb}
 use Rattle.std.proofs.lemmas.Bool.{cases_lt}
 use Rattle.std.proofs.lemmas.List.{get_or-take, get_or-drop}
 use Rattle.std.proofs.lemmas.List.Sums.{prefix_len-le-length}
@@ -154,6 +154,15 @@ place_below x lo hi (y ∷ a) h l =
     let t = both_true {a = leb lo y} {b = leb y hi} b.0 in
     let above : lo ≤ y = leb-true lo y t.0 in
     rw (ne_eqb y x (λ e. omega arith)) (ap (λ (n : ℕ). 1 + n) (place_below x lo hi a b.1 l) ∙ omega arith)
+
+-- ---- stepping to the next word
+pub blanks_le : (s : List ℕ) → blanks s ≤ length s
+blanks_le s = prefix_len-le-length (λ x. not (not (blank x))) s
+
+pub stepped : (i n : ℕ) (s r : List ℕ) → n ≡ blanks s → r ≡ take (length s - n) (drop n s) → words_at (i + n) r ≡ words_at i s
+stepped i n s r e f =
+    let whole : take (length s - n) (drop n s) ≡ drop n s = take_all _ _ (rw length-drop (omega arith)) in
+    ap (words_at (i + n)) (f ∙ whole) ∙ ap (λ m. words_at (i + m) (drop m s)) e ∙ sym (words_start i s)
 
 -- ---- a comment in front, told by its first byte
 module _ (i : ℕ) (s : List ℕ) where

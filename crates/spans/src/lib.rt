@@ -27,7 +27,10 @@ pub fn word_start(line: &[u8], from: usize) -> usize
     ensures { result ≡ from + blanks (drop from line.now) }
 {
     let rest = behind(line, from);
-    from + rest.iter().position(|x| !is_blank(*x)).unwrap_or(rest.len())
+    from + rest
+        .iter()
+        .position(|x| !is_blank(*x))
+        .unwrap_or(rest.len())
 }
 
 // The place of the first blank from `from` on, or the line's end.
@@ -89,13 +92,20 @@ impl<'a> Words<'a> {
         }
     }
 
-    // Whether a comment begins with the next word: its first byte tells, so that no more of a comment is read.
-    #[tactic(auto, using(crate::proofs::Laws::noted_word, crate::proofs::Laws::noted_none))]
-    pub fn at_note(&self) -> bool
-        ensures { result ≡ noted (words_left self.now) }
+    // Steps to the next word, and tells whether a comment begins with it: its first byte tells, so that no more of a comment is read.
+    #[tactic(auto, using(crate::proofs::Laws::noted_word, crate::proofs::Laws::noted_none, crate::proofs::Laws::blanks_le, crate::proofs::Laws::stepped))]
+    pub fn at_note(&mut self) -> bool
+        ensures note { result ≡ noted (words_left self.old) }
+        ensures left { words_left self.new ≡ words_left self.old }
     {
-        let start = word_start(self.rest, 0);
-        start < self.rest.len() && self.rest[start] == b'#'
+        let rest = self.rest;
+        let start = word_start(rest, 0);
+        let note = start < rest.len() && rest[start] == b'#';
+        *self = Words {
+            at: self.at + start,
+            rest: &rest[start..],
+        };
+        note
     }
 }
 
