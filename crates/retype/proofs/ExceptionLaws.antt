@@ -95,3 +95,9 @@ none_first p q k (x ∷ xs) h = go (q x) refl (none_first p q (suc k) xs h)
 pub all_good : (ed : Edition) (others : List ℕ) → list_all (λ x. security_ok ed (type_of x)) (exceptions others) ≡ not (is_found (first (bad_type ed) 0 (exceptions others)))
 unfolding bad_type
 all_good ed others = none_first (bad_type ed) (λ x. security_ok ed (type_of x)) 0 (exceptions others) (λ x. refl)
+
+-- without exceptions every symbol has the one type
+pub type_none : (all : ℕ) (others b : List ℕ) → length others ≡ 0 → all ≡ type_for all others b
+unfolding type_for exceptions pieces cut first
+type_none all [] b h = refl
+type_none all (x ∷ others) b h = absurd (omega (arith, h))

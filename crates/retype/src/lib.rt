@@ -45,6 +45,9 @@ impl Asked<'_> {
     pub fn type_for(&self, b: &[u8]) -> u8
         ensures { result ≡ type_for self.now.all self.now.others.now b.now }
     {
+        if self.others.is_empty() {
+            return self.all;
+        }
         let s = fields::symbol_of(b);
         self.others
             .chunks_exact(EXCEPTION_SIZE)
