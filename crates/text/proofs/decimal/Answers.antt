@@ -17,7 +17,7 @@ loop-i-init c = let n = c.args.n in (refl, refl, decimal_le n (search rules), ap
 pub returns-then-rest-eq0 : goal.returns-then-rest-eq0
 returns-then-rest-eq0 c =
     let l = c.loop-i in
-    wrote_as (spell_last l.d l.i (l.i - 1) _ _ l.rest _ (omega arith) (omega arith) (omega arith) (omega arith) c.digit.ensures l.invariant.3)
+    wrote_as (spell_last l.d l.i (l.i - 1) _ _ l.rest _ (omega arith) (omega arith) (omega arith) (omega arith) (omega arith) l.invariant.3)
     (rw l.invariant.0 at c.bytes.ensures)
 
 pub loop-i-preserved : goal.loop-i-preserved
@@ -25,7 +25,7 @@ loop-i-preserved c =
     let l = c.loop-i in
     let t : 10 ≤ l.rest = omega arith in
     let n = decimal_longer l.rest t in
-    (l.invariant.0, simp length-set l.invariant.1, omega arith, spell_more l.d l.i (l.i - 1) _ l.rest _ (omega arith) (omega arith) t c.digit.ensures l.invariant.3)
+    (l.invariant.0, simp length-set l.invariant.1, omega arith, spell_more l.d l.i (l.i - 1) _ l.rest _ (omega arith) (omega arith) t (omega arith) l.invariant.3)
 
 pub unreachable-requires : goal.unreachable-requires
 unreachable-requires c = omega (arith, decimal_some c.loop-i.rest)
