@@ -252,6 +252,8 @@ pub fn cancel_of(b: &[u8]) -> TradeCancel
     }
 }
 
+// Written into its callers, each of which needs a part of it alone.
+#[inline(always)]
 pub fn symbol_of(b: &[u8]) -> Symbol
     ensures { result ≡ symbol_of b.now }
 {
