@@ -252,7 +252,7 @@ pub fn cancel_of(b: &[u8]) -> TradeCancel
     }
 }
 
-// Written into its callers, each of which needs a part of it alone.
+// Written into its callers, since a conversion asks for no more of it than ID and ticker.
 #[inline(always)]
 pub fn symbol_of(b: &[u8]) -> Symbol
     ensures { result ≡ symbol_of b.now }
